@@ -1,0 +1,80 @@
+-- What a name in a packet is (paper 01, 'Reading a message'; RFC 1035, 3.1 and 4.1.4). A packet is the list of its bytes.
+-- Assumes nothing: these are definitions.
+use Prim.Native.Nat.{ℕ, zero, suc, _+_, _*_, _%_}
+use mathlib.Core.List.{List, [], _∷_, _++_}
+use mathlib.Core.Bool.{Bool, true, false, cond, _&&_}
+use lib.ListN.{length, getD, take, drop}
+use lib.Dec.{ltb, leb, eqb}
+use Rattle.names.specs.declared.Piece.{Piece}
+use Rattle.names.specs.declared.Piece.the-variants.{Root, Label, Pointer, Bad}
+
+-- the offset that a pointer at `at` names: 14 bits
+abbrev pub target : List ℕ → ℕ → ℕ
+target p at = getD p at 0 % 64 * 256 + getD p (at + 1) 0
+
+-- "labels of 1..63 bytes and a zero byte, at most 255 bytes uncompressed": the label ends in the packet and leaves room for the zero byte
+abbrev pub labelFits : List ℕ → ℕ → ℕ → Bool
+labelFits p at used = leb (at + 1 + getD p at 0) (length p) && ltb (used + 1 + getD p at 0) 255
+
+-- "its target must be at least 12 and lie before the start of the run of labels that led to it"; both bytes of the pointer are in the packet
+abbrev pub pointerFits : List ℕ → ℕ → ℕ → Bool
+pointerFits p start at = ltb (at + 1) (length p) && leb 12 (target p at) && ltb (target p at) start
+
+-- The piece at `at`, in the run of labels that begins at `start`, of a name of which `used` bytes have been read: "a byte 0x40..0xBF where a
+-- label starts, an overrun, or a bad pointer is malformed".
+unfoldable pub pieceAt : List ℕ → ℕ → ℕ → ℕ → Piece
+pieceAt p start at used =
+    cond (ltb at (length p))
+    (cond (eqb (getD p at 0) 0) Root
+    (cond (ltb (getD p at 0) 64) (cond (labelFits p at used) (Label (getD p at 0)) Bad)
+    (cond (ltb (getD p at 0) 192) Bad
+    (cond (pointerFits p start at) (Pointer (target p at)) Bad))))
+    Bad
+
+-- What reading a name finds: its uncompressed bytes, length bytes and zero byte with them, and the offset past it in place; or that it is malformed.
+pub data Reading : Type 0 where
+  name : List ℕ → ℕ → Reading
+  malformed : Reading
+
+-- the reading with bytes in front of the name
+abbrev pub before : List ℕ → Reading → Reading
+before xs (name ys e) = name (xs ++ ys) e
+before xs malformed = malformed
+
+-- the reading with another end: a name that goes on at a pointer ends in place where the pointer ends
+abbrev pub ending : ℕ → Reading → Reading
+ending e (name ys _) = name ys e
+ending e malformed = malformed
+
+-- "Labels and pointers hand over to each other until the zero byte": the reading from a piece on; `rest start at used` is that of what follows.
+abbrev pub readPiece : (ℕ → ℕ → ℕ → Reading) → List ℕ → ℕ → ℕ → ℕ → Piece → Reading
+readPiece rest p start at used Root = name (0 ∷ []) (at + 1)
+readPiece rest p start at used (Label n) = before (take (n + 1) (drop at p)) (rest start (at + 1 + n) (used + 1 + n))
+readPiece rest p start at used (Pointer t) = ending (at + 2) (rest t t used)
+readPiece rest p start at used Bad = malformed
+
+-- the reading of at most so many pieces
+unfoldable pub readFrom : ℕ → List ℕ → ℕ → ℕ → ℕ → Reading
+readFrom zero p start at used = malformed
+readFrom (suc pieces) p start at used = readPiece (readFrom pieces p) p start at used (pieceAt p start at used)
+
+-- The same with pieces enough for any name: a label takes some of the 255 bytes and a pointer leads to an earlier run, so the bound is never
+-- met (`unroll` of proofs/Rest.antt says that `fromRun` reads a piece and goes on as itself).
+unfoldable pub fromRun : List ℕ → ℕ → ℕ → ℕ → Reading
+fromRun p start at used = readFrom (start + 256) p start at used
+
+-- the name at an offset of a packet
+unfoldable pub nameAt : List ℕ → ℕ → Reading
+nameAt p at = fromRun p at at 0
+
+-- Whole labels of 1..63 bytes and a zero byte, with nothing after it; `k` bytes of a label are still to come.
+unfoldable pub labelsFill : ℕ → List ℕ → Bool
+labelsFill k [] = false
+labelsFill (suc k) (b ∷ bs) = labelsFill k bs
+labelsFill zero (zero ∷ []) = true
+labelsFill zero (zero ∷ (c ∷ cs)) = false
+labelsFill zero (suc n ∷ bs) = ltb (suc n) 64 && labelsFill (suc n) bs
+
+-- a list of bytes is one uncompressed name: no pointer, and no bytes past its zero byte
+abbrev pub isName : List ℕ → Bool
+isName bs = labelsFill 0 bs && leb (length bs) 255
