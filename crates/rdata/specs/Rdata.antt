@@ -42,19 +42,3 @@ rdataIn p rtype d at =
 -- the rdata of a type in the `len` bytes at an offset; bytes past the packet's end are none
 unfoldable pub rdataAt : List ℕ → ℕ → ℕ → ℕ → Rdata
 rdataAt p rtype at len = cond (leb (at + len) (length p)) (rdataIn p rtype (take len (drop at p)) at) unfit
-
--- two lists of bytes are the same; case counts
-unfoldable pub sameBytes : List ℕ → List ℕ → Bool
-sameBytes [] [] = true
-sameBytes [] (y ∷ ys) = false
-sameBytes (x ∷ xs) [] = false
-sameBytes (x ∷ xs) (y ∷ ys) = eqb x y && sameBytes xs ys
-
--- "Rdata is equal when the bytes are, after names in PTR and SRV are expanded"; what is not as its type asks equals nothing
-abbrev pub rdataIs : Rdata → List ℕ → Bool
-rdataIs (rdata d) other = sameBytes d other
-rdataIs unfit other = false
-
-abbrev pub rdataSame : Rdata → Rdata → Bool
-rdataSame x (rdata d) = rdataIs x d
-rdataSame x unfit = false

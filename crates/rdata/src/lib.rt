@@ -1,14 +1,13 @@
 // The rdata of a record (paper 01, 'Reading a message'), handed on as a part of the packet that starts in its middle, together with the whole
-// packet for pointers: whether it is as its type asks, what it holds, and when two are equal.
+// packet for pointers: whether it is as its type asks, and what it holds.
 ghost use mathlib.Core.Path.{_≡_};
 ghost use Prim.Native.Nat.{_+_, _≤_};
-ghost use lib.ListN.{length};
+ghost use lib.ListN.{length, take, drop};
 ghost use mathlib.Core.List.{[]};
-ghost use lib.Seq.{sets};
 ghost use Rattle.names.specs.Names.{nameAt};
 ghost use Rattle.names.specs.Answers.{expanded};
-ghost use Rattle.rdata.specs.Rdata.{stringsFill, rdataIn, rdataAt, endingName, sameBytes, rdataIs, rdataSame};
-ghost use Rattle.rdata.specs.Answers.{fits, srvOf, targetIn, addressOf, openedAt, viewOf};
+ghost use Rattle.rdata.specs.Rdata.{stringsFill, rdataIn, rdataAt, endingName};
+ghost use Rattle.rdata.specs.Answers.{fits, srvOf, targetIn};
 
 // The five types (RFC 1035, RFC 2782, RFC 3596).
 pub const A: u16 = 1;
@@ -22,16 +21,10 @@ pub const AAAA: u16 = 28;
 pub const SRV: u16 = 33;
 
 // The numbers in front of an SRV's target.
-pub struct Srv {
+pub struct SrvNumbers {
     pub priority: u16,
     pub weight: u16,
     pub port: u16,
-}
-
-// Rdata with its name expanded: 6 bytes and a name of 255 at the most, zeros after them.
-pub struct Opened {
-    pub len: usize,
-    pub bytes: [u8; 261],
 }
 
 // Whether strings, each after its length byte, fill the data exactly.
@@ -58,4 +51,82 @@ fn name_ends(p: &[u8], at: usize, end: usize) -> bool
         names::Name::Found(span) => span.end == end,
         names::Name::Malformed => false,
     }
+}
+
+// Whether `d`, the part of `p` that starts at `at`, is as its type asks: A 4 bytes, PTR one name, TXT strings, AAAA 16 bytes, SRV 6 bytes and one
+// name; of other types nothing is asked.
+fn part_fits(p: &[u8], d: &[u8], at: usize, rtype: u16) -> bool
+    requires { ⌜ at + length (now d) ≤ length (now p) ⌝ }
+    ensures { λ r. ⌜ r ≡ fits (rdataIn (now (p .entry)) rtype (now (d .entry)) at) ⌝ }
+{
+    let n = d.len();
+    match rtype {
+        1 => n == 4,
+        12 => name_ends(p, at, at + n),
+        16 => strings_fill(d),
+        28 => n == 16,
+        33 => {
+            if n < 6 {
+                return false;
+            }
+            name_ends(p, at + 6, at + n)
+        }
+        _ => true,
+    }
+}
+
+// Whether the `len` bytes at an offset of a packet are rdata as the type asks.
+pub fn rdata_fits(p: &[u8], rtype: u16, at: usize, len: usize) -> bool
+    ensures { λ r. ⌜ r ≡ fits (rdataAt (now (p .entry)) rtype at len) ⌝ }
+{
+    if p.len() < at {
+        return false;
+    }
+    if p.len() - at < len {
+        return false;
+    }
+    let end = at + len;
+    part_fits(p, &p[at..end], at, rtype)
+}
+
+// The numbers of an SRV, from the part that is its rdata.
+pub fn srv_numbers(d: &[u8]) -> SrvNumbers
+    ensures { λ r. ⌜ r ≡ srvOf (now (d .entry)) ⌝ }
+{
+    SrvNumbers {
+        priority: octets::be16(d, 0),
+        weight: octets::be16(d, 2),
+        port: octets::be16(d, 4),
+    }
+}
+
+// The rdata itself, as a part of the packet: the address of an A or AAAA record, the strings of a TXT. What lies past the packet's end is left out.
+pub fn part<'a>(p: &'a [u8], at: usize, len: usize) -> &'a [u8]
+    ensures { λ r. ⌜ now r ≡ take len (drop at (now (p .entry))) ⌝ }
+{
+    let size = p.len();
+    if size < at {
+        return &p[size..];
+    }
+    if size - at < len {
+        return &p[at..];
+    }
+    let end = at + len;
+    &p[at..end]
+}
+
+// The target of a PTR or an SRV whose rdata starts at an offset, expanded.
+pub fn target(p: &[u8], rtype: u16, at: usize) -> names::Expanded
+    ensures { λ r. ⌜ r ≡ expanded (nameAt (now (p .entry)) (at + targetIn rtype)) ⌝ }
+{
+    if rtype != SRV {
+        return names::expand(p, at);
+    }
+    if p.len() <= at {
+        return names::expand(p, at);
+    }
+    if p.len() - at < 6 {
+        return names::expand(p, p.len());
+    }
+    names::expand(p, at + 6)
 }

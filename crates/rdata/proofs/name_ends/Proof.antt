@@ -6,23 +6,18 @@ use Rattle.rdata.proofs.name_ends.Reads as reads
 use Rattle.rdata.proofs.name_ends.Lts as lts
 use Rattle.names.proofs.name_at.Reads as name-at-reads
 
--- src/lib.rt:53:11
 name-at-requires : tie.Need-name-at-requires
 name-at-requires c κs = search needs
 
--- src/lib.rt:54:28
 enum-known-span : tie.Need-enum-known-span
 enum-known-span c = search needs
 
--- src/lib.rt:55:35
 enum-told : tie.Need-enum-told
 enum-told c = search needs
 
--- src/lib.rt:50:1
 returns : tie.Need-returns
 returns c = ends-found _ _ _ _ (c .before .before .before .before .name-at .ensures) _ (c .before .before .span .given .1)
 
--- src/lib.rt:50:1
 returns-2 : tie.Need-returns-2
 returns-2 c = ends-bad _ _ _ _ (c .before .before .name-at .ensures) (c .enum-told .given .1)
 

@@ -16,47 +16,36 @@ Inv-loop d at₀ at = (at ≤ length d) × (stringsFill 0 d ≡ stringsFill 0 (d
 abbrev μ-loop : tie.MeasureT-loop
 μ-loop d at₀ at = length d - at
 
--- src/lib.rt:38:5
 loop-holds : tie.Need-loop-holds Inv-loop μ-loop
 loop-holds c = (search needs, refl)
 
--- src/lib.rt:39:17
 shared-slice-read-n : tie.Need-shared-slice-read-n Inv-loop μ-loop
 shared-slice-read-n c = search needs
 
--- src/lib.rt:39:17
 cast-n : tie.Need-cast-n Inv-loop μ-loop
 cast-n c = omega (arith, c .shared-slice-known .given (c .before .before .loop .at))
 
--- src/lib.rt:40:20
 sub-left : tie.Need-sub-left Inv-loop μ-loop
 sub-left c = search needs
 
--- src/lib.rt:40:20
 sub-left-2 : tie.Need-sub-left-2 Inv-loop μ-loop
 sub-left-2 c = search needs
 
--- src/lib.rt:42:13
 returns : tie.Need-returns Inv-loop μ-loop
 returns c = string-over _ (c .before .before .before .loop .at) _ (omega arith) refl (c .before .before .before .loop .inv .1) (omega arith)
 
--- src/lib.rt:44:14
 add-at : tie.Need-add-at Inv-loop μ-loop
 add-at c = search needs
 
--- src/lib.rt:44:14
 add-at-2 : tie.Need-add-at-2 Inv-loop μ-loop
 add-at-2 c = search needs
 
--- src/lib.rt:38:5
 loop-less : tie.Need-loop-less Inv-loop μ-loop
 loop-less c = search needs
 
--- src/lib.rt:38:5
 loop-again : tie.Need-loop-again Inv-loop μ-loop
 loop-again c = (omega arith, string-fits _ (c .before .before .before .loop .at) _ (omega arith) refl (c .before .before .before .loop .inv .1) (omega arith))
 
--- src/lib.rt:34:1
 returns-2 : tie.Need-returns-2 Inv-loop μ-loop
 returns-2 c = strings-end _ _ (c .loop-test .left) (c .before .loop .inv .1)
 
