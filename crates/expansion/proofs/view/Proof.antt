@@ -1,0 +1,30 @@
+use mathlib.Core.Path.{_∙_}
+use Rattle.expansion.proofs.Views.{view-ptr, view-srv, view-plain}
+use borrow.Author.Needs.{needs}
+use Rattle.expansion.proofs.view.Statement.{statement}
+use Rattle.expansion.proofs.view.Tie as tie
+use Rattle.expansion.proofs.view.Reads as reads
+use Rattle.expansion.proofs.view.Lts as lts
+use Rattle.rdata.proofs.part.Reads as part-reads
+
+part-requires : tie.Need-part-requires
+part-requires c κs = search needs
+
+returns : tie.Need-returns
+returns c = let a = c .before .before .before .before .args in c .part .ensures ∙ view-ptr (a .p .now) (a .rtype) (a .at) (a .len) (a .opened .now) (a .n) (c .before .if1 .taken)
+
+part-requires-2 : tie.Need-part-requires-2
+part-requires-2 c κs = search needs
+
+returns-2 : tie.Need-returns-2
+returns-2 c = let a = c .before .before .before .before .before .args in c .part2 .ensures ∙ view-srv (a .p .now) (a .rtype) (a .at) (a .len) (a .opened .now) (a .n) (c .before .if2 .taken)
+
+part-requires-3 : tie.Need-part-requires-3
+part-requires-3 c κs = search needs
+
+returns-3 : tie.Need-returns-3
+returns-3 c = let a = c .before .before .before .before .before .args in c .part3 .ensures ∙ view-plain (a .p .now) (a .rtype) (a .at) (a .len) (a .opened .now) (a .n) (c .before .before .if1 .left) (c .before .if2 .left)
+
+pub view-spec : {M : Type 1} → statement M
+view-spec =
+    tie.close (tie.spec part-requires returns part-requires-2 returns-2 part-requires-3 returns-3)
