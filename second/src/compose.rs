@@ -1,0 +1,219 @@
+//! "Writing a packet": responses and probes, with every name compressed.
+
+use crate::message::HEADER;
+use crate::name::Name;
+use crate::setup::{srv_numbers, ClaimName, Data, Kind, OwnRecord, Setup};
+use crate::{class, rtype};
+
+const RESPONSE_FLAGS: u16 = 0x8400;
+const PROBE_FLAGS: u16 = 0;
+const POINTER: u16 = 0xC000;
+
+struct Packet {
+    bytes: Vec<u8>,
+    /// Each suffix that stands in a name written so far, with its offset, by
+    /// rising offset. Only labels count: an offset that holds a pointer is
+    /// never the smallest, since its target reads the same.
+    suffixes: Vec<(usize, Vec<u8>)>,
+}
+
+impl Packet {
+    fn new(flags: u16, counts: [usize; 4]) -> Packet {
+        let mut packet = Packet {
+            bytes: Vec::new(),
+            suffixes: Vec::new(),
+        };
+        packet.u16(0); // "ID 0"
+        packet.u16(flags);
+        for count in counts {
+            packet.u16(count as u16);
+        }
+        debug_assert_eq!(packet.bytes.len(), HEADER);
+        packet
+    }
+
+    fn u16(&mut self, number: u16) {
+        self.bytes.extend(number.to_be_bytes());
+    }
+
+    /// "cut at its longest suffix of whole labels that stands earlier byte for
+    /// byte in a name of the packet [...] and points to the smallest such
+    /// offset; the root alone is never pointed to"
+    fn name(&mut self, name: &Name) {
+        let start = self.bytes.len();
+        let mut written = Vec::new();
+        let mut pointer = None;
+        for (at, suffix) in name.suffixes() {
+            let earlier = self.suffixes.iter().find(|(_, known)| known == suffix);
+            if let Some((offset, _)) = earlier {
+                pointer = Some((at, *offset));
+                break;
+            }
+            written.push((start + at, suffix.to_vec()));
+        }
+        match pointer {
+            Some((cut, offset)) => {
+                self.bytes.extend(&name.wire()[..cut]);
+                self.u16(POINTER | offset as u16);
+            }
+            None => self.bytes.extend(name.wire()),
+        }
+        self.suffixes.extend(written);
+    }
+
+    fn record(&mut self, record: &OwnRecord, wire_class: u16) {
+        self.name(&record.owner);
+        self.u16(record.kind.rtype());
+        self.u16(wire_class);
+        self.bytes.extend(record.kind.ttl().to_be_bytes());
+        let length_at = self.bytes.len();
+        self.u16(0);
+        match &record.data {
+            Data::Pointer(name) => self.name(name),
+            Data::Service { port, target } => {
+                self.bytes.extend(srv_numbers(*port));
+                self.name(target);
+            }
+            Data::Bytes(bytes) => self.bytes.extend(bytes),
+        }
+        let length = (self.bytes.len() - length_at - 2) as u16;
+        self.bytes[length_at..length_at + 2].copy_from_slice(&length.to_be_bytes());
+    }
+}
+
+/// "Records in responses go in the order PTR, SRV, TXT, A, AAAA; class 0x8001,
+/// PTR 1." `records` are in that order.
+pub fn response(records: &[&OwnRecord]) -> Vec<u8> {
+    let mut packet = Packet::new(RESPONSE_FLAGS, [0, records.len(), 0, 0]);
+    for record in records {
+        let flush = match record.kind {
+            Kind::Ptr => 0,
+            _ => class::TOP_BIT,
+        };
+        packet.record(record, class::IN | flush);
+    }
+    packet.bytes
+}
+
+/// "A probe is one question (type 255, class 1) with the claim's records in
+/// Authority, by rising type, class 1."
+pub fn probe(setup: &Setup, claim: ClaimName) -> Vec<u8> {
+    let mut records = setup.records();
+    records.retain(|record| record.kind.is_claimed() && record.kind.claim() == claim);
+    records.sort_by_key(|record| record.kind.rtype());
+    let mut packet = Packet::new(PROBE_FLAGS, [1, 0, records.len(), 0]);
+    packet.name(&setup.claim_name(claim));
+    packet.u16(rtype::ANY);
+    packet.u16(class::IN);
+    for record in &records {
+        packet.record(record, class::IN);
+    }
+    packet.bytes
+}
+
+#[cfg(test)]
+mod tests {
+    use super::*;
+    use crate::message::Message;
+    use crate::setup::tests::dock;
+
+    fn all(setup: &Setup) -> Vec<u8> {
+        let records = setup.records();
+        response(&records.iter().collect::<Vec<_>>())
+    }
+
+    #[test]
+    fn the_38_byte_announcement() {
+        let records = dock().records();
+        let expected = [
+            &b"\x00\x00\x84\x00\x00\x00\x00\x01\x00\x00\x00\x00\x04dock\x05local\x00"[..],
+            &b"\x00\x01\x80\x01\x00\x00\x00\x78\x00\x04\x0a\x00\x00\x07"[..],
+        ]
+        .concat();
+        assert_eq!(expected.len(), 38);
+        assert_eq!(response(&[&records[3]]), expected);
+    }
+
+    #[test]
+    fn the_44_byte_probe() {
+        let expected = [
+            &b"\x00\x00\x00\x00\x00\x01\x00\x00\x00\x01\x00\x00\x04dock\x05local\x00"[..],
+            &b"\x00\xff\x00\x01\xc0\x0c\x00\x01\x00\x01\x00\x00\x00\x78\x00\x04\x0a\x00\x00\x07"[..],
+        ]
+        .concat();
+        assert_eq!(expected.len(), 44);
+        assert_eq!(probe(&dock(), ClaimName::Host), expected);
+    }
+
+    #[test]
+    fn what_is_written_reads_back() {
+        let mut setup = dock();
+        setup.aaaa = Some([9; 16]);
+        let records = setup.records();
+        let read = Message::read(&all(&setup)).unwrap();
+        assert_eq!(read.records.len(), 5);
+        for (read, own) in read.records.iter().zip(&records) {
+            assert_eq!(read.owner.wire(), own.owner.wire());
+            assert_eq!(read.rtype, own.kind.rtype());
+            assert_eq!(read.ttl, own.kind.ttl());
+            assert_eq!(read.rdata, own.rdata());
+            assert_eq!(read.is_cache_flush(), own.kind != Kind::Ptr);
+        }
+        let read = Message::read(&probe(&setup, ClaimName::Instance)).unwrap();
+        let types: Vec<_> = read.records.iter().map(|record| record.rtype).collect();
+        assert_eq!(types, [rtype::TXT, rtype::SRV]);
+    }
+
+    #[test]
+    fn the_instance_announcement_byte_for_byte() {
+        let records = dock().records();
+        let expected = [
+            &b"\x00\x00\x84\x00\x00\x00\x00\x03\x00\x00\x00\x00"[..],
+            // 12: service name; its PTR rdata at 41 is "booth" and a pointer
+            &b"\x06_voice\x04_tcp\x05local\x00\x00\x0c\x00\x01\x00\x00\x11\x94\x00\x08\x05booth\xc0\x0c"[..],
+            &b"\xc0\x29\x00\x21\x80\x01\x00\x00\x00\x78\x00\x0d\x00\x00\x00\x00\x0f\xa0\x04dock\xc0\x18"[..],
+            &b"\xc0\x29\x00\x10\x80\x01\x00\x00\x11\x94\x00\x01\x00"[..],
+        ]
+        .concat();
+        let first = &records[..3];
+        assert_eq!(response(&first.iter().collect::<Vec<_>>()), expected);
+    }
+
+    #[test]
+    fn suffixes_are_whole_labels_and_case_counts() {
+        // the instance label holds the bytes of "local." but not as a label
+        let mut setup = dock();
+        setup.instance = b"\x05local\x00".to_vec();
+        let probe = probe(&setup, ClaimName::Instance);
+        assert_eq!(&probe[12..20], b"\x07\x05local\x00");
+        let target = &probe[probe.len() - 7..];
+        assert_eq!(target[..5], *b"\x04dock");
+        assert!(u16::from_be_bytes([target[5], target[6]]) > 0xC000 + 20);
+
+        // host "_TCP" is no suffix of the service name, "_tcp" is
+        let mut setup = dock();
+        setup.host = b"_TCP".to_vec();
+        assert!(all(&setup)
+            .windows(7)
+            .any(|part| part == b"\x04_TCP\xc0\x18"));
+        setup.host = b"_tcp".to_vec();
+        let packet = all(&setup);
+        assert!(packet
+            .windows(8)
+            .any(|part| part == b"\x00\x00\x00\x00\x0f\xa0\xc0\x13"));
+    }
+
+    #[test]
+    fn the_longest_packet_fits() {
+        let setup = Setup {
+            instance: vec![b'i'; 63],
+            service: b"_abcdefghijklmno".to_vec(),
+            host: vec![b'h'; 63],
+            txt: vec![0; 400],
+            aaaa: Some([0; 16]),
+            ..dock()
+        };
+        assert!(setup.is_legal());
+        assert_eq!(all(&setup).len(), 657);
+    }
+}

@@ -1,0 +1,170 @@
+//! Long hostile console scripts from a seed. The writer of a script runs each
+//! line on a console of its own, and aims the next lines at the state it sees.
+
+mod lines;
+mod packet;
+mod random;
+mod responder;
+mod store;
+
+use crate::console::Console;
+use packet::{corner, largest, Draft};
+use random::Random;
+
+pub struct Script {
+    random: Random,
+    model: Console,
+    lines: Vec<Vec<u8>>,
+    /// In percent: how often a life meets conflicts and later probes.
+    hostility: u64,
+}
+
+/// A script of `count` lines, each without its LF.
+pub fn script(seed: u64, count: usize) -> Vec<Vec<u8>> {
+    let mut script = Script {
+        random: Random::new(seed),
+        model: Console::default(),
+        lines: Vec::new(),
+        hostility: 0,
+    };
+    script.blank_responder();
+    while script.lines.len() < count {
+        match script.random.below(100) {
+            0..=34 => script.life(),
+            35..=64 => script.store(),
+            65..=74 => script.txt_lookups(),
+            75..=89 => script.readings(),
+            90..=93 => script.starts(),
+            _ => script.bad_lines(),
+        }
+    }
+    script.lines.truncate(count);
+    script.lines
+}
+
+impl Script {
+    /// Adds a line and runs it on the model; gives the answer.
+    fn say(&mut self, line: impl Into<Vec<u8>>) -> String {
+        let line = line.into();
+        let answer = self.model.answer(&line).unwrap_or_default();
+        self.lines.push(line);
+        answer
+    }
+
+    /// Draft to packet, now and then damaged.
+    fn packet(&mut self, mut draft: Draft) -> Vec<u8> {
+        draft.decorate(&mut self.random);
+        if self.random.chance(4) {
+            draft.damaged(&mut self.random)
+        } else {
+            draft.encode(&mut self.random)
+        }
+    }
+
+    /// Messages for `read` alone.
+    fn readings(&mut self) {
+        for _ in 0..self.random.below(20) {
+            let bytes = match self.random.below(100) {
+                0 => largest(&mut self.random),
+                1..=70 => corner(&mut self.random),
+                _ => {
+                    let mut draft = self.some_draft();
+                    draft.decorate(&mut self.random);
+                    draft.damaged(&mut self.random)
+                }
+            };
+            let line = format!("read {}", self.hex(&bytes));
+            self.say(line);
+        }
+    }
+
+    fn some_draft(&mut self) -> Draft {
+        let mut draft = Draft {
+            flags: self.random.pick(&[0, 0x8400]),
+            ..Draft::default()
+        };
+        for _ in 0..self.random.below(3) {
+            let name = packet::some_name(&mut self.random);
+            let rtype = self.random.pick(&packet::TYPES);
+            let class = self.random.pick(&packet::CLASSES);
+            draft.questions.push((name, rtype, class));
+        }
+        for section in 0..3 {
+            for _ in 0..self.random.below(3) {
+                let record = packet::some_record(&mut self.random);
+                draft.sections[section].push(record);
+            }
+        }
+        draft
+    }
+
+    /// Hex of either case, `-` for no bytes.
+    fn hex(&mut self, bytes: &[u8]) -> String {
+        let text = crate::console::hex(bytes);
+        match self.random.below(20) {
+            0 => text.to_ascii_uppercase(),
+            1 => String::from_utf8(self.random.recase(text.as_bytes())).expect("hex digits"),
+            _ => text,
+        }
+    }
+}
+
+#[cfg(test)]
+mod tests {
+    use super::*;
+    use crate::message::{check, Message};
+    use crate::tally::Tally;
+
+    #[test]
+    fn a_seed_gives_one_script() {
+        assert_eq!(script(3, 500), script(3, 500));
+        assert_ne!(script(3, 500), script(4, 500));
+        assert_eq!(script(3, 500).len(), 500);
+    }
+
+    #[test]
+    fn scripts_reach_every_kind_of_answer() {
+        let mut console = Console::default();
+        let mut tally = Tally::default();
+        for line in script(7, 20_000) {
+            if let Some(answer) = console.answer(&line) {
+                tally.count(&line, &answer);
+            }
+        }
+        let report = tally.to_string();
+        for state in ["waiting", "probing", "deferred", "held", "lost"] {
+            assert!(
+                report.contains(&format!("claims instance {state}")),
+                "{report}"
+            );
+            assert!(report.contains(&format!("claims host {state}")), "{report}");
+        }
+        for kind in [
+            "claims host held with second step",
+            "claims reply set",
+            "tick sent response of 3 more",
+            "recv sent response of 4",
+            "put cached with turned away",
+            "put cached with passed over",
+            "look slot",
+            "look none",
+            "txt value factory",
+            "read message with something",
+            "recv refused 7",
+            "start refused 7",
+            "txt refused 9",
+            "bad line",
+        ] {
+            assert!(report.contains(kind), "{kind} in {report}");
+        }
+    }
+
+    #[test]
+    fn the_two_readers_agree() {
+        let mut random = Random::new(11);
+        for _ in 0..20_000 {
+            let bytes = corner(&mut random);
+            assert_eq!(check(&bytes).err(), Message::read(&bytes).err());
+        }
+    }
+}

@@ -1,0 +1,273 @@
+//! "Own records": the set-up, its check (refusal 7) and the five records.
+
+use crate::name::Name;
+use crate::{rtype, txt};
+
+const MOST_LABEL: usize = 63;
+const MOST_SERVICE: usize = 15;
+const MOST_TXT: usize = 400;
+
+/// The labels without their length bytes, and the data.
+#[derive(Clone, Debug, Default)]
+pub struct Setup {
+    pub instance: Vec<u8>,
+    pub service: Vec<u8>,
+    pub protocol: Vec<u8>,
+    pub host: Vec<u8>,
+    pub domain: Vec<u8>,
+    pub port: u16,
+    pub txt: Vec<u8>,
+    pub a: [u8; 4],
+    pub aaaa: Option<[u8; 16]>,
+}
+
+/// The two names that are claimed.
+#[derive(Clone, Copy, Debug, PartialEq, Eq)]
+pub enum ClaimName {
+    Instance,
+    Host,
+}
+
+/// The five records, in the order they have in responses.
+#[derive(Clone, Copy, Debug, PartialEq, Eq)]
+pub enum Kind {
+    Ptr,
+    Srv,
+    Txt,
+    A,
+    Aaaa,
+}
+
+#[derive(Clone, Debug)]
+pub enum Data {
+    Pointer(Name),
+    Service { port: u16, target: Name },
+    Bytes(Vec<u8>),
+}
+
+#[derive(Clone, Debug)]
+pub struct OwnRecord {
+    pub kind: Kind,
+    pub owner: Name,
+    pub data: Data,
+}
+
+impl Kind {
+    pub fn rtype(self) -> u16 {
+        match self {
+            Kind::Ptr => rtype::PTR,
+            Kind::Srv => rtype::SRV,
+            Kind::Txt => rtype::TXT,
+            Kind::A => rtype::A,
+            Kind::Aaaa => rtype::AAAA,
+        }
+    }
+
+    /// "PTR ([...] TTL 4500), SRV ([...] TTL 120), TXT (4500), A (120), AAAA (120 [...])"
+    pub fn ttl(self) -> u32 {
+        match self {
+            Kind::Ptr | Kind::Txt => 4500,
+            Kind::Srv | Kind::A | Kind::Aaaa => 120,
+        }
+    }
+
+    /// The claim a record goes with; PTR only goes along with its announcements.
+    pub fn claim(self) -> ClaimName {
+        match self {
+            Kind::Ptr | Kind::Srv | Kind::Txt => ClaimName::Instance,
+            Kind::A | Kind::Aaaa => ClaimName::Host,
+        }
+    }
+
+    /// PTR is "neither probed for nor in conflict".
+    pub fn is_claimed(self) -> bool {
+        self != Kind::Ptr
+    }
+}
+
+impl OwnRecord {
+    /// The rdata with its name expanded.
+    pub fn rdata(&self) -> Vec<u8> {
+        match &self.data {
+            Data::Pointer(name) => name.wire().to_vec(),
+            Data::Service { port, target } => [&srv_numbers(*port)[..], target.wire()].concat(),
+            Data::Bytes(bytes) => bytes.clone(),
+        }
+    }
+}
+
+/// "SRV (priority and weight 0 [...])" and the port.
+pub fn srv_numbers(port: u16) -> [u8; 6] {
+    let [high, low] = port.to_be_bytes();
+    [0, 0, 0, 0, high, low]
+}
+
+/// "The service label is "_" and 1..15 letters, digits or hyphens, with a
+/// letter, no hyphen first, last or doubled (RFC 6335)."
+fn is_service_label(label: &[u8]) -> bool {
+    let Some((b'_', service)) = label.split_first() else {
+        return false;
+    };
+    (1..=MOST_SERVICE).contains(&service.len())
+        && service
+            .iter()
+            .all(|byte| byte.is_ascii_alphanumeric() || *byte == b'-')
+        && service.iter().any(u8::is_ascii_alphabetic)
+        && !service.starts_with(b"-")
+        && !service.ends_with(b"-")
+        && !service.windows(2).any(|pair| pair == b"--")
+}
+
+impl Setup {
+    /// Whether names and data keep the rules of "Own records".
+    pub fn is_legal(&self) -> bool {
+        (1..=MOST_LABEL).contains(&self.instance.len())
+            && (1..=MOST_LABEL).contains(&self.host.len())
+            && is_service_label(&self.service)
+            && (self.protocol == b"_tcp" || self.protocol == b"_udp")
+            && self.domain == b"local"
+            && (1..=MOST_TXT).contains(&self.txt.len())
+            && txt::is_well_formed(&self.txt)
+    }
+
+    pub fn service_name(&self) -> Name {
+        Name::from_labels(&[&self.service, &self.protocol, &self.domain])
+    }
+
+    pub fn instance_name(&self) -> Name {
+        Name::from_labels(&[&self.instance, &self.service, &self.protocol, &self.domain])
+    }
+
+    pub fn host_name(&self) -> Name {
+        Name::from_labels(&[&self.host, &self.domain])
+    }
+
+    pub fn claim_name(&self, claim: ClaimName) -> Name {
+        match claim {
+            ClaimName::Instance => self.instance_name(),
+            ClaimName::Host => self.host_name(),
+        }
+    }
+
+    /// The own records in the order PTR, SRV, TXT, A, AAAA; AAAA may be missing.
+    pub fn records(&self) -> Vec<OwnRecord> {
+        let mut records = vec![
+            OwnRecord {
+                kind: Kind::Ptr,
+                owner: self.service_name(),
+                data: Data::Pointer(self.instance_name()),
+            },
+            OwnRecord {
+                kind: Kind::Srv,
+                owner: self.instance_name(),
+                data: Data::Service {
+                    port: self.port,
+                    target: self.host_name(),
+                },
+            },
+            OwnRecord {
+                kind: Kind::Txt,
+                owner: self.instance_name(),
+                data: Data::Bytes(self.txt.clone()),
+            },
+            OwnRecord {
+                kind: Kind::A,
+                owner: self.host_name(),
+                data: Data::Bytes(self.a.to_vec()),
+            },
+        ];
+        if let Some(address) = self.aaaa {
+            records.push(OwnRecord {
+                kind: Kind::Aaaa,
+                owner: self.host_name(),
+                data: Data::Bytes(address.to_vec()),
+            });
+        }
+        records
+    }
+}
+
+#[cfg(test)]
+pub mod tests {
+    use super::*;
+
+    /// Paper 01's dock: dock.local, 10.0.0.7, with booth._voice._tcp.local.
+    pub fn dock() -> Setup {
+        Setup {
+            instance: b"booth".to_vec(),
+            service: b"_voice".to_vec(),
+            protocol: b"_tcp".to_vec(),
+            host: b"dock".to_vec(),
+            domain: b"local".to_vec(),
+            port: 4000,
+            txt: vec![0],
+            a: [10, 0, 0, 7],
+            aaaa: None,
+        }
+    }
+
+    #[test]
+    fn service_labels() {
+        for good in ["_a", "_A-1", "_1a", "_a23456789012345", "_x-y-z"] {
+            assert!(is_service_label(good.as_bytes()), "{good}");
+        }
+        for bad in [
+            "",
+            "_",
+            "a",
+            "_1",
+            "_-a",
+            "_a-",
+            "_a--b",
+            "_a23456789012346x",
+            "_a_b",
+            "_a.b",
+            "__a",
+            "_1-2",
+            "_é",
+        ] {
+            assert!(!is_service_label(bad.as_bytes()), "{bad}");
+        }
+    }
+
+    #[test]
+    fn label_and_txt_lengths() {
+        let with = |change: fn(&mut Setup)| {
+            let mut setup = dock();
+            change(&mut setup);
+            setup.is_legal()
+        };
+        assert!(with(|_| ()));
+        assert!(!Setup::default().is_legal());
+        assert!(with(|s| s.instance = vec![0; 63]));
+        assert!(!with(|s| s.instance = vec![0; 64]));
+        assert!(!with(|s| s.instance = vec![]));
+        assert!(with(|s| s.host = vec![0xff; 1]));
+        assert!(!with(|s| s.host = vec![b'h'; 256 + 4]));
+        assert!(with(|s| s.protocol = b"_udp".to_vec()));
+        assert!(!with(|s| s.protocol = b"_TCP".to_vec()));
+        assert!(!with(|s| s.domain = b"Local".to_vec()));
+        assert!(!with(|s| s.txt = vec![]));
+        assert!(with(|s| s.txt = vec![0; 400]));
+        assert!(!with(|s| s.txt = vec![0; 401]));
+        assert!(!with(|s| s.txt = vec![1]));
+    }
+
+    #[test]
+    fn the_five_records() {
+        let mut setup = dock();
+        assert_eq!(setup.records().len(), 4);
+        setup.aaaa = Some([1; 16]);
+        let records = setup.records();
+        assert_eq!(records.len(), 5);
+        assert_eq!(records[0].owner.wire(), b"\x06_voice\x04_tcp\x05local\x00");
+        assert_eq!(
+            records[0].rdata(),
+            b"\x05booth\x06_voice\x04_tcp\x05local\x00"
+        );
+        assert_eq!(
+            records[1].rdata(),
+            b"\x00\x00\x00\x00\x0f\xa0\x04dock\x05local\x00"
+        );
+    }
+}

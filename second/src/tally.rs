@@ -1,0 +1,87 @@
+//! Counts how often each kind of answer came, so that a script of nothing but
+//! refusals shows.
+
+use std::collections::BTreeMap;
+use std::fmt;
+
+#[derive(Default)]
+pub struct Tally(BTreeMap<String, u64>);
+
+impl Tally {
+    pub fn count(&mut self, line: &[u8], answer: &str) {
+        let word = line.split(|byte| *byte == b' ').next().unwrap_or(line);
+        let call = String::from_utf8_lossy(word).into_owned();
+        for kind in kinds(&call, answer) {
+            *self.0.entry(kind).or_insert(0) += 1;
+        }
+    }
+}
+
+/// The kinds an answer counts for.
+fn kinds(call: &str, answer: &str) -> Vec<String> {
+    let fields: Vec<&str> = answer.split(' ').collect();
+    match (call, fields.as_slice()) {
+        (_, ["bad", "line"]) => vec!["bad line".to_string()],
+        (_, ["refused", number]) => vec![format!("{call} refused {number}")],
+        (_, ["sent", packet]) => vec![format!("{call} sent {}", packet_kind(packet))],
+        (_, ["sent", packet, "more"]) => {
+            vec![format!("{call} sent {} more", packet_kind(packet))]
+        }
+        ("claims", [_, "instance", state, due, "host", host_state, host_due, "reply", reply]) => {
+            let step = |state: &str, due: &str| match (state, due) {
+                ("held", "-") => String::new(),
+                ("held", _) => " with second step".to_string(),
+                _ => String::new(),
+            };
+            let set = if *reply == "-" { "none" } else { "set" };
+            vec![
+                format!("claims instance {state}{}", step(state, due)),
+                format!("claims host {host_state}{}", step(host_state, host_due)),
+                format!("claims reply {set}"),
+            ]
+        }
+        ("put", ["cached", turned, passed]) => {
+            let mut kinds = vec!["put cached".to_string()];
+            if *turned != "0" {
+                kinds.push("put cached with turned away".to_string());
+            }
+            if *passed != "0" {
+                kinds.push("put cached with passed over".to_string());
+            }
+            kinds
+        }
+        ("txt", ["value", source, ..]) => vec![format!("txt value {source}")],
+        ("slot", ["slot", _, rtype, ..]) => {
+            let use_of = if *rtype == "0" { "unused" } else { "used" };
+            vec![format!("slot {use_of}")]
+        }
+        ("read", ["message", ..]) => {
+            let records = if fields.len() > 3 {
+                "something"
+            } else {
+                "nothing"
+            };
+            vec![format!("read message with {records}")]
+        }
+        (_, [first, ..]) => vec![format!("{call} {first}")],
+        (_, []) => vec![],
+    }
+}
+
+/// Whether a packet is a probe or a response, by its flags in hex, and with
+/// how many records.
+fn packet_kind(packet: &str) -> String {
+    match packet.get(4..8) {
+        Some("0000") => "probe".to_string(),
+        _ => format!("response of {}", packet.get(15..16).unwrap_or("?")),
+    }
+}
+
+impl fmt::Display for Tally {
+    fn fmt(&self, formatter: &mut fmt::Formatter) -> fmt::Result {
+        for (kind, count) in &self.0 {
+            writeln!(formatter, "{count:>9}  {kind}")?;
+        }
+        Ok(())
+    }
+}
