@@ -1,0 +1,23 @@
+use borrow.Author.Tests.{eq-eqb, ne-eqb, le-leb, lt-leb, lt-ltb, le-ltb}
+use Rattle.records.specs.Records.{ownType, ownClass, ownTtl, ownClaim, isProbed, hasRecord}
+use native.Mathlib.Omega.{arith}
+use Prim.Native.Nat.{_<_, _≤_}
+use Rattle.records.proofs.has_record.Statement.{statement}
+use Rattle.records.proofs.has_record.Tie as tie
+use Rattle.records.proofs.has_record.Reads as reads
+use Rattle.records.proofs.has_record.Lts as lts
+
+returns : tie.Need-returns
+unfolding hasRecord
+returns c = simp (lt-ltb _ _ (c .if1 .taken))
+
+returns-2 : tie.Need-returns-2
+unfolding hasRecord
+returns-2 c = simp (le-ltb _ _ (c .before .if1 .left), eq-eqb _ _ (c .if2 .taken))
+
+returns-3 : tie.Need-returns-3
+unfolding hasRecord
+returns-3 c = simp (le-ltb _ _ (c .before .if1 .left), ne-eqb _ _ (c .if2 .left))
+
+pub has-record-spec : {M : Type 1} → statement M
+has-record-spec = tie.close (tie.spec returns returns-2 returns-3)

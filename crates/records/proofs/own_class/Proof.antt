@@ -1,0 +1,17 @@
+use borrow.Author.Tests.{eq-eqb, ne-eqb, le-leb, lt-leb, lt-ltb, le-ltb}
+use Rattle.records.specs.Records.{ownType, ownClass, ownTtl, ownClaim, isProbed, hasRecord}
+use Rattle.records.proofs.own_class.Statement.{statement}
+use Rattle.records.proofs.own_class.Tie as tie
+use Rattle.records.proofs.own_class.Reads as reads
+use Rattle.records.proofs.own_class.Lts as lts
+
+returns : tie.Need-returns
+unfolding ownClass
+returns c = simp (eq-eqb _ _ (c .if1 .taken))
+
+returns-2 : tie.Need-returns-2
+unfolding ownClass
+returns-2 c = simp (ne-eqb _ _ (c .if1 .left))
+
+pub own-class-spec : {M : Type 1} → statement M
+own-class-spec = tie.close (tie.spec returns returns-2)

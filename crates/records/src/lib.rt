@@ -1,0 +1,504 @@
+// Own records (paper 01, 'Own records'; RFC 6335, 5.1): the set-up and its rules, the own names, and the five records by index.
+ghost use mathlib.Core.Path.{_≡_};
+ghost use mathlib.Core.Bool.{true};
+ghost use mathlib.Core.List.{_∷_, []};
+ghost use Prim.Native.Nat.{_+_, _≤_, _<_};
+ghost use lib.ListN.{length, take};
+ghost use lib.Seq.{sets};
+ghost use Rattle.labels.specs.Labels.{encode};
+ghost use Rattle.records.specs.Setups.{local, isLetter, isNameByte, nameBytes, someLetter, hyphensApart, serviceRule, labelFits, serviceFits, protocolFits, domainFits, txtFits, validSetup, labelHeld, serviceHeld, protocolLabel, serviceLabels, instanceLabels, hostLabels};
+ghost use Rattle.records.specs.Records.{labelBytes, Laid, ownOf, ownName, ownType, ownClass, ownTtl, ownClaim, isProbed, ownRdata, hasRecord, srvRdata};
+
+// The most bytes of a label, of a service label with its "_", and of a TXT record.
+pub const MOST_LABEL: usize = 63;
+
+pub const MOST_SERVICE: usize = 16;
+
+pub const MOST_TXT: usize = 400;
+
+// An instance or host label: the first `len` of the bytes.
+pub struct Label {
+    pub bytes: [u8; 63],
+    pub len: usize,
+}
+
+// A service label, its "_" with it: the first `len` of the bytes.
+pub struct Service {
+    pub bytes: [u8; 16],
+    pub len: usize,
+}
+
+// TXT strings: the first `len` of the bytes.
+pub struct Strings {
+    pub bytes: [u8; 400],
+    pub len: usize,
+}
+
+// What a responder is set up with: five labels and the data of its records. Bytes past a length, and `aaaa` without `hasaaaa`, say nothing.
+pub struct Setup {
+    pub instance: Label,
+    pub service: Service,
+    pub protocol: [u8; 4],
+    pub host: Label,
+    pub domain: [u8; 5],
+    pub port: u16,
+    pub txt: Strings,
+    pub a: [u8; 4],
+    pub hasaaaa: bool,
+    pub aaaa: [u8; 16],
+}
+
+// The most bytes that an own name or own rdata has.
+pub const MOST_OWN: usize = 400;
+
+// An own name or own rdata: the first `len` of the bytes, zeros after them.
+pub struct Own {
+    pub bytes: [u8; 400],
+    pub len: usize,
+}
+
+// The own records by index.
+pub const RECORDS: usize = 5;
+
+pub const PTR: usize = 0;
+
+pub const SRV: usize = 1;
+
+pub const TXT: usize = 2;
+
+pub const A: usize = 3;
+
+pub const AAAA: usize = 4;
+
+// The two claims.
+pub enum Claim {
+    Instance,
+    Host,
+}
+
+// An ASCII letter.
+fn letter(b: u8) -> bool
+    ensures { λ r. ⌜ r ≡ isLetter b ⌝ }
+{
+    if b < b'A' {
+        return false;
+    }
+    if b <= b'Z' {
+        return true;
+    }
+    if b < b'a' {
+        return false;
+    }
+    b <= b'z'
+}
+
+// A letter, a digit or a hyphen.
+fn name_byte(b: u8) -> bool
+    ensures { λ r. ⌜ r ≡ isNameByte b ⌝ }
+{
+    if letter(b) {
+        return true;
+    }
+    if b == b'-' {
+        return true;
+    }
+    if b < b'0' {
+        return false;
+    }
+    b <= b'9'
+}
+
+// Only letters, digits and hyphens.
+fn name_bytes(s: &[u8]) -> bool
+    ensures { λ r. ⌜ r ≡ nameBytes (now (s .entry)) ⌝ }
+{
+    let mut i = 0;
+    while i < s.len() {
+        if !name_byte(s[i]) {
+            return false;
+        }
+        i += 1;
+    }
+    true
+}
+
+// At least one letter.
+fn some_letter(s: &[u8]) -> bool
+    ensures { λ r. ⌜ r ≡ someLetter (now (s .entry)) ⌝ }
+{
+    let mut i = 0;
+    while i < s.len() {
+        if letter(s[i]) {
+            return true;
+        }
+        i += 1;
+    }
+    false
+}
+
+// No hyphen first, last or after another.
+fn hyphens_apart(s: &[u8]) -> bool
+    ensures { λ r. ⌜ r ≡ hyphensApart true (now (s .entry)) ⌝ }
+{
+    // whether a hyphen may not stand here: at the start, and behind a hyphen
+    let mut barred = true;
+    let mut i = 0;
+    while i < s.len() {
+        if s[i] == b'-' {
+            if barred {
+                return false;
+            }
+            barred = true;
+        } else {
+            barred = false;
+        }
+        i += 1;
+    }
+    !barred
+}
+
+// The rule for a service label: "_" and a name by RFC 6335.
+fn service_rule(s: &[u8]) -> bool
+    ensures { λ r. ⌜ r ≡ serviceRule (now (s .entry)) ⌝ }
+{
+    if s.len() == 0 {
+        return false;
+    }
+    if s[0] != b'_' {
+        return false;
+    }
+    let name = &s[1..];
+    if !name_bytes(name) {
+        return false;
+    }
+    if !some_letter(name) {
+        return false;
+    }
+    hyphens_apart(name)
+}
+
+fn label_fits(l: Label) -> bool
+    ensures { λ r. ⌜ r ≡ labelFits l ⌝ }
+{
+    if l.len == 0 {
+        return false;
+    }
+    l.len <= MOST_LABEL
+}
+
+fn service_fits(l: Service) -> bool
+    ensures { λ r. ⌜ r ≡ serviceFits l ⌝ }
+{
+    let bytes = l.bytes;
+    let len = l.len;
+    if len < 2 {
+        return false;
+    }
+    if MOST_SERVICE < len {
+        return false;
+    }
+    service_rule(&bytes[..len])
+}
+
+fn protocol_fits(p: [u8; 4]) -> bool
+    ensures { λ r. ⌜ r ≡ protocolFits p ⌝ }
+{
+    if expansion::same_bytes(&p, b"_tcp") {
+        return true;
+    }
+    expansion::same_bytes(&p, b"_udp")
+}
+
+fn domain_fits(d: [u8; 5]) -> bool
+    ensures { λ r. ⌜ r ≡ domainFits d ⌝ }
+{
+    expansion::same_bytes(&d, b"local")
+}
+
+fn txt_fits(t: Strings) -> bool
+    ensures { λ r. ⌜ r ≡ txtFits t ⌝ }
+{
+    let bytes = t.bytes;
+    let len = t.len;
+    if len == 0 {
+        return false;
+    }
+    if MOST_TXT < len {
+        return false;
+    }
+    rdata::strings_fill(&bytes[..len])
+}
+
+// Whether a set-up keeps the rules; refusal 7 is for one that does not.
+pub fn check_setup(s: Setup) -> bool
+    ensures { λ r. ⌜ r ≡ validSetup s ⌝ }
+{
+    let instance = s.instance;
+    if !label_fits(instance) {
+        return false;
+    }
+    let service = s.service;
+    if !service_fits(service) {
+        return false;
+    }
+    let protocol = s.protocol;
+    if !protocol_fits(protocol) {
+        return false;
+    }
+    let host = s.host;
+    if !label_fits(host) {
+        return false;
+    }
+    let domain = s.domain;
+    if !domain_fits(domain) {
+        return false;
+    }
+    let txt = s.txt;
+    txt_fits(txt)
+}
+
+// Writes `s` into `out` from index `at` on.
+fn put(out: &mut [u8; 400], at: usize, s: &[u8])
+    requires { ⌜ at + length (now s) ≤ 400 ⌝ }
+    ensures { λ _. ⌜ now (out .exit) ≡ sets (now (out .entry)) at (now (s .entry)) ⌝ }
+{
+    let mut i = 0;
+    while i < s.len() {
+        out[at + i] = s[i];
+        i += 1;
+    }
+}
+
+// Writes a label after its length byte, and answers the offset past it.
+fn put_label(out: &mut [u8; 400], at: usize, label: &[u8]) -> usize
+    requires { ⌜ (at + 1 + length (now label) ≤ 400) × (length (now label) < 256) ⌝ }
+    ensures { λ r. ⌜ Laid at (labelBytes (now (label .entry))) (1 + length (now (label .entry))) (now (out .entry)) r (now (out .exit)) ⌝ }
+{
+    let n = label.len();
+    out[at] = n as u8;
+    put(out, at + 1, label);
+    at + 1 + n
+}
+
+// The label of an instance or a host.
+fn put_held(out: &mut [u8; 400], at: usize, l: Label) -> usize
+    requires { ⌜ at + 64 ≤ 400 ⌝ }
+    ensures { λ r. ⌜ Laid at (labelBytes (labelHeld l)) 64 (now (out .entry)) r (now (out .exit)) ⌝ }
+{
+    let bytes = l.bytes;
+    let len = l.len;
+    if len < MOST_LABEL {
+        return put_label(out, at, &bytes[..len]);
+    }
+    put_label(out, at, &bytes)
+}
+
+// The label of a service.
+fn put_service(out: &mut [u8; 400], at: usize, l: Service) -> usize
+    requires { ⌜ at + 17 ≤ 400 ⌝ }
+    ensures { λ r. ⌜ Laid at (labelBytes (serviceHeld l)) 17 (now (out .entry)) r (now (out .exit)) ⌝ }
+{
+    let bytes = l.bytes;
+    let len = l.len;
+    if len < MOST_SERVICE {
+        return put_label(out, at, &bytes[..len]);
+    }
+    put_label(out, at, &bytes)
+}
+
+// The label of a protocol: one of the two fixed strings.
+fn put_protocol(out: &mut [u8; 400], at: usize, p: [u8; 4]) -> usize
+    requires { ⌜ at + 5 ≤ 400 ⌝ }
+    ensures { λ r. ⌜ Laid at (labelBytes (protocolLabel p)) 5 (now (out .entry)) r (now (out .exit)) ⌝ }
+{
+    if expansion::same_bytes(&p, b"_udp") {
+        return put_label(out, at, b"_udp");
+    }
+    put_label(out, at, b"_tcp")
+}
+
+// The label "local" and the zero byte, with which every own name ends.
+fn put_local(out: &mut [u8; 400], at: usize) -> usize
+    requires { ⌜ at + 7 ≤ 400 ⌝ }
+    ensures { λ r. ⌜ Laid at (encode (local ∷ [])) 7 (now (out .entry)) r (now (out .exit)) ⌝ }
+{
+    let end = put_label(out, at, b"local");
+    out[end] = 0;
+    end + 1
+}
+
+// The service's name.
+fn put_service_name(out: &mut [u8; 400], at: usize, s: Setup) -> usize
+    requires { ⌜ at + 29 ≤ 400 ⌝ }
+    ensures { λ r. ⌜ Laid at (encode (serviceLabels s)) 29 (now (out .entry)) r (now (out .exit)) ⌝ }
+{
+    let service = s.service;
+    let protocol = s.protocol;
+    let a = put_service(out, at, service);
+    let b = put_protocol(out, a, protocol);
+    put_local(out, b)
+}
+
+// The instance's name.
+fn put_instance_name(out: &mut [u8; 400], at: usize, s: Setup) -> usize
+    requires { ⌜ at + 93 ≤ 400 ⌝ }
+    ensures { λ r. ⌜ Laid at (encode (instanceLabels s)) 93 (now (out .entry)) r (now (out .exit)) ⌝ }
+{
+    let instance = s.instance;
+    let a = put_held(out, at, instance);
+    put_service_name(out, a, s)
+}
+
+// The host's name.
+fn put_host_name(out: &mut [u8; 400], at: usize, s: Setup) -> usize
+    requires { ⌜ at + 71 ≤ 400 ⌝ }
+    ensures { λ r. ⌜ Laid at (encode (hostLabels s)) 71 (now (out .entry)) r (now (out .exit)) ⌝ }
+{
+    let host = s.host;
+    let a = put_held(out, at, host);
+    put_local(out, a)
+}
+
+// The owner of the own record of an index.
+pub fn own_name(s: Setup, i: usize) -> Own
+    ensures { λ r. ⌜ r ≡ ownOf (ownName s i) ⌝ }
+{
+    let mut bytes = [0u8; 400];
+    if i == PTR {
+        let len = put_service_name(&mut bytes, 0, s);
+        return Own { bytes, len };
+    }
+    if i <= TXT {
+        let len = put_instance_name(&mut bytes, 0, s);
+        return Own { bytes, len };
+    }
+    let len = put_host_name(&mut bytes, 0, s);
+    Own { bytes, len }
+}
+
+// Priority 0, weight 0, the port, and the host's name.
+fn srv_rdata(s: Setup) -> Own
+    ensures { λ r. ⌜ r ≡ ownOf (srvRdata s) ⌝ }
+{
+    let mut bytes = [0u8; 400];
+    let port = s.port;
+    bytes[4] = (port / 256) as u8;
+    bytes[5] = (port % 256) as u8;
+    let len = put_host_name(&mut bytes, 6, s);
+    Own { bytes, len }
+}
+
+// The TXT strings.
+fn txt_rdata(t: Strings) -> Own
+    ensures { λ r. ⌜ r ≡ ownOf (take (t .len) (t .bytes)) ⌝ }
+{
+    let held = t.bytes;
+    let len = t.len;
+    if MOST_TXT <= len {
+        return Own {
+            bytes: held,
+            len: MOST_TXT,
+        };
+    }
+    let mut bytes = [0u8; 400];
+    put(&mut bytes, 0, &held[..len]);
+    Own { bytes, len }
+}
+
+// The rdata, names expanded, of the own record of an index.
+pub fn own_rdata(s: Setup, i: usize) -> Own
+    ensures { λ r. ⌜ r ≡ ownOf (ownRdata s i) ⌝ }
+{
+    if i == SRV {
+        return srv_rdata(s);
+    }
+    if i == TXT {
+        let txt = s.txt;
+        return txt_rdata(txt);
+    }
+    let mut bytes = [0u8; 400];
+    if i == PTR {
+        let len = put_instance_name(&mut bytes, 0, s);
+        return Own { bytes, len };
+    }
+    if i == A {
+        let a = s.a;
+        put(&mut bytes, 0, &a);
+        return Own { bytes, len: 4 };
+    }
+    let aaaa = s.aaaa;
+    put(&mut bytes, 0, &aaaa);
+    Own { bytes, len: 16 }
+}
+
+// The type of the own record of an index.
+pub fn own_type(i: usize) -> u16
+    ensures { λ r. ⌜ r ≡ ownType i ⌝ }
+{
+    if i == PTR {
+        return rdata::PTR;
+    }
+    if i == SRV {
+        return rdata::SRV;
+    }
+    if i == TXT {
+        return rdata::TXT;
+    }
+    if i == A {
+        return rdata::A;
+    }
+    rdata::AAAA
+}
+
+// The class on the wire of the own record of an index: with the cache flush bit, but for PTR, which is shared.
+pub fn own_class(i: usize) -> u16
+    ensures { λ r. ⌜ r ≡ ownClass i ⌝ }
+{
+    if i == PTR {
+        return 1;
+    }
+    0x8001
+}
+
+// The TTL of the own record of an index, in seconds.
+pub fn own_ttl(i: usize) -> u32
+    ensures { λ r. ⌜ r ≡ ownTtl i ⌝ }
+{
+    if i == PTR {
+        return 4500;
+    }
+    if i == TXT {
+        return 4500;
+    }
+    120
+}
+
+// The claim that the own record of an index goes with.
+pub fn own_claim(i: usize) -> Claim
+    ensures { λ r. ⌜ r ≡ ownClaim i ⌝ }
+{
+    if i <= TXT {
+        return Claim::Instance;
+    }
+    Claim::Host
+}
+
+// Whether the own record of an index is probed for and may be in conflict: all but PTR.
+pub fn is_probed(i: usize) -> bool
+    ensures { λ r. ⌜ r ≡ isProbed i ⌝ }
+{
+    i != PTR
+}
+
+// Whether a set-up has the record of an index.
+pub fn has_record(s: Setup, i: usize) -> bool
+    ensures { λ r. ⌜ r ≡ hasRecord s i ⌝ }
+{
+    if i < AAAA {
+        return true;
+    }
+    if i == AAAA {
+        return s.hasaaaa;
+    }
+    false
+}
