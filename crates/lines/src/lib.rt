@@ -3,7 +3,7 @@
 ghost use mathlib.Core.Path.{_≡_};
 ghost use mathlib.Core.List.{[]};
 ghost use Prim.Native.Nat.{_+_, _<_, _/_, _%_};
-ghost use lib.ListN.{length, getD, set};
+ghost use lib.ListN.{length, getD, take, set};
 ghost use lib.Seq.{sets};
 ghost use Rattle.lines.specs.Fields.{fieldsOf};
 ghost use Rattle.lines.specs.Numbers.{numberOf};
@@ -47,6 +47,16 @@ pub fn field<'a>(line: &'a [u8], index: usize) -> &'a [u8]
     }
     let end = bytes::scan::find(line, at, size, b' ');
     &line[at..end]
+}
+
+// The first bytes of a slice: so many, or all where there are fewer.
+pub fn front<'a>(s: &'a [u8], n: usize) -> &'a [u8]
+    ensures { λ r. ⌜ now r ≡ take n (now (s .entry)) ⌝ }
+{
+    if s.len() <= n {
+        return s;
+    }
+    &s[..n]
 }
 
 // A field as a number: one or more decimal digits, below 2^64.

@@ -1,0 +1,76 @@
+use borrow.Author.Needs.{needs}
+use Prim.Native.Nat.{_≤_, _-_}
+use native.Mathlib.Omega.{arith}
+use lib.ListN.{length}
+use Rattle.console.proofs.answer_lines.Statement.{statement}
+use Rattle.console.proofs.answer_lines.Tie as tie
+use Rattle.console.proofs.answer_lines.Reads as reads
+use Rattle.console.proofs.answer_lines.Lts as lts
+use Rattle.bytes.proofs.scan.find.Reads as find-reads
+use Rattle.console.proofs.answer_line.Reads as answer-line-reads
+use Rattle.console.proofs.keep.Reads as keep-reads
+
+abbrev Inv-loop : tie.InvT-loop
+Inv-loop input held filled packet₀ text₀ start₀ end₀ packet text start end = (start ≤ end) × (end ≤ filled) × (filled ≤ length input)
+
+abbrev μ-loop : tie.MeasureT-loop
+μ-loop input held filled packet₀ text₀ start₀ end₀ packet text start end = filled - end
+
+find-requires : tie.Need-find-requires Inv-loop μ-loop
+find-requires c κs = search needs
+
+loop-holds : tie.Need-loop-holds Inv-loop μ-loop
+loop-holds c = search needs
+
+sub-answer-line : tie.Need-sub-answer-line Inv-loop μ-loop
+sub-answer-line c = search needs
+
+part-answer-line-start : tie.Need-part-answer-line-start Inv-loop μ-loop
+part-answer-line-start c = search needs
+
+part-answer-line-end : tie.Need-part-answer-line-end Inv-loop μ-loop
+part-answer-line-end c = search needs
+
+answer-line-requires : tie.Need-answer-line-requires Inv-loop μ-loop
+answer-line-requires c κs = search needs
+
+add-start : tie.Need-add-start Inv-loop μ-loop
+add-start c = search needs
+
+find-requires-2 : tie.Need-find-requires-2 Inv-loop μ-loop
+find-requires-2 c κs = search needs
+
+loop-less : tie.Need-loop-less Inv-loop μ-loop
+loop-less c = search needs
+
+loop-again : tie.Need-loop-again Inv-loop μ-loop
+loop-again c = search needs
+
+keep-requires : tie.Need-keep-requires Inv-loop μ-loop
+keep-requires c κs = search needs
+
+same-length : tie.Need-same-length Inv-loop μ-loop
+same-length c = search needs
+
+returns : tie.Need-returns Inv-loop μ-loop
+returns c = search needs
+
+pub answer-lines-spec : {M : Type 1} → statement M
+answer-lines-spec =
+    tie.close
+    (tie.spec
+    Inv-loop
+    μ-loop
+    find-requires
+    loop-holds
+    sub-answer-line
+    part-answer-line-start
+    part-answer-line-end
+    answer-line-requires
+    add-start
+    find-requires-2
+    loop-less
+    loop-again
+    keep-requires
+    same-length
+    returns)
