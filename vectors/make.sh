@@ -4,5 +4,5 @@
 set -eu
 here=$(dirname "$0")
 console=$here/../crates/console
-{ python3 "$here/reader.py"; python3 "$here/form.py"; } > "$console/stdin"
+for part in reader txt form; do python3 "$here/$part.py"; done > "$console/stdin"
 "$1" < "$console/stdin" > "$console/stdout"

@@ -2,6 +2,7 @@
 // the answers. A thin layer over the libraries: no rule of paper 01 is here.
 mod calls;
 mod output;
+mod pairs;
 mod reading;
 
 use libc::STDIN_FILENO;
@@ -46,7 +47,7 @@ fn keep(input: &mut [u8], from: usize, filled: usize) -> usize
 }
 
 // Answers a line. An empty line or a comment has no answer.
-fn answer_line(line: &[u8], packet: &mut [u8; 20000], text: &mut [u8; 4096]) {
+fn answer_line(line: &[u8], text: &mut [u8; 4096]) {
     if line.len() == 0 {
         return;
     }
@@ -57,23 +58,17 @@ fn answer_line(line: &[u8], packet: &mut [u8; 20000], text: &mut [u8; 4096]) {
         output::bad_line(text);
         return;
     }
-    calls::call(line, packet, text);
+    calls::call(line, text);
 }
 
 // Answers every whole line of the buffer's first `filled` bytes, of which the first `held` have no LF, and keeps the piece that is left.
-fn answer_lines(
-    input: &mut [u8],
-    held: usize,
-    filled: usize,
-    packet: &mut [u8; 20000],
-    text: &mut [u8; 4096],
-) -> usize
+fn answer_lines(input: &mut [u8], held: usize, filled: usize, text: &mut [u8; 4096]) -> usize
     requires { ⌜ (held ≤ filled) × (filled ≤ length (now input)) ⌝ }
 {
     let mut start = 0;
     let mut end = bytes::scan::find(input, held, filled, b'\n');
     while end < filled {
-        answer_line(&input[start..end], packet, text);
+        answer_line(&input[start..end], text);
         start = end + 1;
         end = bytes::scan::find(input, start, filled, b'\n');
     }
@@ -81,7 +76,7 @@ fn answer_lines(
 }
 
 // Reads and answers until the input ends. Nothing says that it does, so the loop counts its turns down, from a number that no run uses up.
-fn serve(input: &mut [u8], packet: &mut [u8; 20000], text: &mut [u8; 4096]) {
+fn serve(input: &mut [u8], text: &mut [u8; 4096]) {
     let mut held = 0;
     let mut turns = u64::MAX;
     while 0 < turns {
@@ -92,14 +87,13 @@ fn serve(input: &mut [u8], packet: &mut [u8; 20000], text: &mut [u8; 4096]) {
         if filled == held {
             return;
         }
-        held = answer_lines(input, held, filled, packet, text);
+        held = answer_lines(input, held, filled, text);
         turns -= 1;
     }
 }
 
 fn main() {
     let mut input = [0u8; 65536];
-    let mut packet = [0u8; 20000];
     let mut text = [0u8; 4096];
-    serve(&mut input, &mut packet, &mut text);
+    serve(&mut input, &mut text);
 }

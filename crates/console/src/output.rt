@@ -71,10 +71,15 @@ pub fn finish(text: &mut [u8; 4096], used: usize) {
     io::write_all(STDOUT_FILENO, lines::front(text, taken));
 }
 
+// An answer of one word, or of words that are always the same.
+pub fn only(text: &mut [u8; 4096], words: &[u8]) {
+    let used = first(text, words);
+    finish(text, used);
+}
+
 // The answer to a line that is no call, or not of its call's form.
 pub fn bad_line(text: &mut [u8; 4096]) {
-    let used = first(text, b"bad line");
-    finish(text, used);
+    only(text, b"bad line");
 }
 
 // The answer to a call that is refused with paper 01's number.

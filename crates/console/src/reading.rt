@@ -121,15 +121,20 @@ fn shown(p: &[u8], text: &mut [u8; 4096]) {
     }
 }
 
-// `read PACKET`
-pub fn read(line: &[u8], packet: &mut [u8; 20000], text: &mut [u8; 4096]) {
+// Whether a line is of the form `read PACKET`.
+fn is_read(line: &[u8]) -> bool {
     if lines::arguments(line) != 1 {
+        return false;
+    }
+    lines::is_bytes(lines::field(line, 1))
+}
+
+// `read PACKET`
+pub fn read(line: &[u8], text: &mut [u8; 4096]) {
+    if !is_read(line) {
         return bad_line(text);
     }
-    let field = lines::field(line, 1);
-    if !lines::is_bytes(field) {
-        return bad_line(text);
-    }
-    let n = lines::fill(field, packet);
-    shown(lines::front(packet, n), text)
+    let mut packet = [0u8; 20000];
+    let n = lines::fill(lines::field(line, 1), &mut packet);
+    shown(lines::front(&packet, n), text)
 }
