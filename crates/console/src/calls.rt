@@ -1,8 +1,8 @@
 // A call by its first word: each has a function of its own, which reads its fields, calls the library and writes the answer. To add a call, add
 // its function and its test here.
-use crate::output::bad_line;
 use crate::pairs::txt;
 use crate::reading::read;
+use answers::bad_line;
 
 // Answers the call of a line.
 pub fn call(line: &[u8], text: &mut [u8; 4096]) {

@@ -1,7 +1,6 @@
-// The console: one line a call, one line an answer. This file reads the lines of standard input; `calls` answers each at once; `output` writes
-// the answers. A thin layer over the libraries: no rule of paper 01 is here.
+// The console: one line a call, one line an answer. This file reads the lines of standard input; `calls` answers each at once.
+// A thin layer over the libraries: no rule of paper 01 is here.
 mod calls;
-mod output;
 mod pairs;
 mod reading;
 
@@ -55,7 +54,7 @@ fn answer_line(line: &[u8], text: &mut [u8; 4096]) {
         return;
     }
     if MOST_LINE < line.len() {
-        output::bad_line(text);
+        answers::bad_line(text);
         return;
     }
     calls::call(line, text);

@@ -1,12 +1,12 @@
 // The call `txt KEY RECEIVED FACTORY`: what a key says in the received TXT, and in the factory TXT when it is absent there.
-use crate::output::bad_line;
-use crate::output::bytes;
-use crate::output::finish;
-use crate::output::first;
-use crate::output::number;
-use crate::output::only;
-use crate::output::refused;
-use crate::output::word;
+use answers::bad_line;
+use answers::bytes;
+use answers::finish;
+use answers::first;
+use answers::number;
+use answers::only;
+use answers::refused;
+use answers::word;
 
 // The answer `value BUFFER AT VALUE`: the place counts from the first byte of the buffer that held the value.
 fn value(buffer: &[u8], at: usize, part: &[u8], text: &mut [u8; 4096]) {

@@ -1,4 +1,5 @@
-// An answer is gathered in a buffer, of which `used` bytes are taken, and written out where the buffer is full and at the answer's end.
+// The answers of the console. An answer is gathered in a buffer of the caller, of which `used` bytes are taken, and written to standard output
+// where the buffer is full and at the answer's end. What is written no contract can say: these functions are proved safe and ending.
 use libc::STDOUT_FILENO;
 
 const TEXT: usize = 4096;
