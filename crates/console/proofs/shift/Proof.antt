@@ -1,0 +1,58 @@
+use borrow.Author.Needs.{needs}
+use Prim.Native.Nat.{_≤_, _-_, _+_}
+use mathlib.Core.Path.{_≡_, refl}
+use native.Mathlib.Omega.{arith}
+use lib.ListN.{length}
+use Rattle.console.proofs.shift.Statement.{statement}
+use Rattle.console.proofs.shift.Tie as tie
+use Rattle.console.proofs.shift.Reads as reads
+use Rattle.console.proofs.shift.Lts as lts
+
+abbrev Inv-loop : tie.InvT-loop
+Inv-loop input₀ from n i₀ input i = length input ≡ length input₀
+
+abbrev μ-loop : tie.MeasureT-loop
+μ-loop input₀ from n i₀ input i = n - i
+
+loop-holds : tie.Need-loop-holds Inv-loop μ-loop
+loop-holds c = search needs
+
+add-input : tie.Need-add-input Inv-loop μ-loop
+add-input c = search needs
+
+slice-read-input : tie.Need-slice-read-input Inv-loop μ-loop
+slice-read-input c = search needs
+
+slice-write-input : tie.Need-slice-write-input Inv-loop μ-loop
+slice-write-input c = search needs
+
+add-i : tie.Need-add-i Inv-loop μ-loop
+add-i c = search needs
+
+loop-less : tie.Need-loop-less Inv-loop μ-loop
+loop-less c = search needs
+
+loop-again : tie.Need-loop-again Inv-loop μ-loop
+loop-again c = search needs
+
+same-length : tie.Need-same-length Inv-loop μ-loop
+same-length c = search needs
+
+returns : tie.Need-returns Inv-loop μ-loop
+returns c = search needs
+
+pub shift-spec : {M : Type 1} → statement M
+shift-spec =
+    tie.close
+    (tie.spec
+    Inv-loop
+    μ-loop
+    loop-holds
+    add-input
+    slice-read-input
+    slice-write-input
+    add-i
+    loop-less
+    loop-again
+    same-length
+    returns)

@@ -1,0 +1,98 @@
+// The console: one line a call, one line an answer. This file reads the lines of standard input; `calls` answers each at once.
+// A thin layer over the libraries: no rule of paper 01 is here.
+mod calls;
+mod pairs;
+mod reading;
+
+use libc::STDIN_FILENO;
+ghost use Prim.Native.Nat.{_+_, _≤_};
+ghost use lib.ListN.{length};
+
+// The most bytes that a line has, its LF not counted.
+const MOST_LINE: usize = 40000;
+
+// Reads once into what is free of the buffer, of which `held` bytes are taken, and tells how many are taken then: no more at the input's end.
+fn refill(input: &mut [u8], held: usize) -> usize
+    requires { ⌜ held ≤ length (now input) ⌝ }
+    ensures { λ r. ⌜ (held ≤ r) × (r ≤ length (now (input .exit))) ⌝ }
+{
+    let got = libc::read(STDIN_FILENO, &mut input[held..]);
+    held + io::count(got, &input[held..])
+}
+
+// Moves `n` bytes from an offset to the start of the buffer.
+fn shift(input: &mut [u8], from: usize, n: usize)
+    requires { ⌜ from + n ≤ length (now input) ⌝ }
+{
+    let mut i = 0;
+    while i < n {
+        input[i] = input[from + i];
+        i += 1;
+    }
+}
+
+// Keeps the piece of a line that starts at an offset, and tells how long it is. Of a line that is too long one byte more than the most is kept: it
+// stays too long.
+fn keep(input: &mut [u8], from: usize, filled: usize) -> usize
+    requires { ⌜ (from ≤ filled) × (filled ≤ length (now input)) ⌝ }
+{
+    let n = filled - from;
+    if MOST_LINE < n {
+        shift(input, from, MOST_LINE + 1);
+        return MOST_LINE + 1;
+    }
+    shift(input, from, n);
+    n
+}
+
+// Answers a line. An empty line or a comment has no answer.
+fn answer_line(line: &[u8], text: &mut [u8; 4096]) {
+    if line.len() == 0 {
+        return;
+    }
+    if line[0] == b'#' {
+        return;
+    }
+    if MOST_LINE < line.len() {
+        answers::bad_line(text);
+        return;
+    }
+    calls::call(line, text);
+}
+
+// Answers every whole line of the buffer's first `filled` bytes, of which the first `held` have no LF, and keeps the piece that is left.
+fn answer_lines(input: &mut [u8], held: usize, filled: usize, text: &mut [u8; 4096]) -> usize
+    requires { ⌜ (held ≤ filled) × (filled ≤ length (now input)) ⌝ }
+{
+    let mut start = 0;
+    let mut end = bytes::scan::find(input, held, filled, b'\n');
+    while end < filled {
+        answer_line(&input[start..end], text);
+        start = end + 1;
+        end = bytes::scan::find(input, start, filled, b'\n');
+    }
+    keep(input, start, filled)
+}
+
+// Reads and answers until the input ends. Nothing says that it does, so the loop counts its turns down, from a number that no run uses up.
+fn serve(input: &mut [u8], text: &mut [u8; 4096]) {
+    let mut held = 0;
+    let mut turns = u64::MAX;
+    while 0 < turns {
+        if input.len() < held {
+            return;
+        }
+        let filled = refill(input, held);
+        if filled == held {
+            return;
+        }
+        held = answer_lines(input, held, filled, text);
+        turns -= 1;
+    }
+}
+
+fn main() {
+    let mut input = [0u8; 65536];
+    let mut text = [0u8; 4096];
+    serve(&mut input, &mut text);
+}
