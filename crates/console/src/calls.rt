@@ -2,7 +2,7 @@
 // its function and its test here.
 use crate::pairs::txt;
 use crate::reading::read;
-use answers::bad_line;
+use output::bad_line;
 
 // Answers the call of a line.
 pub fn call(line: &[u8], text: &mut [u8; 4096]) {

@@ -54,7 +54,7 @@ fn answer_line(line: &[u8], text: &mut [u8; 4096]) {
         return;
     }
     if MOST_LINE < line.len() {
-        answers::bad_line(text);
+        output::bad_line(text);
         return;
     }
     calls::call(line, text);

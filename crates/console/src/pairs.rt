@@ -1,12 +1,12 @@
 // The call `txt KEY RECEIVED FACTORY`: what a key says in the received TXT, and in the factory TXT when it is absent there.
-use answers::bad_line;
-use answers::bytes;
-use answers::finish;
-use answers::first;
-use answers::number;
-use answers::only;
-use answers::refused;
-use answers::word;
+use output::bad_line;
+use output::bytes;
+use output::finish;
+use output::first;
+use output::number;
+use output::only;
+use output::refused;
+use output::word;
 
 // The answer `value BUFFER AT VALUE`: the place counts from the first byte of the buffer that held the value.
 fn value(buffer: &[u8], at: usize, part: &[u8], text: &mut [u8; 4096]) {

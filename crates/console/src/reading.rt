@@ -1,11 +1,11 @@
 // The call `read PACKET`: what a message says, question by question and record by record.
-use answers::bad_line;
-use answers::bytes;
-use answers::finish;
-use answers::first;
-use answers::number;
-use answers::refused;
-use answers::word;
+use output::bad_line;
+use output::bytes;
+use output::finish;
+use output::first;
+use output::number;
+use output::refused;
+use output::word;
 
 // Adds the name at an offset of a packet, uncompressed.
 fn name(p: &[u8], at: usize, text: &mut [u8; 4096], used: usize) -> usize {

@@ -2,12 +2,12 @@ use borrow.Author.Needs.{needs}
 use Prim.Native.Nat.{_≤_, _-_}
 use native.Mathlib.Omega.{arith}
 use lib.ListN.{length}
-use Rattle.answers.proofs.bytes.Statement.{statement}
-use Rattle.answers.proofs.bytes.Tie as tie
-use Rattle.answers.proofs.bytes.Reads as reads
-use Rattle.answers.proofs.bytes.Lts as lts
-use Rattle.answers.proofs.byte.Reads as byte-reads
-use Rattle.answers.proofs.spelled.Reads as spelled-reads
+use Rattle.output.proofs.bytes.Statement.{statement}
+use Rattle.output.proofs.bytes.Tie as tie
+use Rattle.output.proofs.bytes.Reads as reads
+use Rattle.output.proofs.bytes.Lts as lts
+use Rattle.output.proofs.byte.Reads as byte-reads
+use Rattle.output.proofs.spelled.Reads as spelled-reads
 
 abbrev Inv-loop : tie.InvT-loop
 Inv-loop text₀ used s taken₀ at₀ text taken at = at ≤ length s

@@ -2,11 +2,11 @@ use borrow.Author.Needs.{needs}
 use Prim.Native.Nat.{_≤_, _-_}
 use native.Mathlib.Omega.{arith}
 use lib.ListN.{length}
-use Rattle.answers.proofs.plain.Statement.{statement}
-use Rattle.answers.proofs.plain.Tie as tie
-use Rattle.answers.proofs.plain.Reads as reads
-use Rattle.answers.proofs.plain.Lts as lts
-use Rattle.answers.proofs.byte.Reads as byte-reads
+use Rattle.output.proofs.plain.Statement.{statement}
+use Rattle.output.proofs.plain.Tie as tie
+use Rattle.output.proofs.plain.Reads as reads
+use Rattle.output.proofs.plain.Lts as lts
+use Rattle.output.proofs.byte.Reads as byte-reads
 
 abbrev Inv-loop : tie.InvT-loop
 Inv-loop text₀ used s taken₀ i₀ text taken i = Unit {0}
