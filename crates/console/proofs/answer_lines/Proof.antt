@@ -1,14 +1,8 @@
 use borrow.Author.Needs.{needs}
 use Prim.Native.Nat.{_≤_, _-_}
-use native.Mathlib.Omega.{arith}
 use lib.ListN.{length}
 use Rattle.console.proofs.answer_lines.Statement.{statement}
 use Rattle.console.proofs.answer_lines.Tie as tie
-use Rattle.console.proofs.answer_lines.Reads as reads
-use Rattle.console.proofs.answer_lines.Lts as lts
-use Rattle.bytes.proofs.scan.find.Reads as find-reads
-use Rattle.console.proofs.answer_line.Reads as answer-line-reads
-use Rattle.console.proofs.keep.Reads as keep-reads
 
 abbrev Inv-loop : tie.InvT-loop
 Inv-loop input held filled text₀ start₀ end₀ text start end = (start ≤ end) × (end ≤ filled) × (filled ≤ length input)

@@ -1,13 +1,8 @@
 use borrow.Author.Needs.{needs}
 use mathlib.Core.Path.{_≡_}
-use native.Mathlib.Omega.{arith}
 use lib.ListN.{length}
 use Rattle.console.proofs.serve.Statement.{statement}
 use Rattle.console.proofs.serve.Tie as tie
-use Rattle.console.proofs.serve.Reads as reads
-use Rattle.console.proofs.serve.Lts as lts
-use Rattle.console.proofs.answer_lines.Reads as answer-lines-reads
-use Rattle.console.proofs.refill.Reads as refill-reads
 
 abbrev Inv-loop : tie.InvT-loop
 Inv-loop input₀ text₀ held₀ turns₀ input text held turns = length input ≡ length input₀
