@@ -39,5 +39,5 @@ def filled(n):
     return name(*parts)
 
 
-DOCK = name(b"dock", b"local")
-ANNOUNCED = header(an=1) + record(DOCK, A, bytes([10, 0, 0, 7]), cls=0x8001)
+HOST = name(b"dock", b"local")
+ANNOUNCED = header(an=1) + record(HOST, A, bytes([10, 0, 0, 7]), cls=0x8001)

@@ -23,7 +23,7 @@ assert len(ANNOUNCED) == 38
 read(ANNOUNCED)
 
 show("01's probe of dock.local: 44 bytes, the owner of the Authority record is a pointer")
-probe = header(qd=1, ns=1, flags=0) + question(DOCK) + record(pointer(12), A, bytes([10, 0, 0, 7]))
+probe = header(qd=1, ns=1, flags=0) + question(HOST) + record(pointer(12), A, bytes([10, 0, 0, 7]))
 assert len(probe) == 44
 read(probe)
 
@@ -131,17 +131,17 @@ show("no questions, no records: ID and flags alone")
 read(header(ident=0xBEEF, flags=0x8580))
 
 show("one of each section, in order")
-read(header(1, 1, 1, 1) + question(DOCK, A, 0x8001) + record(pointer(12), A, bytes([1, 2, 3, 4]))
+read(header(1, 1, 1, 1) + question(HOST, A, 0x8001) + record(pointer(12), A, bytes([1, 2, 3, 4]))
      + record(pointer(12), AAAA, bytes(range(16))) + record(pointer(12), TXT, b"\x01a", cls=0x8001))
 
 show("counts larger than the message, section by section")
-body = question(DOCK) + record(pointer(12), A, bytes(4)) * 3
+body = question(HOST) + record(pointer(12), A, bytes(4)) * 3
 for counts in ((1, 1, 1, 1), (2, 1, 1, 1), (1, 2, 1, 1), (1, 1, 2, 1), (1, 1, 1, 2), (65535, 1, 1, 1), (1, 65535, 0, 0), (0, 0, 0, 1)):
     read(header(*counts) + body)
 
 show("counts smaller than what follows: the rest is ignored")
 read(header(1, 1, 0, 0) + body)
-read(header(1, 0, 0, 0) + question(DOCK) + b"\xc0")
+read(header(1, 0, 0, 0) + question(HOST) + b"\xc0")
 
 show("bytes after the last record, whatever they are")
 read(ANNOUNCED + b"\xff")
@@ -149,9 +149,9 @@ read(ANNOUNCED + b"\x40" * 9)
 
 show("a header cut short, field by field of a question and of a record")
 for cut in (1, 2, 3, 4):
-    read(header(qd=1) + question(DOCK)[:-cut])
+    read(header(qd=1) + question(HOST)[:-cut])
 for cut in range(1, 15):
-    read(header(an=1) + record(DOCK, A, bytes(4))[:-cut])
+    read(header(an=1) + record(HOST, A, bytes(4))[:-cut])
 
 # --- rdata ------------------------------------------------------------------------------------------------------------
 
@@ -159,60 +159,60 @@ show("A of 3, 4 and 5 bytes in every section and class: 4 alone is well formed")
 for section in ((0, 1, 0, 0), (0, 0, 1, 0), (0, 0, 0, 1)):
     for cls in (1, 0x8001, 3, 255, 0, 65535):
         for n in (3, 4, 5):
-            read(header(*section) + record(DOCK, A, bytes(n), cls=cls))
+            read(header(*section) + record(HOST, A, bytes(n), cls=cls))
 
 show("AAAA of 15, 16 and 17 bytes, A and AAAA of none")
 for n in (15, 16, 17):
-    read(header(an=1) + record(DOCK, AAAA, bytes(n)))
-read(header(an=1) + record(DOCK, AAAA, b""))
-read(header(an=1) + record(DOCK, A, b""))
+    read(header(an=1) + record(HOST, AAAA, bytes(n)))
+read(header(an=1) + record(HOST, AAAA, b""))
+read(header(an=1) + record(HOST, A, b""))
 
 show("PTR: one name that ends at the rdata's end; the pointer in it is expanded")
-read(header(an=1) + record(DOCK, PTR, name(b"Booth", b"local")))
-read(header(an=1) + record(DOCK, PTR, labels(b"Booth") + pointer(17)))
-read(header(an=1) + record(DOCK, PTR, pointer(12)))
-read(header(an=1) + record(DOCK, PTR, b"\0"))
+read(header(an=1) + record(HOST, PTR, name(b"Booth", b"local")))
+read(header(an=1) + record(HOST, PTR, labels(b"Booth") + pointer(17)))
+read(header(an=1) + record(HOST, PTR, pointer(12)))
+read(header(an=1) + record(HOST, PTR, b"\0"))
 
 show("PTR: a byte too many, a byte too few, none, two names, a pointer to itself")
-read(header(an=1) + record(DOCK, PTR, pointer(12) + b"\0"))
-read(header(an=1) + record(DOCK, PTR, name(b"a"), length=2) + b"\0\0")
-read(header(an=1) + record(DOCK, PTR, b""))
-read(header(an=1) + record(DOCK, PTR, name(b"a") + name(b"b")))
-read(header(an=1) + record(DOCK, PTR, pointer(34)))
+read(header(an=1) + record(HOST, PTR, pointer(12) + b"\0"))
+read(header(an=1) + record(HOST, PTR, name(b"a"), length=2) + b"\0\0")
+read(header(an=1) + record(HOST, PTR, b""))
+read(header(an=1) + record(HOST, PTR, name(b"a") + name(b"b")))
+read(header(an=1) + record(HOST, PTR, pointer(34)))
 
 show("SRV: six bytes and one name that ends at the rdata's end, the pointer expanded and the case kept")
 six = bytes([0, 1, 0, 2, 0x0F, 0xA0])
-read(header(an=1) + record(DOCK, SRV, six + name(b"Dock", b"Local")))
-read(header(an=1) + record(DOCK, SRV, six + labels(b"other") + pointer(17)))
-read(header(an=1) + record(DOCK, SRV, six + b"\0"))
+read(header(an=1) + record(HOST, SRV, six + name(b"Dock", b"Local")))
+read(header(an=1) + record(HOST, SRV, six + labels(b"other") + pointer(17)))
+read(header(an=1) + record(HOST, SRV, six + b"\0"))
 
 show("SRV: 0, 5, 6 bytes, a byte too many, a name that runs past the rdata")
-read(header(an=1) + record(DOCK, SRV, b""))
-read(header(an=1) + record(DOCK, SRV, six[:5]))
-read(header(an=1) + record(DOCK, SRV, six))
-read(header(an=1) + record(DOCK, SRV, six + b"\0\0"))
-read(header(an=1) + record(DOCK, SRV, six + name(b"a"), length=8) + b"\0\0")
+read(header(an=1) + record(HOST, SRV, b""))
+read(header(an=1) + record(HOST, SRV, six[:5]))
+read(header(an=1) + record(HOST, SRV, six))
+read(header(an=1) + record(HOST, SRV, six + b"\0\0"))
+read(header(an=1) + record(HOST, SRV, six + name(b"a"), length=8) + b"\0\0")
 
 show("TXT: strings that fill the rdata, none, an empty string, 255 bytes")
 for d in (b"", b"\0", b"\x03a=b\0\x01c", b"\xff" + b"x" * 255):
-    read(header(an=1) + record(DOCK, TXT, d))
+    read(header(an=1) + record(HOST, TXT, d))
 
 show("TXT: a string that overruns by one, a length byte at the end")
 for d in (b"\x01", b"\x03ab", b"\x01a\x01", b"\xff" + b"x" * 254):
-    read(header(an=1) + record(DOCK, TXT, d))
+    read(header(an=1) + record(HOST, TXT, d))
 
 show("other types are stepped over, whatever their rdata; names in it stay as they are")
 for rtype in (0, 2, 5, 15, 41, 47, 255, 65535):
-    read(header(an=1) + record(DOCK, rtype, pointer(12) + b"\x40"))
-    read(header(an=1) + record(DOCK, rtype, b""))
+    read(header(an=1) + record(HOST, rtype, pointer(12) + b"\x40"))
+    read(header(an=1) + record(HOST, rtype, b""))
 
 show("rdata that runs past the message by one byte, and by 65,535")
-read(header(an=1) + record(DOCK, 47, b"abc", length=4))
-read(header(an=1) + record(DOCK, 47, b"abc", length=65535))
+read(header(an=1) + record(HOST, 47, b"abc", length=4))
+read(header(an=1) + record(HOST, 47, b"abc", length=65535))
 
 show("a TTL with its top bit set counts as 0")
 for ttl in (0, 1, 4500, 0x7FFFFFFF, 0x80000000, 0x80000078, 0xFFFFFFFF):
-    read(header(an=1) + record(DOCK, A, bytes(4), ttl=ttl))
+    read(header(an=1) + record(HOST, A, bytes(4), ttl=ttl))
 
 # --- refusals 4 and 5, and their order --------------------------------------------------------------------------------
 

@@ -35,6 +35,7 @@ fn shift(input: &mut [u8], from: usize, n: usize)
 // stays too long.
 fn keep(input: &mut [u8], from: usize, filled: usize) -> usize
     requires { ⌜ (from ≤ filled) × (filled ≤ length (now input)) ⌝ }
+    ensures { λ r. ⌜ r ≤ length (now (input .exit)) ⌝ }
 {
     let n = filled - from;
     if MOST_LINE < n {
@@ -60,34 +61,29 @@ fn answer_line(line: &[u8], text: &mut [u8; 4096]) {
     calls::call(line, text);
 }
 
-// Answers every whole line of the buffer's first `filled` bytes, of which the first `held` have no LF, and keeps the piece that is left.
-fn answer_lines(input: &mut [u8], held: usize, filled: usize, text: &mut [u8; 4096]) -> usize
-    requires { ⌜ (held ≤ filled) × (filled ≤ length (now input)) ⌝ }
-{
-    let mut start = 0;
-    let mut end = bytes::scan::find(input, held, filled, b'\n');
-    while end < filled {
-        answer_line(&input[start..end], text);
-        start = end + 1;
-        end = bytes::scan::find(input, start, filled, b'\n');
-    }
-    keep(input, start, filled)
-}
-
-// Reads and answers until the input ends. Nothing says that it does, so the loop counts its turns down, from a number that no run uses up.
+// Reads and answers line by line until the input ends. Of the buffer's first `filled` bytes the line begins at `start`, and no LF stands before
+// `seen`. Nothing says that the input ends, so the loop counts its turns down, from a number of lines and reads that no run uses up.
 fn serve(input: &mut [u8], text: &mut [u8; 4096]) {
-    let mut held = 0;
+    let mut start = 0;
+    let mut seen = 0;
+    let mut filled = 0;
     let mut turns = u64::MAX;
     while 0 < turns {
-        if input.len() < held {
-            return;
-        }
-        let filled = refill(input, held);
-        if filled == held {
-            return;
-        }
-        held = answer_lines(input, held, filled, text);
         turns -= 1;
+        let end = bytes::scan::find(input, seen, filled, b'\n');
+        if end < filled {
+            answer_line(&input[start..end], text);
+            start = end + 1;
+            seen = start;
+        } else {
+            let held = keep(input, start, filled);
+            start = 0;
+            seen = held;
+            filled = refill(input, held);
+            if filled == held {
+                return;
+            }
+        }
     }
 }
 

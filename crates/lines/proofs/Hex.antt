@@ -1,8 +1,7 @@
 -- The value of a hex digit, range by range. Assumes nothing.
-use mathlib.Core.Path.{_≡_, sym, _∙_}
+use mathlib.Core.Path.{_≡_}
 use Prim.Native.Nat.{ℕ, _+_, _-_, _≤_, _<_}
 use native.Mathlib.Omega.{arith}
-use Rattle.lines.specs.Numbers.{isDigit}
 use Rattle.lines.specs.Bytes.{hexValue}
 use Rattle.lines.proofs.Ranges.{inside, below, above}
 

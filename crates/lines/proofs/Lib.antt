@@ -6,3 +6,4 @@ mod Digits
 mod Pairs
 mod Filled
 mod Spelled
+pub mod Back

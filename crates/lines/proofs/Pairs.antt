@@ -1,15 +1,15 @@
 -- Bytes, two digits at a time. Assumes nothing.
 use mathlib.Core.Path.{_≡_, refl, sym, ap, _∙_}
 use mathlib.Core.List.{List, [], _∷_}
-use mathlib.Core.Bool.{Bool, true, false, cond, _&&_, _||_}
-use Prim.Native.Nat.{ℕ, zero, suc, _+_, _-_, _*_, _%_, _≤_, _<_}
+use mathlib.Core.Bool.{Bool, true, false, _&&_, _||_}
+use Prim.Native.Nat.{ℕ, suc, _+_, _-_, _≤_, _<_}
 use native.Mathlib.Omega.{arith}
 use native.Mathlib.Numerals.{add-one}
-use lib.ListN.{length, getD, take, drop, set, length-drop, drop-of-length-le}
-use lib.Seq.{drop-cons, drop-drop, sets, take-all}
+use lib.ListN.{length, getD, drop, drop-of-length-le}
+use lib.Seq.{drop-cons}
 use lib.Dec.{ltb, eqb}
-use borrow.Author.Tests.{lt-ltb, le-ltb, eq-eqb, ne-eqb}
-use Rattle.lines.specs.Bytes.{hexValue, isHex, byteOf, bytesOf, allPairs, isDash, isBytes}
+use borrow.Author.Tests.{lt-ltb, le-ltb, ne-eqb}
+use Rattle.lines.specs.Bytes.{hexValue, isHex, allPairs, isBytes}
 
 -- the list from an offset on, where two more elements stand there
 pub two : (l : List ℕ) (at : ℕ) → at + 1 < length l → drop at l ≡ getD l at 0 ∷ (getD l (at + 1) 0 ∷ drop (at + 2) l)

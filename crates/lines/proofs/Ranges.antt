@@ -1,11 +1,10 @@
 -- Tests that a byte lies in a range. Assumes nothing.
 use mathlib.Core.Path.{_≡_}
-use mathlib.Core.Bool.{Bool, true, false, _&&_}
+use mathlib.Core.Bool.{true, false, _&&_}
 use Prim.Native.Nat.{ℕ, _≤_, _<_}
 use native.Mathlib.Omega.{arith}
 use lib.Dec.{leb}
 use borrow.Author.Tests.{le-leb, lt-leb}
-use native.Mathlib.Nat.{le-trans, le-of-lt}
 
 module _ (low high b : ℕ) where
   pub inside : low ≤ b → b ≤ high → (leb low b && leb b high) ≡ true

@@ -91,7 +91,7 @@ pub fn number(s: &[u8]) -> Decimal
 }
 
 // The value of a hex digit, either case; 16 for a byte that is none.
-pub fn hex_value(b: u8) -> u8
+fn hex_value(b: u8) -> u8
     ensures { λ r. ⌜ r ≡ hexValue b ⌝ }
 {
     match b {

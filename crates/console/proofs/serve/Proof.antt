@@ -1,67 +1,69 @@
 use borrow.Author.Needs.{needs}
 use mathlib.Core.Path.{_≡_}
-use native.Mathlib.Omega.{arith}
+use Prim.Native.Nat.{_≤_}
 use lib.ListN.{length}
 use Rattle.console.proofs.serve.Statement.{statement}
 use Rattle.console.proofs.serve.Tie as tie
-use Rattle.console.proofs.serve.Reads as reads
-use Rattle.console.proofs.serve.Lts as lts
-use Rattle.console.proofs.answer_lines.Reads as answer-lines-reads
-use Rattle.console.proofs.refill.Reads as refill-reads
 
 abbrev Inv-loop : tie.InvT-loop
-Inv-loop input₀ text₀ held₀ turns₀ input text held turns = length input ≡ length input₀
+Inv-loop input₀ text₀ start₀ seen₀ filled₀ turns₀ input text start seen filled turns = (length input ≡ length input₀) × (start ≤ seen) × (seen ≤ filled) × (filled ≤ length input)
 
 abbrev μ-loop : tie.MeasureT-loop
-μ-loop input₀ text₀ held₀ turns₀ input text held turns = turns
+μ-loop input₀ text₀ start₀ seen₀ filled₀ turns₀ input text start seen filled turns = turns
 
--- src/main.rt:82:5
 loop-holds : tie.Need-loop-holds Inv-loop μ-loop
 loop-holds c = search needs
 
--- src/main.rt:84:13
-same-length : tie.Need-same-length Inv-loop μ-loop
-same-length c = search needs
-
--- src/main.rt:84:13
-returns : tie.Need-returns Inv-loop μ-loop
-returns c = search needs
-
--- src/main.rt:86:13
-refill-requires : tie.Need-refill-requires Inv-loop μ-loop
-refill-requires c κs = search needs
-
--- src/main.rt:88:13
-same-length-2 : tie.Need-same-length-2 Inv-loop μ-loop
-same-length-2 c = search needs
-
--- src/main.rt:88:13
-returns-2 : tie.Need-returns-2 Inv-loop μ-loop
-returns-2 c = search needs
-
--- src/main.rt:90:9
-answer-lines-requires : tie.Need-answer-lines-requires Inv-loop μ-loop
-answer-lines-requires c κs = search needs
-
--- src/main.rt:91:9
 sub-turns : tie.Need-sub-turns Inv-loop μ-loop
 sub-turns c = search needs
 
--- src/main.rt:82:5
+find-requires : tie.Need-find-requires Inv-loop μ-loop
+find-requires c κs = search needs
+
+sub-answer-line : tie.Need-sub-answer-line Inv-loop μ-loop
+sub-answer-line c = search needs
+
+part-answer-line-start : tie.Need-part-answer-line-start Inv-loop μ-loop
+part-answer-line-start c = search needs
+
+part-answer-line-end : tie.Need-part-answer-line-end Inv-loop μ-loop
+part-answer-line-end c = search needs
+
+answer-line-requires : tie.Need-answer-line-requires Inv-loop μ-loop
+answer-line-requires c κs = search needs
+
+add-start : tie.Need-add-start Inv-loop μ-loop
+add-start c = search needs
+
 loop-less : tie.Need-loop-less Inv-loop μ-loop
 loop-less c = search needs
 
--- src/main.rt:82:5
 loop-again : tie.Need-loop-again Inv-loop μ-loop
 loop-again c = search needs
 
--- src/main.rt:79:1
-same-length-3 : tie.Need-same-length-3 Inv-loop μ-loop
-same-length-3 c = search needs
+keep-requires : tie.Need-keep-requires Inv-loop μ-loop
+keep-requires c κs = search needs
 
--- src/main.rt:79:1
-returns-3 : tie.Need-returns-3 Inv-loop μ-loop
-returns-3 c = search needs
+refill-requires : tie.Need-refill-requires Inv-loop μ-loop
+refill-requires c κs = search needs
+
+same-length : tie.Need-same-length Inv-loop μ-loop
+same-length c = search needs
+
+returns : tie.Need-returns Inv-loop μ-loop
+returns c = search needs
+
+loop-less-2 : tie.Need-loop-less-2 Inv-loop μ-loop
+loop-less-2 c = search needs
+
+loop-again-2 : tie.Need-loop-again-2 Inv-loop μ-loop
+loop-again-2 c = search needs
+
+same-length-2 : tie.Need-same-length-2 Inv-loop μ-loop
+same-length-2 c = search needs
+
+returns-2 : tie.Need-returns-2 Inv-loop μ-loop
+returns-2 c = search needs
 
 pub serve-spec : {M : Type 1} → statement M
 serve-spec =
@@ -70,14 +72,20 @@ serve-spec =
     Inv-loop
     μ-loop
     loop-holds
-    same-length
-    returns
-    refill-requires
-    same-length-2
-    returns-2
-    answer-lines-requires
     sub-turns
+    find-requires
+    sub-answer-line
+    part-answer-line-start
+    part-answer-line-end
+    answer-line-requires
+    add-start
     loop-less
     loop-again
-    same-length-3
-    returns-3)
+    keep-requires
+    refill-requires
+    same-length
+    returns
+    loop-less-2
+    loop-again-2
+    same-length-2
+    returns-2)

@@ -1,12 +1,9 @@
 use borrow.Author.Needs.{needs}
-use Prim.Native.Nat.{_≤_, _-_, _+_}
-use mathlib.Core.Path.{_≡_, refl}
-use native.Mathlib.Omega.{arith}
+use Prim.Native.Nat.{_-_}
+use mathlib.Core.Path.{_≡_}
 use lib.ListN.{length}
 use Rattle.console.proofs.shift.Statement.{statement}
 use Rattle.console.proofs.shift.Tie as tie
-use Rattle.console.proofs.shift.Reads as reads
-use Rattle.console.proofs.shift.Lts as lts
 
 abbrev Inv-loop : tie.InvT-loop
 Inv-loop input₀ from n i₀ input i = length input ≡ length input₀

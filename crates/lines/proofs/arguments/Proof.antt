@@ -1,16 +1,13 @@
 use mathlib.Core.Logic.{⊎-elim}
 use Rattle.lines.proofs.Split.{count-space, count-other, count-end}
 use borrow.Author.Needs.{needs}
-use mathlib.Core.Path.{_≡_, refl, sym, ap, _∙_}
-use mathlib.Core.List.{List, []}
+use mathlib.Core.Path.{_≡_}
 use Prim.Native.Nat.{_≤_, _-_, _+_}
 use native.Mathlib.Omega.{arith}
-use lib.ListN.{length, drop, getD}
+use lib.ListN.{length, drop}
 use Rattle.lines.specs.Fields.{fieldsOf}
 use Rattle.lines.proofs.arguments.Statement.{statement}
 use Rattle.lines.proofs.arguments.Tie as tie
-use Rattle.lines.proofs.arguments.Reads as reads
-use Rattle.lines.proofs.arguments.Lts as lts
 
 abbrev Inv-loop : tie.InvT-loop
 Inv-loop line spaces₀ i₀ spaces i = (i ≤ length line) × (spaces ≤ i) × (spaces + length (fieldsOf (drop i line)) ≡ length (fieldsOf line))

@@ -1,17 +1,14 @@
 use lib.Seq.{drop-length, take-nil}
 use Rattle.lines.proofs.Split.{this-field, next-field, no-more}
 use borrow.Author.Needs.{needs}
-use mathlib.Core.Path.{_≡_, refl, sym, ap, _∙_}
-use mathlib.Core.List.{List, []}
-use Prim.Native.Nat.{_≤_, _-_, _+_}
+use mathlib.Core.Path.{_≡_, refl, sym, _∙_}
+use mathlib.Core.List.{[]}
+use Prim.Native.Nat.{_≤_}
 use native.Mathlib.Omega.{arith}
 use lib.ListN.{length, drop, getD}
 use Rattle.lines.specs.Fields.{fieldsOf}
 use Rattle.lines.proofs.field.Statement.{statement}
 use Rattle.lines.proofs.field.Tie as tie
-use Rattle.lines.proofs.field.Reads as reads
-use Rattle.lines.proofs.field.Lts as lts
-use Rattle.bytes.proofs.scan.find.Reads as find-reads
 
 abbrev Inv-loop : tie.InvT-loop
 Inv-loop line index size at₀ left₀ at left = (size ≡ length line) × (at ≤ length line) × (getD (fieldsOf line) index [] ≡ getD (fieldsOf (drop at line)) left [])

@@ -1,16 +1,12 @@
 use lib.Seq.{length-sets}
 use borrow.Author.Needs.{needs}
-use mathlib.Core.Path.{_≡_, refl, sym, ap, _∙_}
-use Prim.Native.Nat.{_≤_, _<_, _-_, _+_}
+use mathlib.Core.Path.{ap, _∙_}
+use Prim.Native.Nat.{_-_}
 use native.Mathlib.Omega.{arith}
-use lib.ListN.{length, drop, getD}
-use Rattle.lines.proofs.Filled.{Upto, begins, joined, one-more, all-count, all-bytes}
+use lib.ListN.{length}
+use Rattle.lines.proofs.Filled.{Upto, joined, one-more, all-count, all-bytes}
 use Rattle.lines.proofs.fill.Statement.{statement}
 use Rattle.lines.proofs.fill.Tie as tie
-use Rattle.lines.proofs.fill.Reads as reads
-use Rattle.lines.proofs.fill.Lts as lts
-use Rattle.lines.proofs.hex_value.Reads as hex-value-reads
-use Rattle.lines.proofs.put.Reads as put-reads
 
 abbrev Inv-loop : tie.InvT-loop
 Inv-loop s out₀ at₀ n₀ out at n = Upto s out₀ out at n

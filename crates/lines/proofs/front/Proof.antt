@@ -4,8 +4,6 @@ use lib.Seq.{take-all, length-take-le}
 use borrow.Author.Needs.{needs}
 use Rattle.lines.proofs.front.Statement.{statement}
 use Rattle.lines.proofs.front.Tie as tie
-use Rattle.lines.proofs.front.Reads as reads
-use Rattle.lines.proofs.front.Lts as lts
 
 returns : tie.Need-returns
 returns c = sym (take-all (c .before .args .n) (c .before .args .s .now) (c .if1 .taken))

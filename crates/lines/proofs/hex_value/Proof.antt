@@ -3,8 +3,6 @@ use Rattle.lines.proofs.Hex.{hex-decimal, hex-capital, hex-small, hex-u
 use borrow.Author.Needs.{needs}
 use Rattle.lines.proofs.hex_value.Statement.{statement}
 use Rattle.lines.proofs.hex_value.Tie as tie
-use Rattle.lines.proofs.hex_value.Reads as reads
-use Rattle.lines.proofs.hex_value.Lts as lts
 
 add-result : tie.Need-add-result
 add-result c = search needs

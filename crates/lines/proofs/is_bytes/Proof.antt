@@ -1,15 +1,12 @@
 use borrow.Author.Needs.{needs}
-use mathlib.Core.Path.{_≡_, refl, sym, ap, _∙_}
-use Prim.Native.Nat.{_≤_, _<_, _-_, _+_}
+use mathlib.Core.Path.{_≡_}
+use Prim.Native.Nat.{_≤_, _-_}
 use native.Mathlib.Omega.{arith}
-use lib.ListN.{length, drop, getD}
+use lib.ListN.{length, drop}
 use Rattle.lines.specs.Bytes.{isBytes, allPairs}
 use Rattle.lines.proofs.Pairs.{bytes-none, bytes-one, bytes-more, pairs-end, pairs-odd, pairs-first, pairs-second, pairs-both}
 use Rattle.lines.proofs.is_bytes.Statement.{statement}
 use Rattle.lines.proofs.is_bytes.Tie as tie
-use Rattle.lines.proofs.is_bytes.Reads as reads
-use Rattle.lines.proofs.is_bytes.Lts as lts
-use Rattle.lines.proofs.hex_value.Reads as hex-value-reads
 
 abbrev Inv-loop : tie.InvT-loop
 Inv-loop s at₀ at = (at ≤ length s) × (isBytes s ≡ allPairs (drop at s))

@@ -1,14 +1,12 @@
 use borrow.Author.Needs.{needs}
-use mathlib.Core.Path.{_≡_, refl, sym, ap, _∙_}
-use Prim.Native.Nat.{_≤_, _<_, _-_, _+_}
+use mathlib.Core.Path.{_≡_}
+use Prim.Native.Nat.{_≤_, _<_, _-_}
 use native.Mathlib.Omega.{arith}
-use lib.ListN.{length, drop, getD}
+use lib.ListN.{length, drop}
 use Rattle.lines.specs.Numbers.{numberOf, numberFrom}
 use Rattle.lines.proofs.Digits.{number-none, number-some, number-end, number-low, number-high, number-digit, number-over}
 use Rattle.lines.proofs.number.Statement.{statement}
 use Rattle.lines.proofs.number.Tie as tie
-use Rattle.lines.proofs.number.Reads as reads
-use Rattle.lines.proofs.number.Lts as lts
 
 abbrev Inv-loop : tie.InvT-loop
 Inv-loop s value₀ i₀ value i = (i ≤ length s) × (value < 18446744073709551616) × (numberOf s ≡ numberFrom value (drop i s))

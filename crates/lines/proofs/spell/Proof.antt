@@ -1,18 +1,15 @@
-use lib.Seq.{length-sets, take-all}
+use lib.Seq.{length-sets}
 use lib.ListN.{length-set}
 use borrow.Author.Needs.{needs}
-use mathlib.Core.Path.{_≡_, refl, sym, ap, _∙_}
-use Prim.Native.Nat.{_≤_, _<_, _-_, _+_, _*_}
+use mathlib.Core.Path.{_≡_, refl, ap, _∙_}
+use Prim.Native.Nat.{_≤_, _-_, _*_}
 use native.Mathlib.Omega.{arith}
-use lib.ListN.{length, take, drop, getD}
+use lib.ListN.{length, take}
 use lib.Seq.{sets}
-use Rattle.lines.specs.Bytes.{digitsOf, textIn}
+use Rattle.lines.specs.Bytes.{digitsOf}
 use Rattle.lines.proofs.Spelled.{one-more, text-all, text-over, text-dash, text-none}
 use Rattle.lines.proofs.spell.Statement.{statement}
 use Rattle.lines.proofs.spell.Tie as tie
-use Rattle.lines.proofs.spell.Reads as reads
-use Rattle.lines.proofs.spell.Lts as lts
-use Rattle.lines.proofs.digit.Reads as digit-reads
 
 abbrev Inv-loop : tie.InvT-loop
 Inv-loop s out₀ i₀ out i = (i ≤ length s) × (2 * length s ≤ length out₀) × (out ≡ sets out₀ 0 (digitsOf (take i s)))

@@ -1,11 +1,6 @@
 use borrow.Author.Needs.{needs}
-use native.Mathlib.Omega.{arith}
 use Rattle.console.proofs.reading.questions.Statement.{statement}
 use Rattle.console.proofs.reading.questions.Tie as tie
-use Rattle.console.proofs.reading.questions.Reads as reads
-use Rattle.console.proofs.reading.questions.Lts as lts
-use Rattle.console.proofs.reading.question.Reads as question-reads
-use Rattle.wire.proofs.question_at.Reads as question-at-reads
 
 abbrev Inv-loop : tie.InvT-loop
 Inv-loop p text₀ used taken₀ at₀ left₀ text taken at left = Unit {0}

@@ -1,11 +1,6 @@
 use borrow.Author.Needs.{needs}
-use native.Mathlib.Omega.{arith}
 use Rattle.console.proofs.reading.records.Statement.{statement}
 use Rattle.console.proofs.reading.records.Tie as tie
-use Rattle.console.proofs.reading.records.Reads as reads
-use Rattle.console.proofs.reading.records.Lts as lts
-use Rattle.console.proofs.reading.record.Reads as record-reads
-use Rattle.wire.proofs.record_at.Reads as record-at-reads
 
 abbrev Inv-loop : tie.InvT-loop
 Inv-loop p section text₀ used taken₀ at₀ left₀ text taken at left = Unit {0}
