@@ -1,5 +1,5 @@
-// The packet reader for C and Rust, in a static library of its own: numbers and byte slices only. It stands on `wire` alone, so that a device
-// that only reads links nothing else.
+// The packet reader for C and Rust, in a static library of its own: numbers and byte slices only. It stands on the reader's crates alone, so that a
+// device that only reads links nothing else. The source port is not known here: the caller tests it.
 ghost use mathlib.Core.Path.{_≡_};
 ghost use Rattle.wire.specs.Layout.{messageAt, readOf, refusalOf};
 ghost use Rattle.names.specs.Names.{nameAt};

@@ -1,0 +1,5 @@
+-- Laws that belong to no one function.
+mod Steps
+mod Lying
+mod Going
+mod Refusing

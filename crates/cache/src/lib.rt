@@ -1,0 +1,560 @@
+// The cache on a table by value (paper 01, 'The cache'): taking the records of a message, and looking up. The byte store is lent.
+ghost use mathlib.Core.Path.{_≡_};
+ghost use Prim.Native.Nat.{_+_, _*_, _≤_, _<_, _^_};
+ghost use mathlib.Core.List.{[]};
+ghost use lib.ListN.{length, replicate};
+ghost use lib.Seq.{sets};
+ghost use Rattle.entries.specs.Entries.{isFree, matches, holds, flushed, refreshed, heardAhead, tooLong};
+ghost use Rattle.entries.specs.Tables.{lowest, each, some};
+ghost use Rattle.entries.specs.Cache.{isCached, rule1, goodbye, taken, renewed, afterRule1, takeRecord, takeRecords, takeRead, takeIn, atStart, entriesRefusal};
+ghost use Rattle.wire.specs.Layout.{listFrom, recordAt, messageAt};
+ghost use Rattle.cache.specs.Kept.{cacheOf, recordFor, Room, Lies, Checked, Read, saidBy, recordsIn};
+ghost use Rattle.cache.specs.Answers.{refusedWith, afterTake, lookedRefusal, lookedOf, takenNumbers, lookedNumbers};
+use entries::Entry;
+use entries::Slot;
+
+// The latest time: 2^62 ms.
+pub const LATEST: u64 = 4611686018427387904;
+
+// The bytes of a store of 64 slots.
+pub const STORE: usize = 65536;
+
+// The port of mDNS.
+pub const MDNS_PORT: u16 = 5353;
+
+// How many records of a message were turned away, all entries being live, and how many passed over, their rdata being too long for a slot.
+pub struct Counts {
+    pub turned: u32,
+    pub passed: u32,
+}
+
+// What taking a message answers. A refusal carries paper 01's number.
+pub enum Taken {
+    Refused(u8),
+    Accepted(Counts),
+}
+
+// What taking a message answers, and the table after it.
+pub struct AfterTake {
+    pub answer: Taken,
+    pub entries: [Entry; 64],
+}
+
+// What a lookup answers. A refusal carries paper 01's number.
+pub enum Looked {
+    Refused(u8),
+    Found(usize),
+    Nothing,
+}
+
+// The answers in numbers, for callers in other languages.
+#[repr(C)]
+pub struct TakenNumbers {
+    pub refusal: u8,
+    pub turned: u32,
+    pub passed: u32,
+}
+
+#[repr(C)]
+pub struct LookedNumbers {
+    pub refusal: u8,
+    pub found: bool,
+    pub slot: usize,
+}
+
+// The table and the counts while the records of a message are taken.
+struct Kept {
+    entries: [Entry; 64],
+    turned: u32,
+    passed: u32,
+}
+
+// The lowest live entry that holds a record.
+fn equal_slot(
+    es: [Entry; 64],
+    store: &[u8],
+    time: u64,
+    owner: &[u8],
+    rtype: u16,
+    content: &[u8],
+) -> Slot
+    ensures { λ r. ⌜ (r ≡ lowest (holds time (now (store .entry)) (now (owner .entry)) rtype (now (content .entry))) 0 es) × (length es ≡ 64) ⌝ }
+{
+    let mut i = 0;
+    while i < 64 {
+        let e = es[i];
+        if entries::is_holding(e, i, store, time, owner, rtype, content) {
+            return Slot::At(i);
+        }
+        i += 1;
+    }
+    Slot::Nowhere
+}
+
+// The lowest entry that is not live.
+fn free_slot(es: [Entry; 64], time: u64) -> Slot
+    ensures { λ r. ⌜ (r ≡ lowest (isFree time) 0 es) × (length es ≡ 64) ⌝ }
+{
+    let mut i = 0;
+    while i < 64 {
+        let e = es[i];
+        if !entries::is_live(e, time) {
+            return Slot::At(i);
+        }
+        i += 1;
+    }
+    Slot::Nowhere
+}
+
+// Rule 1 on every entry.
+fn flush_all(es: [Entry; 64], store: &[u8], time: u64, owner: &[u8], rtype: u16) -> [Entry; 64]
+    ensures { λ r. ⌜ r ≡ each (flushed time (now (store .entry)) (now (owner .entry)) rtype) 0 es ⌝ }
+{
+    let mut t = es;
+    let mut i = 0;
+    while i < 64 {
+        let e = t[i];
+        t[i] = entries::flush_entry(e, i, store, time, owner, rtype);
+        i += 1;
+    }
+    t
+}
+
+// Writes `s` into `out` from index `at` on.
+fn put(out: &mut [u8], at: usize, s: &[u8])
+    requires { ⌜ at + length (now s) ≤ length (now out) ⌝ }
+    ensures { λ _. ⌜ now (out .exit) ≡ sets (now (out .entry)) at (now (s .entry)) ⌝ }
+{
+    let mut i = 0;
+    while i < s.len() {
+        out[at + i] = s[i];
+        i += 1;
+    }
+}
+
+// Writes slot i whole: the owner, the rdata, and zeros in the bytes that they leave.
+fn write_slot(store: &mut [u8], i: usize, owner: &[u8], content: &[u8])
+    requires { ⌜ (1024 * i + 1024 ≤ length (now store)) × ((length (now owner) ≤ 256) × (length (now content) ≤ 768)) ⌝ }
+    ensures { λ _. ⌜ now (store .exit) ≡ sets (now (store .entry)) (1024 * i) (sets (sets (replicate 1024 0) 0 (now (owner .entry))) 256 (now (content .entry))) ⌝ }
+{
+    let mut slot = [0u8; 1024];
+    put(&mut slot, 0, owner);
+    put(&mut slot, 256, content);
+    put(store, 1024 * i, &slot);
+}
+
+// Rule 2.
+fn say_goodbye(k: Kept, store: &[u8], time: u64, owner: &[u8], rtype: u16, content: &[u8]) -> Kept
+    ensures { λ r. ⌜ cacheOf r (now (store .entry)) ≡ goodbye time (cacheOf k (now (store .entry))) (lowest (holds time (now (store .entry)) (now (owner .entry)) rtype (now (content .entry))) 0 (k .entries)) ⌝ }
+{
+    let mut es = k.entries;
+    match equal_slot(es, store, time, owner, rtype, content) {
+        Slot::At(i) => {
+            let e = es[i];
+            es[i] = entries::to_expire(e, time);
+            Kept {
+                entries: es,
+                turned: k.turned,
+                passed: k.passed,
+            }
+        }
+        Slot::Nowhere => k,
+    }
+}
+
+// Rule 3 on the entry that holds the record already: its owner stays spelled as it is.
+fn refresh(e: Entry, time: u64, ttl: u32) -> Entry
+    requires { ⌜ time ≤ 2 ^ 62 ⌝ }
+    ensures { λ r. ⌜ r ≡ refreshed time ttl e ⌝ }
+{
+    Entry {
+        rtype: e.rtype,
+        owner: e.owner,
+        rdata: e.rdata,
+        received: time,
+        expiry: time + 1000 * ttl as u64,
+    }
+}
+
+// The lowest entry that is not live takes a record. If all are live it is counted as turned away.
+fn take_new(
+    k: Kept,
+    store: &mut [u8],
+    time: u64,
+    owner: &[u8],
+    rtype: u16,
+    ttl: u32,
+    content: &[u8],
+) -> Kept
+    requires { ⌜ Room time (now store) (now owner) (k .turned) (k .passed) × (length (now content) ≤ 768) ⌝ }
+    ensures { λ r. ⌜ cacheOf r (now (store .exit)) ≡ taken time (recordFor (now (owner .entry)) rtype 0 ttl (now (content .entry))) (cacheOf k (now (store .entry))) (lowest (isFree time) 0 (k .entries)) ⌝ }
+{
+    let mut es = k.entries;
+    match free_slot(es, time) {
+        Slot::At(i) => {
+            write_slot(store, i, owner, content);
+            es[i] = Entry {
+                rtype,
+                owner: owner.len() as u16,
+                rdata: content.len() as u16,
+                received: time,
+                expiry: time + 1000 * ttl as u64,
+            };
+            Kept {
+                entries: es,
+                turned: k.turned,
+                passed: k.passed,
+            }
+        }
+        Slot::Nowhere => Kept {
+            entries: es,
+            turned: k.turned + 1,
+            passed: k.passed,
+        },
+    }
+}
+
+// Rule 3.
+fn renew(
+    k: Kept,
+    store: &mut [u8],
+    time: u64,
+    owner: &[u8],
+    rtype: u16,
+    ttl: u32,
+    content: &[u8],
+) -> Kept
+    requires { ⌜ Room time (now store) (now owner) (k .turned) (k .passed) × (length (now content) ≤ 768) ⌝ }
+    ensures { λ r. ⌜ cacheOf r (now (store .exit)) ≡ renewed time (recordFor (now (owner .entry)) rtype 0 ttl (now (content .entry))) (cacheOf k (now (store .entry))) (lowest (holds time (now (store .entry)) (now (owner .entry)) rtype (now (content .entry))) 0 (k .entries)) ⌝ }
+{
+    let mut es = k.entries;
+    match equal_slot(es, store, time, owner, rtype, content) {
+        Slot::At(i) => {
+            let e = es[i];
+            es[i] = refresh(e, time, ttl);
+            Kept {
+                entries: es,
+                turned: k.turned,
+                passed: k.passed,
+            }
+        }
+        Slot::Nowhere => take_new(k, store, time, owner, rtype, ttl, content),
+    }
+}
+
+// Rule 1.
+fn flush(k: Kept, store: &[u8], time: u64, owner: &[u8], rtype: u16, class: u16) -> Kept
+    ensures { λ r. ⌜ cacheOf r (now (store .entry)) ≡ rule1 time (recordFor (now (owner .entry)) rtype class 0 (now (owner .entry))) (cacheOf k (now (store .entry))) ⌝ }
+{
+    if class < 32768 {
+        return k;
+    }
+    let es = k.entries;
+    Kept {
+        entries: flush_all(es, store, time, owner, rtype),
+        turned: k.turned,
+        passed: k.passed,
+    }
+}
+
+// The rules after rule 1: rdata that is too long for a slot is passed over.
+fn take_content(
+    k: Kept,
+    store: &mut [u8],
+    time: u64,
+    owner: &[u8],
+    rtype: u16,
+    ttl: u32,
+    content: &[u8],
+) -> Kept
+    requires { ⌜ Room time (now store) (now owner) (k .turned) (k .passed) ⌝ }
+    ensures { λ r. ⌜ cacheOf r (now (store .exit)) ≡ afterRule1 time (recordFor (now (owner .entry)) rtype 0 ttl (now (content .entry))) (cacheOf k (now (store .entry))) ⌝ }
+{
+    if 768 < content.len() {
+        let es = k.entries;
+        return Kept {
+            entries: es,
+            turned: k.turned,
+            passed: k.passed + 1,
+        };
+    }
+    if ttl == 0 {
+        return say_goodbye(k, store, time, owner, rtype, content);
+    }
+    renew(k, store, time, owner, rtype, ttl, content)
+}
+
+// Whether records of a class and a type are cached.
+fn is_cached(class: u16, rtype: u16) -> bool
+    ensures { λ r. ⌜ r ≡ isCached class rtype ⌝ }
+{
+    if class % 32768 != 1 {
+        return false;
+    }
+    if rtype == rdata::A {
+        return true;
+    }
+    if rtype == rdata::PTR {
+        return true;
+    }
+    if rtype == rdata::TXT {
+        return true;
+    }
+    if rtype == rdata::AAAA {
+        return true;
+    }
+    rtype == rdata::SRV
+}
+
+// One record of a message that has been checked: the rules, on its owner and rdata expanded.
+fn take_record(k: Kept, store: &mut [u8], time: u64, p: &[u8], f: wire::RecordAt) -> Kept
+    requires { ⌜ Room time (now store) [] (k .turned) (k .passed) × Lies (now p) f ⌝ }
+    ensures { λ r. ⌜ cacheOf r (now (store .exit)) ≡ takeRecord time (saidBy (recordAt (now (p .entry)) (f .owner))) (cacheOf k (now (store .entry))) ⌝ }
+{
+    if !is_cached(f.class, f.rtype) {
+        return k;
+    }
+    let rtype = f.rtype;
+    let span = f.span;
+    let expanded = names::expand(p, f.owner);
+    let name = expanded.bytes;
+    let owner = &name[..span];
+    let flushed = flush(k, store, time, owner, rtype, f.class);
+    let opened = expansion::open(p, rtype, f.rdata, f.rdlength);
+    let bytes = opened.bytes;
+    let content = expansion::view(p, &bytes, opened.len, rtype, f.rdata, f.rdlength);
+    take_content(flushed, store, time, owner, rtype, f.ttl, content)
+}
+
+// The records of a section that has been checked, in order.
+fn take_section(k: Kept, store: &mut [u8], time: u64, p: &[u8], at: usize, count: u16) -> Kept
+    requires { ⌜ Room time (now store) [] (k .turned + count) (k .passed + count) × Checked (now p) count at ⌝ }
+    ensures { λ r. ⌜ (cacheOf r (now (store .exit)) ≡ takeRecords time (recordsIn (listFrom (recordAt (now (p .entry))) count at)) (cacheOf k (now (store .entry)))) × ((r .turned ≤ k .turned + count) × (r .passed ≤ k .passed + count)) ⌝ }
+{
+    let mut kept = k;
+    let mut here = at;
+    let mut left = count;
+    while 0 < left {
+        match wire::record_at(p, here) {
+            wire::RecordRead::Found(f) => {
+                kept = take_record(kept, store, time, p, f);
+                here = f.next;
+            }
+            wire::RecordRead::Malformed => {
+                return kept;
+            }
+        }
+        left -= 1;
+    }
+    kept
+}
+
+// The records of a message that has been checked: the Answer and Additional ones of a response, and none of a query.
+fn take_message(es: [Entry; 64], store: &mut [u8], time: u64, p: &[u8], l: wire::Layout) -> Kept
+    requires { ⌜ Room time (now store) [] 0 0 × Read (now p) l ⌝ }
+    ensures { λ r. ⌜ cacheOf r (now (store .exit)) ≡ takeRead time (atStart es (now (store .entry))) (messageAt (now (p .entry))) ⌝ }
+{
+    let start = Kept {
+        entries: es,
+        turned: 0,
+        passed: 0,
+    };
+    if l.flags < 32768 {
+        return start;
+    }
+    let answers = l.answers;
+    let additionals = l.additionals;
+    let k = take_section(start, store, time, p, answers.at, answers.count);
+    take_section(k, store, time, p, additionals.at, additionals.count)
+}
+
+// Whether an entry was received after now.
+fn any_ahead(es: [Entry; 64], time: u64) -> bool
+    ensures { λ r. ⌜ r ≡ some (heardAhead time) es ⌝ }
+{
+    let mut i = 0;
+    while i < 64 {
+        let e = es[i];
+        if entries::is_ahead(e, time) {
+            return true;
+        }
+        i += 1;
+    }
+    false
+}
+
+// Whether a length of an entry is over what a slot has room for.
+fn any_too_long(es: [Entry; 64]) -> bool
+    ensures { λ r. ⌜ (r ≡ some tooLong es) × (length es ≡ 64) ⌝ }
+{
+    let mut i = 0;
+    while i < 64 {
+        let e = es[i];
+        if entries::is_too_long(e) {
+            return true;
+        }
+        i += 1;
+    }
+    false
+}
+
+// The refusals 1 and 8 that a table's entries give, or 0.
+fn entries_refusal(es: [Entry; 64], time: u64) -> u8
+    ensures { λ r. ⌜ r ≡ entriesRefusal time es ⌝ }
+{
+    if LATEST < time {
+        return 1;
+    }
+    if any_ahead(es, time) {
+        return 1;
+    }
+    if any_too_long(es) {
+        return 8;
+    }
+    0
+}
+
+// The lowest live match from a slot on.
+fn find(es: [Entry; 64], store: &[u8], time: u64, name: &[u8], rtype: u16, from: usize) -> Slot
+    ensures { λ r. ⌜ r ≡ lowest (matches time (now (store .entry)) (now (name .entry)) rtype from) 0 es ⌝ }
+{
+    let mut i = from;
+    while i < 64 {
+        let e = es[i];
+        if entries::is_live_of(e, i, store, time, name, rtype) {
+            return Slot::At(i);
+        }
+        i += 1;
+    }
+    Slot::Nowhere
+}
+
+// What is answered to a message that is refused: the table is as it was.
+fn refused(refusal: u8, es: [Entry; 64]) -> AfterTake
+    ensures { λ r. ⌜ r ≡ refusedWith refusal es ⌝ }
+{
+    AfterTake {
+        answer: Taken::Refused(refusal),
+        entries: es,
+    }
+}
+
+// Takes the records of a message. The whole message is read before the first entry or byte changes.
+pub fn take_by_value(
+    es: [Entry; 64],
+    store: &mut [u8],
+    time: u64,
+    port: u16,
+    message: &[u8],
+) -> AfterTake
+    ensures { λ r. ⌜ (r ≡ afterTake time es (now (store .entry)) port (now (message .entry))) × (now (store .exit) ≡ takeIn time es (now (store .entry)) port (now (message .entry)) .store) ⌝ }
+{
+    let refusal = entries_refusal(es, time);
+    if refusal != 0 {
+        return refused(refusal, es);
+    }
+    if store.len() != STORE {
+        return refused(8, es);
+    }
+    if message.len() < wire::LEAST_MESSAGE {
+        return refused(4, es);
+    }
+    if wire::MOST_MESSAGE < message.len() {
+        return refused(4, es);
+    }
+    if port != MDNS_PORT {
+        return refused(5, es);
+    }
+    match wire::read_message(message) {
+        wire::MessageRead::Read(l) => {
+            let k = take_message(es, store, time, message, l);
+            let entries = k.entries;
+            AfterTake {
+                answer: Taken::Accepted(Counts {
+                    turned: k.turned,
+                    passed: k.passed,
+                }),
+                entries,
+            }
+        }
+        wire::MessageRead::Refused(n) => refused(n, es),
+    }
+}
+
+// The number of a lookup's refusal, or 0, where `entries` is that of its table.
+pub fn look_refusal(entries: u8, store: &[u8], name: &[u8]) -> u8
+    ensures { λ r. ⌜ r ≡ lookedRefusal entries (now (store .entry)) (now (name .entry)) ⌝ }
+{
+    if entries != 0 {
+        return entries;
+    }
+    if store.len() != STORE {
+        return 8;
+    }
+    if !names::is_name(name) {
+        return 6;
+    }
+    0
+}
+
+// Looks a name and a type up: the lowest live match from a slot on.
+pub fn look_by_value(
+    es: [Entry; 64],
+    store: &[u8],
+    time: u64,
+    name: &[u8],
+    rtype: u16,
+    from: usize,
+) -> Looked
+    ensures { λ r. ⌜ r ≡ lookedOf time es (now (store .entry)) (now (name .entry)) rtype from ⌝ }
+{
+    let refusal = look_refusal(entries_refusal(es, time), store, name);
+    if refusal != 0 {
+        return Looked::Refused(refusal);
+    }
+    match find(es, store, time, name, rtype, from) {
+        Slot::At(i) => Looked::Found(i),
+        Slot::Nowhere => Looked::Nothing,
+    }
+}
+
+// An answer of `take` in numbers: paper 01's refusal number, or 0, and the counts.
+pub fn taken_numbers(answer: Taken) -> TakenNumbers
+    ensures { λ r. ⌜ r ≡ takenNumbers answer ⌝ }
+{
+    match answer {
+        Taken::Refused(refusal) => TakenNumbers {
+            refusal,
+            turned: 0,
+            passed: 0,
+        },
+        Taken::Accepted(counts) => TakenNumbers {
+            refusal: 0,
+            turned: counts.turned,
+            passed: counts.passed,
+        },
+    }
+}
+
+// An answer of a lookup in numbers: paper 01's refusal number, or 0, and the slot, if one was found.
+pub fn looked_numbers(answer: Looked) -> LookedNumbers
+    ensures { λ r. ⌜ r ≡ lookedNumbers answer ⌝ }
+{
+    match answer {
+        Looked::Refused(refusal) => LookedNumbers {
+            refusal,
+            found: false,
+            slot: 0,
+        },
+        Looked::Found(slot) => LookedNumbers {
+            refusal: 0,
+            found: true,
+            slot,
+        },
+        Looked::Nothing => LookedNumbers {
+            refusal: 0,
+            found: false,
+            slot: 0,
+        },
+    }
+}

@@ -1,0 +1,8 @@
+-- Slots, Steps and Changes: lemmas. Flush, Found, Evict, Counts: the theorems.
+pub mod Slots
+pub mod Steps
+pub mod Changes
+pub mod Flush
+pub mod Found
+pub mod Evict
+pub mod Counts

@@ -1,0 +1,14 @@
+use Rattle.claims.specs.Claims.{startOf}
+use borrow.Author.Needs.{needs}
+use Rattle.claims.proofs.start.Statement.{statement}
+use Rattle.claims.proofs.start.Tie as tie
+
+after-requires : tie.Need-after-requires
+after-requires c κs = search needs
+
+returns : tie.Need-returns
+unfolding startOf
+returns c = rw (c .after .ensures)
+
+pub start-spec : {M : Type 1} → statement M
+start-spec = tie.close (tie.spec after-requires returns)

@@ -1,0 +1,4 @@
+pub mod Time
+pub mod Records
+pub mod Claims
+pub mod Refusals

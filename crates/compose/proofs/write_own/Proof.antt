@@ -1,0 +1,71 @@
+use Rattle.records.specs.Records.{ownName, ownRdata}
+use native.Mathlib.Omega.{arith}
+use Rattle.compose.proofs.Owned.{own-fits, own-long, record-fits, own-grown}
+use borrow.Author.Needs.{needs}
+use Rattle.compose.proofs.write_own.Statement.{statement}
+use Rattle.compose.proofs.write_own.Tie as tie
+use Rattle.compose.proofs.write_own.Reads as reads
+use Rattle.compose.proofs.write_own.Lts as lts
+use Rattle.compose.proofs.class_in.Reads as class-in-reads
+use Rattle.compose.proofs.write_record.Reads as write-record-reads
+use Rattle.records.proofs.own_name.Reads as own-name-reads
+use Rattle.records.proofs.own_rdata.Reads as own-rdata-reads
+use Rattle.records.proofs.own_ttl.Reads as own-ttl-reads
+use Rattle.records.proofs.own_type.Reads as own-type-reads
+
+own-name-requires : tie.Need-own-name-requires
+own-name-requires c κs = search needs
+
+own-rdata-requires : tie.Need-own-rdata-requires
+own-rdata-requires c κs = search needs
+
+class-in-requires : tie.Need-class-in-requires
+class-in-requires c κs = search needs
+
+array-share-prefix-name : tie.Need-array-share-prefix-name
+array-share-prefix-name c = own-fits (ownName (c .before .before .before .before .before .before .before .before .before .args .s) (c .before .before .before .before .before .before .before .before .before .args .i)) _ (c .before .before .before .before .before .before .own-name .ensures)
+
+slice-aggregate-write-record : tie.Need-slice-aggregate-write-record
+slice-aggregate-write-record c = own-long (ownName (c .before .before .before .before .before .before .before .before .before .before .args .s) (c .before .before .before .before .before .before .before .before .before .before .args .i)) _ (c .before .before .before .before .before .before .before .own-name .ensures)
+
+own-type-requires : tie.Need-own-type-requires
+own-type-requires c κs = search needs
+
+own-ttl-requires : tie.Need-own-ttl-requires
+own-ttl-requires c κs = search needs
+
+array-share-prefix-d : tie.Need-array-share-prefix-d
+array-share-prefix-d c = own-fits (ownRdata (c .before .before .before .before .before .before .before .before .before .before .before .before .args .s) (c .before .before .before .before .before .before .before .before .before .before .before .before .args .i)) _ (c .before .before .before .before .before .before .before .own-rdata .ensures)
+
+slice-aggregate-write-record-2 : tie.Need-slice-aggregate-write-record-2
+slice-aggregate-write-record-2 c = own-long (ownRdata (c .before .before .before .before .before .before .before .before .before .before .before .before .before .args .s) (c .before .before .before .before .before .before .before .before .before .before .before .before .before .args .i)) _ (c .before .before .before .before .before .before .before .before .own-rdata .ensures)
+
+write-record-requires : tie.Need-write-record-requires
+write-record-requires c κs = record-fits (c .before .before .before .before .before .before .before .before .before .before .before .before .before .args .s) (c .before .before .before .before .before .before .before .before .before .before .before .before .before .args .i) _ _ _ _ (c .before .before .before .before .before .before .before .before .before .before .before .before .before .pre) _ _ (c .before .before .before .before .before .before .before .before .before .before .own-name .ensures) (c .before .before .before .before .before .before .before .before .own-rdata .ensures) _ (c .before .before .own-type .ensures)
+
+same-length : tie.Need-same-length
+same-length c = search needs
+
+same-length-2 : tie.Need-same-length-2
+same-length-2 c = search needs
+
+returns : tie.Need-returns
+returns c = own-grown (c .before .before .before .before .before .before .before .before .before .before .before .before .before .before .before .before .before .before .args .s) (c .before .before .before .before .before .before .before .before .before .before .before .before .before .before .before .before .before .before .args .i) _ _ _ _ (c .before .before .before .before .before .before .before .before .before .before .before .before .before .before .before .before .before .before .pre) _ _ (c .before .before .before .before .before .before .before .before .before .before .before .before .before .before .before .own-name .ensures) (c .before .before .before .before .before .before .before .before .before .before .before .before .before .own-rdata .ensures) _ (c .before .before .before .before .before .before .before .own-type .ensures) _ _ _ (c .before .before .before .before .before .before .before .before .before .before .before .class-in .ensures) (c .before .before .before .before .before .before .own-ttl .ensures) _ _ _ (c .before .before .before .before .write-record .ensures)
+
+pub write-own-spec : {M : Type 1} → statement M
+write-own-spec =
+    tie.close
+    (tie.spec
+    own-name-requires
+    own-rdata-requires
+    class-in-requires
+    array-share-prefix-name
+    slice-aggregate-write-record
+    own-type-requires
+    own-ttl-requires
+    array-share-prefix-d
+    slice-aggregate-write-record-2
+    write-record-requires
+    same-length
+    same-length-2
+    returns)

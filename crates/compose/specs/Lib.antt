@@ -1,0 +1,4 @@
+pub mod Packets
+pub mod Writer
+pub mod Own
+pub mod Ready

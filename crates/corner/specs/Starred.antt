@@ -1,0 +1,59 @@
+-- Paper 01, 'Corner readings': the twelve starred ones as one table, evaluated by a single statement. Each row is about the definitions that the
+-- contracts cite. Assumes nothing.
+use mathlib.Core.Path.{_≡_, refl}
+use mathlib.Core.List.{List, [], _∷_, _++_}
+use mathlib.Core.Bool.{true, false}
+use Prim.Native.Nat.{ℕ}
+use lib.IntN.{pos, negsuc}
+use lib.ListN.{length}
+use Rattle.fold.specs.Fold.{sameName}
+use Rattle.names.specs.Names.{pieceAt, readFrom, fromRun, nameAt}
+use Rattle.rdata.specs.Rdata.{stringsFill, rdataIn, rdataAt}
+use Rattle.expansion.specs.Equal.{sameBytes}
+use Rattle.wire.specs.Layout.{questionRead, questionAt, recordRead, recordAt, listFrom, refused, messageAt}
+use Rattle.txt.specs.Txt.{stringsFrom, keyOf, valueOf, hasKey, firstWith}
+use Rattle.txt.specs.Lookup.{anyBad, badKey, refusalOf, givenBy, inTxt, lookupOf}
+use Rattle.txt.specs.declared.Answer.the-variants.{Present}
+use Rattle.records.specs.Setups.{serviceLabels, instanceLabels, hostLabels}
+use Rattle.records.specs.Records.{hasRecord, ownLabels, ownName, ownType, ownClass, ownTtl, srvRdata, ownRdata}
+use Rattle.order.specs.Later.{numberOf, compareNumbers, inTurn, compareRecords, insertBy, sortBy, tie}
+use Rattle.order.specs.Probe.{ownRecord, some}
+use Rattle.scan.specs.Facts.{isKnown}
+use Rattle.entries.specs.Tables.{each}
+use Rattle.entries.specs.Entries.{isOf, liveOf, soon, flushed}
+use Rattle.entries.specs.Cache.{rule1}
+use Rattle.compression.specs.Compression.{standsAt, placeOf, cutFrom, nameBytes, starts, namePlaces}
+use Rattle.compose.specs.Packets.{putName, dataBytes, dataPlaces, putFields, packetOf}
+use Rattle.compose.specs.Own as own
+use Rattle.compose.specs.Own.{responsePacket, responseRecords, picked, responseOf}
+use Rattle.corner.specs.Examples.{address, example, knowing, cached, announced, selfPointing, announcement}
+
+abbrev pub Starred : Type 0
+Starred =
+    -- "169.254.200.50 is later than 169.254.99.200."
+    (numberOf (tie (ownRecord 1 (169 ∷ (254 ∷ (200 ∷ (50 ∷ [])))) ∷ []) (ownRecord 1 (169 ∷ (254 ∷ (99 ∷ (200 ∷ [])))) ∷ [])) ≡ pos 1)
+    -- "Equal lists give 0."
+    × (numberOf (tie (ownRecord 1 address ∷ []) (ownRecord 1 address ∷ [])) ≡ pos 0)
+    -- "{A} before {A, AAAA} with the same A."
+    × (numberOf (tie (ownRecord 1 address ∷ []) (ownRecord 1 address ∷ (ownRecord 28 address ∷ []))) ≡ negsuc 0)
+    -- "Known PTR TTL 2250 omits, 2249 doesn't."
+    × (isKnown example 0 (knowing 0 2250) ≡ true)
+    × (isKnown example 0 (knowing 0 2249) ≡ false)
+    -- "A at 60 omits, at 59 doesn't."
+    × (isKnown example 3 (knowing 3 60) ≡ true)
+    × (isKnown example 3 (knowing 3 59) ≡ false)
+    -- "At 5000, a flush leaves an entry received at 4000, and sets one received at 3999 to expire by 6000."
+    × (rule1 5000 announced (cached 4000) .entries ≡ cached 4000 .entries)
+    × (rule1 5000 announced (cached 3999) .entries ≡ record { rtype = 1; owner = 12; rdata = 4; received = 3999; expiry = 6000 } ∷ [])
+    -- "Strings "PassReq", "PASSREQ=1": present without value."
+    × (lookupOf (112 ∷ (97 ∷ (115 ∷ (115 ∷ (114 ∷ (101 ∷ (113 ∷ [])))))))
+    (7 ∷ (80 ∷ (97 ∷ (115 ∷ (115 ∷ (82 ∷ (101 ∷ (113 ∷ (9 ∷ (80 ∷ (65 ∷ (83 ∷ (83 ∷ (82 ∷ (69 ∷ (81 ∷ (61 ∷ (49 ∷ [])))))))))))))))))) []
+    ≡ Present)
+    -- "Pointer at 12 to 12: refusal 6."
+    × (messageAt selfPointing ≡ refused 6)
+    -- "dock.local, 10.0.0.7 announced, 38 bytes"
+    × (responsePacket example (false ∷ (false ∷ (false ∷ (true ∷ (true ∷ []))))) ≡ announcement)
+
+pub starred : Starred
+unfolding example knowing cached announced tie sortBy insertBy compareRecords inTurn compareNumbers some isKnown sameName sameBytes hasRecord ownLabels ownName ownType ownClass ownTtl srvRdata ownRdata serviceLabels instanceLabels hostLabels rule1 each flushed liveOf isOf soon lookupOf refusalOf badKey anyBad stringsFill inTxt firstWith stringsFrom hasKey keyOf valueOf givenBy messageAt listFrom questionAt questionRead recordAt recordRead nameAt fromRun readFrom pieceAt rdataAt rdataIn responsePacket responseRecords picked responseOf own.ownRecord packetOf putName dataBytes dataPlaces putFields nameBytes namePlaces starts cutFrom placeOf standsAt
+starred = (refl, refl, refl, refl, refl, refl, refl, refl, refl, refl, refl, refl)

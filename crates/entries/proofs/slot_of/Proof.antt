@@ -1,0 +1,24 @@
+-- `entries::slot_of` meets its contract. Assumes nothing.
+use Rattle.entries.proofs.Single.{slot-past}
+use mathlib.Core.Path.{_∙_}
+use borrow.Author.Needs.{needs}
+use Rattle.entries.proofs.slot_of.Statement.{statement}
+use Rattle.entries.proofs.slot_of.Tie as tie
+
+part-requires : tie.Need-part-requires
+part-requires c κs = search needs
+
+returns : tie.Need-returns
+returns c = c .part .ensures ∙ slot-past _ _ (c .before .if1 .taken)
+
+mul-part : tie.Need-mul-part
+mul-part c = search needs
+
+part-requires-2 : tie.Need-part-requires-2
+part-requires-2 c κs = search needs
+
+returns-2 : tie.Need-returns-2
+returns-2 c = search needs
+
+pub slot-of-spec : {M : Type 1} → statement M
+slot-of-spec = tie.close (tie.spec part-requires returns mul-part part-requires-2 returns-2)

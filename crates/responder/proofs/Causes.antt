@@ -1,0 +1,104 @@
+-- A record that a query asks for is left out exactly for a cause of paper 01 ('Which answers go out'), said of the message and the set-up: (a) a known
+-- answer, (b) a multicast too short a time ago. Of PTR the same decides whether a reply is set. Assumes nothing.
+use Prim.Native.Nat.{ℕ}
+use mathlib.Core.Path.{_≡_, refl}
+use mathlib.Core.Logic.{_⊎_, inl, inr}
+use mathlib.Core.Bool.{Bool, true, false}
+use Rattle.wire.specs.Message.{Message, isResponse}
+use Rattle.wire.specs.Layout.{read}
+use Rattle.wire.specs.declared.Layout.{Layout}
+use Rattle.records.specs.Records.{hasRecord}
+use Rattle.claims.specs.Time.{recently}
+use Rattle.claims.specs.Claims.{heldNow, claimOf}
+use Rattle.claims.specs.Records as own
+use Rattle.claims.specs.declared.Kind.{Kind}
+use Rattle.claims.specs.declared.Kind.the-variants.{Instance, Host}
+use Rattle.answers.specs.Answers.{gapOf, wantedOf}
+use Rattle.answers.proofs.Causes as causes
+use Rattle.order.specs.Probe.{isProbe}
+use Rattle.scan.specs.Facts.{factsOf, queryFacts, isAsked, isKnown, claimName}
+use Rattle.responder.specs.Calls.{claimFor, heardOf}
+use Rattle.responder.specs.declared.State.{State}
+
+-- the index of a record in the set-up
+abbrev pub index : own.Own → ℕ
+index own.PTR = 0
+index own.SRV = 1
+index own.TXT = 2
+index own.A = 3
+index own.AAAA = 4
+
+module _ (s : State) (now : ℕ) (m : Message) (query : isResponse (m .flags) ≡ false) where
+  -- the record goes out, or for PTR a reply is wanted
+  abbrev pub goesOut : own.Own → Bool
+  goesOut r = own.has r (wantedOf (s .life) (factsOf (s .setup) m) now (s .setup .hasaaaa))
+
+  -- "A record is due when its claim is held (PTR: the instance claim), a question of a query has its name, its type or 255, and class 1 or 255."
+  pub record IsDue (r : own.Own) : Type 0 where
+    pub held : heldNow (claimOf (own.claimFor r) (s .life)) ≡ true
+    pub there : hasRecord (s .setup) (index r) ≡ true
+    pub asked : isAsked (s .setup) (index r) m ≡ true
+
+  -- "(a) an Answer record in the query has equal name, class, type and rdata and twice its TTL is at least our own TTL, or (b) it was multicast less than
+  -- 1,000 ms ago, 250 ms if the query is a probe for its claim"
+  abbrev pub Cause : own.Own → Type 0
+  Cause r =
+      (isKnown (s .setup) (index r) m ≡ true)
+      ⊎ (recently (own.sentOf r (s .life .sent)) now (gapOf (isProbe (claimName (s .setup) (claimFor (own.claimFor r))) m)) ≡ true)
+
+  response-is : factsOf (s .setup) m .response ≡ false
+  unfolding factsOf queryFacts
+  response-is = simp query
+
+  asked-is : (r : own.Own) → own.has r (factsOf (s .setup) m .asked) ≡ isAsked (s .setup) (index r) m
+  unfolding factsOf queryFacts
+  asked-is own.PTR = simp query
+  asked-is own.SRV = simp query
+  asked-is own.TXT = simp query
+  asked-is own.A = simp query
+  asked-is own.AAAA = simp query
+
+  known-is : (r : own.Own) → own.has r (factsOf (s .setup) m .known) ≡ isKnown (s .setup) (index r) m
+  unfolding factsOf queryFacts
+  known-is own.PTR = simp query
+  known-is own.SRV = simp query
+  known-is own.TXT = simp query
+  known-is own.A = simp query
+  known-is own.AAAA = simp query
+
+  probe-is : (k : Kind) → causes.heardFor k (factsOf (s .setup) m) .probe ≡ isProbe (claimName (s .setup) (claimFor k)) m
+  unfolding factsOf queryFacts
+  probe-is Instance = simp query
+  probe-is Host = simp query
+
+  there-is : (r : own.Own) → hasRecord (s .setup) (index r) ≡ own.present r (s .setup .hasaaaa)
+  unfolding hasRecord
+  there-is own.PTR = refl
+  there-is own.SRV = refl
+  there-is own.TXT = refl
+  there-is own.A = refl
+  there-is own.AAAA = refl
+
+  due : (r : own.Own) → IsDue r → causes.IsDue (s .life) now (factsOf (s .setup) m) (s .setup .hasaaaa) r
+  due r d = record { query = response-is; held = d .held; there = rw (there-is r) at (d .there); asked = rw (asked-is r) (d .asked) }
+
+  -- A record that is due and does not go out is left out for a cause of paper 01.
+  pub left-out-for-a-cause : (r : own.Own) → IsDue r → goesOut r ≡ false → Cause r
+  left-out-for-a-cause r d h =
+      go (causes.left-out-for-a-cause (s .life) now (factsOf (s .setup) m) (s .setup .hasaaaa) r (due r d) h)
+    where
+      go : causes.Cause (s .life) now (factsOf (s .setup) m) (s .setup .hasaaaa) r → Cause r
+      go (inl known) = inl (rw (known-is r) at known)
+      go (inr recent) = inr (rw (probe-is (own.claimFor r)) at recent)
+
+  -- A record with a cause of paper 01 does not go out.
+  pub left-out-by-a-cause : (r : own.Own) → Cause r → goesOut r ≡ false
+  left-out-by-a-cause r c = causes.left-out-by-a-cause (s .life) now (factsOf (s .setup) m) (s .setup .hasaaaa) r (go c)
+    where
+      go : Cause r → causes.Cause (s .life) now (factsOf (s .setup) m) (s .setup .hasaaaa) r
+      go (inl known) = inl (rw (known-is r) known)
+      go (inr recent) = inr (rw (probe-is (own.claimFor r)) recent)
+
+  -- SRV, TXT, A and AAAA that go out are those of the packet.
+  pub at-once : (draw : ℕ) (l : Layout) (r : own.Own) → (r ≡ own.PTR → ⊥) → own.has r (heardOf s now draw (read l m) .answers) ≡ goesOut r
+  at-once draw l r n = causes.at-once (s .life) now (factsOf (s .setup) m) (s .setup .hasaaaa) draw r n

@@ -1,0 +1,178 @@
+-- Closure: the state that an accepted call returns is never refused for what it keeps, whatever state the call was given: not as 1 for a kept time, and
+-- not as 7. And from a start on, through any list of calls, no kept time is above 2^62 + 1,000. Assumes nothing.
+use Prim.Native.Nat.{ℕ, _≤_}
+use mathlib.Core.Path.{_≡_, refl}
+use mathlib.Core.Bool.{Bool, true, false, cond, not, _||_}
+use mathlib.Core.List.{List, [], _∷_}
+use native.Mathlib.Omega.{arith}
+use lib.Dec.{eqb, ltb}
+use borrow.Author.Tests.{ltb-false, eqb-true}
+use Rattle.wire.specs.Layout.{Reads, read, refused, messageAt}
+use Rattle.records.specs.declared.Setup.{Setup}
+use Rattle.records.specs.Setups.{validSetup}
+use Rattle.claims.specs.Claims as claims
+use Rattle.claims.specs.Refusals.{lateStart, wrongTime, wrongStartDraw, wrongReplyDraw, kept}
+use Rattle.claims.specs.declared.Life.{Life}
+use Rattle.claims.proofs.Keeping.{start-kept}
+use Rattle.steps.proofs.Ticks.{tick-kept, tick-draw}
+use Rattle.answers.proofs.Receives.{receive-kept, receive-draw}
+use Rattle.scan.specs.Facts.{factsOf}
+use Rattle.responder.specs.Refusals.{smallBuffer, wrongState, orElse, readRefusal, byPort, startRefusal, receiveRefusal, tickRefusal}
+use Rattle.responder.specs.Calls.{startOf, heardOf, receiveOf, tickOf}
+use Rattle.responder.specs.Runs.{Call, received, ticked, refusalOfCall, stateAfter, run}
+use Rattle.responder.specs.declared.State.{State}
+use Rattle.responder.proofs.Reading.{proper, number-at-most}
+use Rattle.responder.proofs.Refusals.{StartAccepted, ReceiveAccepted, TickAccepted, start-accepted, receive-accepted, tick-accepted, refused-keeps}
+
+clash : {A : Type 0} → _≡_ {A = ℕ} 0 1 → A
+clash z = absurd (omega arith)
+
+-- every kept time is at most `most`, and the set-up and the start draw keep the rules
+pub record Within (most : ℕ) (s : State) : Type 0 where
+  pub times : kept most (s .life) ≡ true
+  pub right : wrongState s ≡ false
+
+-- what is never refused for what it keeps: 2^62 + 2,000 is refusal 1's bound
+abbrev pub Sound : State → Type 0
+Sound s = Within 4611686018427389904 s
+
+-- ---- a sound state is refused only for the call
+
+or-false : (a b : Bool) → (a || b) ≡ false → (a ≡ false) × (b ≡ false)
+or-false true b h = clash (cc)
+or-false false b h = (refl, h)
+
+not-in : (v : Bool) → not v ≡ false → v ≡ true
+not-in true h = refl
+not-in false h = clash (cc)
+
+pub sound-time : (s : State) (now : ℕ) → Sound s → wrongTime (s .life) now ≡ (lateStart now || ltb now (s .life .last))
+unfolding wrongTime
+sound-time s now h = rw (h .times) (go (lateStart now) (ltb now (s .life .last)))
+  where
+    go : (a b : Bool) → (a || (b || not true)) ≡ (a || b)
+    go true b = refl
+    go false true = refl
+    go false false = refl
+
+never-7 : (t d b : Bool) (n : ℕ) → n ≤ 6 → _≡_ {A = ℕ} (cond t 1 (cond d 2 (cond b 3 (orElse n 0)))) 7 → ⊥
+never-7 true d b n l e = omega (arith, e)
+never-7 false true b n l e = omega (arith, e)
+never-7 false false true n l e = omega (arith, e)
+never-7 false false false n l e = go (eqb n 0) e
+  where
+    go : (none : Bool) → _≡_ {A = ℕ} (cond none 0 n) 7 → ⊥
+    go true f = omega (arith, f)
+    go false f = omega (arith, f)
+
+pub sound-never-7 : (s : State) (c : Call) → Sound s → refusalOfCall s c ≡ 7 → ⊥
+unfolding receiveRefusal tickRefusal
+sound-never-7 s (received now port draw p room) h e =
+    never-7 (wrongTime (s .life) now) (wrongReplyDraw draw) (smallBuffer room) (byPort (readRefusal (messageAt p)) port)
+    (number-at-most (messageAt p) port (proper p))
+    (rw (h .right) at e)
+sound-never-7 s (ticked now room) h e = never-7 (wrongTime (s .life) now) false (smallBuffer room) 0 (omega arith) (rw (h .right) at e)
+
+-- ---- what an accepted call says of the numbers
+
+in-time : (life : Life) (now : ℕ) → wrongTime life now ≡ false → (now ≤ 4611686018427387904) × (kept 4611686018427389904 life ≡ true)
+unfolding wrongTime
+in-time life now h =
+    let a : (lateStart now ≡ false) × ((ltb now (life .last) || not (kept 4611686018427389904 life)) ≡ false) = or-false _ _ h in
+    let b : (ltb now (life .last) ≡ false) × (not (kept 4611686018427389904 life) ≡ false) = or-false _ _ (a .1) in
+    (ltb-false 4611686018427387904 now (a .0), not-in _ (b .1))
+
+small-draw : (s : State) → wrongState s ≡ false → s .life .draw ≤ 250
+unfolding wrongState
+small-draw s h = ltb-false 250 (s .life .draw) (or-false (not (validSetup (s .setup))) (wrongStartDraw (s .life .draw)) h .1)
+
+small-reply : (draw : ℕ) → wrongReplyDraw draw ≡ false → draw ≤ 120
+small-reply draw h = ltb-false 120 draw (or-false (ltb draw 20) (ltb 120 draw) h .1)
+
+-- a state whose set-up and start draw are those of another
+same-right : (s : State) (life : Life) → life .draw ≡ s .life .draw → wrongState s ≡ false → wrongState (record { setup = s .setup; life = life }) ≡ false
+unfolding wrongState
+same-right s life e h = rw e h
+
+right-start : (setup : Setup) (now draw : ℕ) → validSetup setup ≡ true → wrongStartDraw draw ≡ false
+    → wrongState (record { setup = setup; life = claims.startOf now draw }) ≡ false
+unfolding wrongState claims.startOf
+right-start setup now draw v d = simp (v, d)
+
+-- ---- each call
+
+module _ (most : ℕ) (l : 4611686018427388904 ≤ most) where
+  pub start-within : (setup : Setup) (now draw : ℕ) → startRefusal setup now draw ≡ 0 → Within most (startOf setup now draw .state)
+  unfolding startOf
+  start-within setup now draw h =
+      let a : StartAccepted setup now draw = start-accepted setup now draw h in
+      let n : now ≤ 4611686018427387904 = ltb-false 4611686018427387904 now (a .time) in
+      let d : draw ≤ 250 = ltb-false 250 draw (a .drawn) in
+      rw h (record { times = start-kept most now draw n d l; right = right-start setup now draw (a .right) (a .drawn) })
+
+  heard-within :
+      (s : State) (now draw : ℕ) (x : Reads)
+      → now ≤ 4611686018427387904
+      → draw ≤ 120
+      → kept most (s .life) ≡ true
+      → wrongState s ≡ false
+      → Within most (record { setup = s .setup; life = heardOf s now draw x .life })
+  heard-within s now draw (read _ m) n d k w =
+      record {
+        times = receive-kept now draw (factsOf (s .setup) m) (s .setup .hasaaaa) most n d l (s .life) (small-draw s w) k;
+        right = same-right s _ (receive-draw now draw (factsOf (s .setup) m) (s .setup .hasaaaa) (s .life)) w;
+      }
+  heard-within s now draw (refused _) n d k w = record { times = k; right = w }
+
+  pub receive-within :
+      (s : State) (now port draw : ℕ) (p : List ℕ) (room : ℕ)
+      → receiveRefusal s now port draw p room ≡ 0
+      → kept most (s .life) ≡ true
+      → Within most (receiveOf s now port draw p room .state)
+  unfolding receiveOf
+  receive-within s now port draw p room h k =
+      let a : ReceiveAccepted s now port draw p room = receive-accepted s now port draw p room h in
+      rw h (heard-within s now draw (messageAt p) (in-time (s .life) now (a .time) .0) (small-reply draw (a .drawn)) k (a .right))
+
+  pub tick-within :
+      (s : State) (now room : ℕ) → tickRefusal s now room ≡ 0 → kept most (s .life) ≡ true → Within most (tickOf s now room .state)
+  unfolding tickOf
+  tick-within s now room h k =
+      let a : TickAccepted s now room = tick-accepted s now room h in
+      rw h (record {
+        times = tick-kept now (s .setup .hasaaaa) most (in-time (s .life) now (a .time) .0) l (s .life) k;
+        right = same-right s _ (tick-draw now (s .setup .hasaaaa) (s .life)) (a .right);
+      })
+
+  -- accepted or refused
+  pub keeps-within : (s : State) (c : Call) → Within most s → Within most (stateAfter s c)
+  keeps-within s c w = go (eqb (refusalOfCall s c) 0) refl
+    where
+      accepted : (c : Call) → refusalOfCall s c ≡ 0 → Within most (stateAfter s c)
+      accepted (received now port draw p room) h = receive-within s now port draw p room h (w .times)
+      accepted (ticked now room) h = tick-within s now room h (w .times)
+
+      go : (b : Bool) → eqb (refusalOfCall s c) 0 ≡ b → Within most (stateAfter s c)
+      go true e = accepted c (eqb-true _ _ e)
+      go false e = rw (refused-keeps s c e .0) w
+
+  pub run-within : (cs : List Call) (s : State) → Within most s → Within most (run s cs)
+  run-within [] s w = w
+  run-within (c ∷ cs) s w = run-within cs (stateAfter s c) (keeps-within s c w)
+
+-- from any state, an accepted call's result is sound
+pub accepted-sound : (s : State) (c : Call) → refusalOfCall s c ≡ 0 → Sound (stateAfter s c)
+accepted-sound s (received now port draw p room) h =
+    receive-within 4611686018427389904 (omega arith) s now port draw p room h
+    (in-time (s .life) now (receive-accepted s now port draw p room h .time) .1)
+accepted-sound s (ticked now room) h =
+    tick-within 4611686018427389904 (omega arith) s now room h (in-time (s .life) now (tick-accepted s now room h .time) .1)
+
+-- from a start on, no kept time is above 2^62 + 1,000
+pub from-a-start :
+    (setup : Setup) (now draw : ℕ) (cs : List Call)
+    → startRefusal setup now draw ≡ 0
+    → Within 4611686018427388904 (run (startOf setup now draw .state) cs)
+from-a-start setup now draw cs h =
+    run-within 4611686018427388904 (omega arith) cs (startOf setup now draw .state)
+    (start-within 4611686018427388904 (omega arith) setup now draw h)

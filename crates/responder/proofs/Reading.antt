@@ -1,0 +1,101 @@
+-- What a scanned packet says about the message: its refusal is 4, 5 or 6, and facts are those of the message. Assumes nothing.
+use Prim.Native.Nat.{ℕ, _≤_}
+use mathlib.Core.Path.{_≡_, refl}
+use mathlib.Core.Bool.{Bool, true, false, cond, _||_}
+use mathlib.Core.List.{List}
+use native.Mathlib.Omega.{arith}
+use lib.Dec.{eqb, ltb}
+use lib.ListN.{length}
+use borrow.Author.Tests.{ne-eqb}
+use Rattle.octets.specs.Octets.{word16}
+use Rattle.wire.specs.Message.{Question, Record}
+use Rattle.wire.specs.Layout.{Reads, read, refused, Listing, listing, cut, questionAt, recordAt, listFrom, additionalsOf, authoritiesOf, answersOf, questionsOf, plainHeader, messageAt}
+use Rattle.records.specs.declared.Setup.{Setup}
+use Rattle.answers.specs.declared.Facts.{Facts}
+use Rattle.answers.specs.declared.Received as heard
+use Rattle.answers.specs.Answers as answers
+use Rattle.scan.specs.Facts.{factsOf, scannedOf}
+use Rattle.scan.specs.declared.Scanned.the-variants.{Said, Refused}
+use Rattle.responder.specs.Refusals.{readRefusal, byPort}
+use Rattle.responder.specs.Calls.{heardOf}
+use Rattle.responder.specs.declared.State.{State}
+
+clash : {A : Type 0} → _≡_ {A = ℕ} 0 1 → A
+clash z = absurd (omega arith)
+
+-- a message is read, or refused as 4, 5 or 6
+abbrev pub Proper : Reads → Type 0
+Proper (read l m) = Unit {0}
+Proper (refused n) = (4 ≤ n) × (n ≤ 6)
+
+module _ (p : List ℕ) where
+  proper-additionals : (qs : List Question) (an ns : List Record) (a b c : ℕ) (x : Listing Record) → Proper (additionalsOf p qs an ns a b c x)
+  proper-additionals qs an ns a b c (listing ar e) = tt
+  proper-additionals qs an ns a b c cut = (omega arith, omega arith)
+
+  proper-authorities : (qs : List Question) (an : List Record) (a b : ℕ) (x : Listing Record) → Proper (authoritiesOf p qs an a b x)
+  proper-authorities qs an a b (listing ns c) = proper-additionals qs an ns a b c (listFrom (recordAt p) (word16 p 10) c)
+  proper-authorities qs an a b cut = (omega arith, omega arith)
+
+  proper-answers : (qs : List Question) (a : ℕ) (x : Listing Record) → Proper (answersOf p qs a x)
+  proper-answers qs a (listing an b) = proper-authorities qs an a b (listFrom (recordAt p) (word16 p 8) b)
+  proper-answers qs a cut = (omega arith, omega arith)
+
+  proper-questions : (x : Listing Question) → Proper (questionsOf p x)
+  proper-questions (listing qs a) = proper-answers qs a (listFrom (recordAt p) (word16 p 6) a)
+  proper-questions cut = (omega arith, omega arith)
+
+  pub proper : Proper (messageAt p)
+  unfolding messageAt
+  proper = go (ltb (length p) 12 || ltb 8972 (length p)) (plainHeader (word16 p 2))
+    where
+      go : (long plain : Bool) → Proper (cond long (refused 4) (cond plain (questionsOf p (listFrom (questionAt p) (word16 p 4) 12)) (refused 5)))
+      go true plain = (omega arith, omega arith)
+      go false true = proper-questions (listFrom (questionAt p) (word16 p 4) 12)
+      go false false = (omega arith, omega arith)
+
+-- a message is refused by 4, 5 or 6, or not at all
+pub number-at-most : (x : Reads) (port : ℕ) → Proper x → byPort (readRefusal x) port ≤ 6
+number-at-most (read l m) port h = go (eqb port 5353)
+  where
+    go : (mdns : Bool) → cond mdns 0 5 ≤ 6
+    go true = omega arith
+    go false = omega arith
+number-at-most (refused n) port h = go (eqb n 4) (eqb port 5353)
+  where
+    go : (four mdns : Bool) → cond four 4 (cond mdns n 5) ≤ 6
+    go true mdns = omega arith
+    go false true = h .1
+    go false false = omega arith
+
+pub refused-number : (setup : Setup) (x : Reads) (n : ℕ) → scannedOf setup x ≡ Refused n → readRefusal x ≡ n
+refused-number setup (read l m) n e = clash (cc)
+refused-number setup (refused k) n e = cc
+
+refused-from-4 : (setup : Setup) (x : Reads) (n : ℕ) → Proper x → scannedOf setup x ≡ Refused n → 4 ≤ n
+refused-from-4 setup (read l m) n h e = clash (cc)
+refused-from-4 setup (refused k) n h e = let i : k ≡ n = cc in omega (arith, h .0, i)
+
+-- a refused message is refused by a number that is not 0, whatever its port
+pub by-port-refuses : (setup : Setup) (p : List ℕ) (n port k : ℕ) → scannedOf setup (messageAt p) ≡ Refused n → k ≡ byPort n port → eqb k 0 ≡ false
+by-port-refuses setup p n port k e b = rw b (go (eqb n 4) (eqb port 5353))
+  where
+    nonzero : eqb n 0 ≡ false
+    nonzero = ne-eqb n 0 (λ z. absurd (omega (arith, refused-from-4 setup (messageAt p) n (proper p) e)))
+
+    go : (four mdns : Bool) → eqb (cond four 4 (cond mdns n 5)) 0 ≡ false
+    go true mdns = refl
+    go false true = nonzero
+    go false false = refl
+
+pub said-number : (setup : Setup) (x : Reads) (f : Facts) → scannedOf setup x ≡ Said f → readRefusal x ≡ 0
+said-number setup (read l m) f e = refl
+said-number setup (refused n) f e = clash (cc)
+
+pub said-heard :
+    (s : State) (now draw : ℕ) (x : Reads) (f : Facts) (h : heard.Received)
+    → scannedOf (s .setup) x ≡ Said f
+    → h ≡ answers.receiveOf (s .life) now draw f (s .setup .hasaaaa)
+    → heardOf s now draw x ≡ h
+said-heard s now draw (read l m) f h e d = let i : factsOf (s .setup) m ≡ f = cc in simp (d, i)
+said-heard s now draw (refused n) f h e d = clash (cc)

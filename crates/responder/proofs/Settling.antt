@@ -1,0 +1,94 @@
+-- From the refusal of a call, or from none, to its answer, its state and its buffer. Assumes nothing.
+use Prim.Native.Nat.{ℕ}
+use mathlib.Core.Path.{_≡_}
+use mathlib.Core.Bool.{true, false}
+use mathlib.Core.List.{List}
+use lib.Dec.{eqb}
+use lib.ListN.{length}
+use Rattle.wire.specs.Layout.{messageAt}
+use Rattle.records.specs.declared.Setup.{Setup}
+use Rattle.records.specs.Setups.{validSetup}
+use Rattle.claims.specs.Refusals.{lateStart, wrongStartDraw}
+use Rattle.claims.specs.Claims as claims
+use Rattle.claims.specs.declared.Life.{Life}
+use Rattle.steps.specs.declared.Output.the-variants.{Response}
+use Rattle.steps.specs.declared.Ticked as walked
+use Rattle.answers.specs.declared.Received as heard
+use Rattle.compose.specs.Own.{laidOver}
+use Rattle.responder.specs.Refusals.{startRefusal, receiveRefusal, tickRefusal}
+use Rattle.responder.specs.Calls.{blank, startOf, heardOf, receivedPacket, receiveOf, walkedOf, tickedPacket, tickOf}
+use Rattle.responder.specs.declared.State.{State}
+use Rattle.responder.specs.declared.Answer.{Answer}
+use Rattle.responder.specs.declared.Answer.the-variants.{Refused, Quiet}
+use Rattle.responder.specs.declared.Started.{Started}
+use Rattle.responder.specs.declared.Received.{Received}
+use Rattle.responder.specs.declared.Ticked.{Ticked}
+use Rattle.responder.proofs.Sending.{Sends}
+
+-- ---- a start
+
+module _ (setup : Setup) (now draw : ℕ) where
+  module _ (s : State) (b : s ≡ blank) where
+    abbrev Refuses : ℕ → Type 0
+    Refuses n = _≡_ {A = Started} (record { answer = Refused n; state = s }) (startOf setup now draw)
+
+    pub start-1 : lateStart now ≡ true → Refuses 1
+    unfolding startOf startRefusal
+    start-1 t = simp (t, b)
+
+    pub start-2 : lateStart now ≡ false → wrongStartDraw draw ≡ true → Refuses 2
+    unfolding startOf startRefusal
+    start-2 t d = simp (t, d, b)
+
+    pub start-7 : lateStart now ≡ false → wrongStartDraw draw ≡ false → validSetup setup ≡ false → Refuses 7
+    unfolding startOf startRefusal
+    start-7 t d v = simp (t, d, v, b)
+
+  pub starts :
+      (life : Life)
+      → life ≡ claims.startOf now draw
+      → lateStart now ≡ false
+      → wrongStartDraw draw ≡ false
+      → validSetup setup ≡ true
+      → _≡_ {A = Started} (record { answer = Quiet; state = record { setup = setup; life = life } }) (startOf setup now draw)
+  unfolding startOf startRefusal
+  starts life e t d v = simp (t, d, v, e)
+
+-- ---- a packet received
+
+module _ (s : State) (now port draw : ℕ) (p out : List ℕ) where
+  abbrev Receives : Received → List ℕ → Type 0
+  Receives r o =
+      (r ≡ receiveOf s now port draw p (length out)) × (o ≡ laidOver (receivedPacket s now port draw p (length out)) out)
+
+  pub receive-refused : (n : ℕ) → receiveRefusal s now port draw p (length out) ≡ n → eqb n 0 ≡ false → Receives (record { answer = Refused n; state = s }) out
+  unfolding receiveOf receivedPacket
+  receive-refused n e z = (simp (e, z), simp (e, z))
+
+  pub receives :
+      (h : heard.Received) (a : Answer) (o : List ℕ)
+      → receiveRefusal s now port draw p (length out) ≡ 0
+      → heardOf s now draw (messageAt p) ≡ h
+      → Sends (s .setup) (Response (h .answers)) out a o
+      → Receives (record { answer = a; state = record { setup = s .setup; life = h .life } }) o
+  unfolding receiveOf receivedPacket
+  receives h a o e d w = (simp (e, d, w .0), simp (e, d, w .1))
+
+-- ---- a tick
+
+module _ (s : State) (now : ℕ) (out : List ℕ) where
+  abbrev Ticks : Ticked → List ℕ → Type 0
+  Ticks r o = (r ≡ tickOf s now (length out)) × (o ≡ laidOver (tickedPacket s now (length out)) out)
+
+  pub tick-refused : (n : ℕ) → tickRefusal s now (length out) ≡ n → eqb n 0 ≡ false → Ticks (record { answer = Refused n; more = false; state = s }) out
+  unfolding tickOf tickedPacket
+  tick-refused n e z = (simp (e, z), simp (e, z))
+
+  pub ticks :
+      (w : walked.Ticked) (a : Answer) (o : List ℕ)
+      → tickRefusal s now (length out) ≡ 0
+      → w ≡ walkedOf s now
+      → Sends (s .setup) (w .output) out a o
+      → Ticks (record { answer = a; more = w .more; state = record { setup = s .setup; life = w .life } }) o
+  unfolding tickOf tickedPacket
+  ticks w a o e d h = (simp (e, ← d, h .0), simp (e, ← d, h .1))

@@ -1,0 +1,61 @@
+use Rattle.responder.proofs.Sending.{probe-packet, response-packet, sends-nothing, sends}
+use borrow.Author.Needs.{needs}
+use Rattle.responder.proofs.send.Statement.{statement}
+use Rattle.responder.proofs.send.Tie as tie
+
+enum-told : tie.Need-enum-told
+enum-told c = search needs
+
+enum-known-output : tie.Need-enum-known-output
+enum-known-output c = search needs
+
+claim-for-requires : tie.Need-claim-for-requires
+claim-for-requires c κs = tt
+
+probe-requires : tie.Need-probe-requires
+probe-requires c κs = tt
+
+answer-for-requires : tie.Need-answer-for-requires
+answer-for-requires c κs = tt
+
+enum-known-output-2 : tie.Need-enum-known-output-2
+enum-known-output-2 c = search needs
+
+respond-requires : tie.Need-respond-requires
+respond-requires c κs = tt
+
+answer-for-requires-2 : tie.Need-answer-for-requires-2
+answer-for-requires-2 c κs = tt
+
+returns : tie.Need-returns
+returns c = sends-nothing _ _ _ (c .enum-told .given .1)
+
+same-length : tie.Need-same-length
+same-length c = search needs
+
+returns-2 : tie.Need-returns-2
+returns-2 c = sends _ _ _ _ _ _ _ (c .before .before .before .before .before .before .before .before .before .before .pre) (probe-packet _ _ _ _ (c .before .before .before .before .before .before .before .output .given .1) (c .before .before .before .before .before .claim-for .ensures)) (c .before .before .before .probe .ensures) (c .answer-for .ensures)
+
+same-length-2 : tie.Need-same-length-2
+same-length-2 c = search needs
+
+returns-3 : tie.Need-returns-3
+returns-3 c = sends _ _ _ _ _ _ _ (c .before .before .before .before .before .before .before .before .before .pre) (response-packet _ _ _ (c .before .before .before .before .before .before .output2 .given .1)) (c .before .before .before .respond .ensures) (c .answer-for2 .ensures)
+
+pub send-spec : {M : Type 1} → statement M
+send-spec =
+    tie.close
+    (tie.spec
+    enum-told
+    enum-known-output
+    claim-for-requires
+    probe-requires
+    answer-for-requires
+    enum-known-output-2
+    respond-requires
+    answer-for-requires-2
+    returns
+    same-length
+    returns-2
+    same-length-2
+    returns-3)

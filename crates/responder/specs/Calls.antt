@@ -1,0 +1,159 @@
+-- A start, a packet received and a tick (paper 01, 'Refusal numbers', 'A claim's life', 'Which answers go out'): the answer, the state after the call and
+-- the packet that it sends, put together from what the parts below say. Assumes nothing: these are definitions.
+use Prim.Native.Nat.{ℕ}
+use mathlib.Core.Bool.{Bool, false, cond}
+use mathlib.Core.List.{List, [], _∷_}
+use lib.ListN.{length, replicate}
+use lib.Dec.{eqb}
+use Rattle.wire.specs.Layout.{Reads, read, refused, messageAt}
+use Rattle.records.specs.declared.Setup.{Setup}
+use Rattle.records.specs.declared.Claim.{Claim}
+use Rattle.records.specs.declared.Claim.the-variants as own
+use Rattle.claims.specs.Claims as claims
+use Rattle.claims.specs.declared.Claim.the-variants.{Lost}
+use Rattle.claims.specs.declared.Kind.{Kind}
+use Rattle.claims.specs.declared.Kind.the-variants.{Instance, Host}
+use Rattle.claims.specs.declared.Sent.the-variants.{Never}
+use Rattle.claims.specs.declared.Reply.the-variants.{Unset}
+use Rattle.claims.specs.declared.Records.{Records}
+use Rattle.claims.specs.declared.Life.{Life}
+use Rattle.steps.specs.Tick as steps
+use Rattle.steps.specs.declared.Output.{Output}
+use Rattle.steps.specs.declared.Output.the-variants.{Nothing, Probe, Response}
+use Rattle.steps.specs.declared.Ticked as walked
+use Rattle.answers.specs.Answers as answers
+use Rattle.answers.specs.declared.Received as heard
+use Rattle.scan.specs.Facts.{factsOf}
+use Rattle.compose.specs.Own.{responsePacket, probePacket, unlessRefused}
+use Rattle.compose.specs.declared.Written.{Written}
+use Rattle.compose.specs.declared.Written.the-variants as written
+use Rattle.responder.specs.Refusals.{startRefusal, receiveRefusal, tickRefusal}
+use Rattle.responder.specs.declared.State.{State}
+use Rattle.responder.specs.declared.Answer.{Answer}
+use Rattle.responder.specs.declared.Answer.the-variants.{Refused, Quiet, Sent}
+use Rattle.responder.specs.declared.Started.{Started}
+use Rattle.responder.specs.declared.Received.{Received}
+use Rattle.responder.specs.declared.Ticked.{Ticked}
+
+-- 01's values for each answer: the number of the refusal, 0 for none, and the length of the packet
+abbrev pub refusalOf : Answer → ℕ
+refusalOf (Refused n) = n
+refusalOf Quiet = 0
+refusalOf (Sent n) = 0
+
+abbrev pub lengthOf : Answer → ℕ
+lengthOf (Refused n) = 0
+lengthOf Quiet = 0
+lengthOf (Sent n) = n
+
+-- the answer for a packet that is sent, where an empty one is none
+abbrev pub sentOr : List ℕ → Answer
+sentOr [] = Quiet
+sentOr (b ∷ bs) = Sent (length (b ∷ bs))
+
+-- "A refusal returns the number alone"
+abbrev pub answerOf : ℕ → List ℕ → Answer
+answerOf refusal packet = cond (eqb refusal 0) (sentOr packet) (Refused refusal)
+
+-- ".. state .. keep every byte"
+abbrev pub stateOf : ℕ → State → Life → State
+stateOf refusal s life = cond (eqb refusal 0) (record { setup = s .setup; life = life }) s
+
+-- the answer for what a packet's writer answers
+abbrev pub answerFor : Written → Answer
+answerFor (written.Sent n) = Sent n
+answerFor written.Nothing = Quiet
+answerFor (written.Refused n) = Refused n
+
+-- the packets of a call, at most one
+abbrev pub packets : List ℕ → List (List ℕ)
+packets [] = []
+packets (b ∷ bs) = (b ∷ bs) ∷ []
+
+-- ---- a start
+
+-- The state of a refused start, which the paper leaves free: every label and string is empty, both claims are lost, nothing was multicast.
+unfoldable pub blank : State
+blank = record {
+  setup = record {
+    instance = record { bytes = replicate 63 0; len = 0 };
+    service = record { bytes = replicate 16 0; len = 0 };
+    protocol = replicate 4 0;
+    host = record { bytes = replicate 63 0; len = 0 };
+    domain = replicate 5 0;
+    port = 0;
+    txt = record { bytes = replicate 400 0; len = 0 };
+    a = replicate 4 0;
+    hasaaaa = false;
+    aaaa = replicate 16 0;
+  };
+  life = record {
+    instance = Lost;
+    host = Lost;
+    sent = record { ptr = Never; srv = Never; txt = Never; a = Never; aaaa = Never };
+    reply = Unset;
+    draw = 0;
+    last = 0;
+  };
+}
+
+abbrev pub startState : ℕ → Setup → ℕ → ℕ → State
+startState refusal setup now draw = cond (eqb refusal 0) (record { setup = setup; life = claims.startOf now draw }) blank
+
+unfoldable pub startOf : Setup → ℕ → ℕ → Started
+startOf setup now draw = record {
+  answer = answerOf (startRefusal setup now draw) [];
+  state = startState (startRefusal setup now draw) setup now draw;
+}
+
+-- ---- what a call sends
+
+-- the claim by the own records' name for it
+abbrev pub claimFor : Kind → Claim
+claimFor Instance = own.Instance
+claimFor Host = own.Host
+
+-- the records of a set by their indices
+abbrev pub listed : Records → List Bool
+listed set = set .ptr ∷ set .srv ∷ set .txt ∷ set .a ∷ set .aaaa ∷ []
+
+unfoldable pub packetFor : Setup → Output → List ℕ
+packetFor setup Nothing = []
+packetFor setup (Probe k) = probePacket setup (claimFor k)
+packetFor setup (Response set) = responsePacket setup (listed set)
+
+-- ---- a packet received
+
+-- What a message does to a state: the life after it, and the records that go out at once. A message that is refused says nothing.
+abbrev pub heardOf : State → ℕ → ℕ → Reads → heard.Received
+heardOf s now draw (read l m) = answers.receiveOf (s .life) now draw (factsOf (s .setup) m) (s .setup .hasaaaa)
+heardOf s now draw (refused n) = record { life = s .life; answers = record { ptr = false; srv = false; txt = false; a = false; aaaa = false } }
+
+-- "SRV, TXT, A, AAAA go out at once in one packet."
+unfoldable pub receivedPacket : State → ℕ → ℕ → ℕ → List ℕ → ℕ → List ℕ
+receivedPacket s now port draw p room =
+    unlessRefused (receiveRefusal s now port draw p room) (packetFor (s .setup) (Response (heardOf s now draw (messageAt p) .answers)))
+
+unfoldable pub receiveOf : State → ℕ → ℕ → ℕ → List ℕ → ℕ → Received
+receiveOf s now port draw p room = record {
+  answer = answerOf (receiveRefusal s now port draw p room) (receivedPacket s now port draw p room);
+  state = stateOf (receiveRefusal s now port draw p room) s (heardOf s now draw (messageAt p) .life);
+}
+
+-- ---- a tick
+
+-- the due steps of a state
+abbrev pub walkedOf : State → ℕ → walked.Ticked
+walkedOf s now = steps.tickOf (s .life) now (s .setup .hasaaaa)
+
+-- "the first that sends ends the tick"
+unfoldable pub tickedPacket : State → ℕ → ℕ → List ℕ
+tickedPacket s now room = unlessRefused (tickRefusal s now room) (packetFor (s .setup) (walkedOf s now .output))
+
+-- "It says whether more is due."
+unfoldable pub tickOf : State → ℕ → ℕ → Ticked
+tickOf s now room = record {
+  answer = answerOf (tickRefusal s now room) (tickedPacket s now room);
+  more = cond (eqb (tickRefusal s now room) 0) (walkedOf s now .more) false;
+  state = stateOf (tickRefusal s now room) s (walkedOf s now .life);
+}

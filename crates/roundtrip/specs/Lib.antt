@@ -1,0 +1,6 @@
+pub mod Shapes
+pub mod Names
+pub mod Items
+pub mod Whole
+pub mod OwnPackets
+pub mod Cases

@@ -1,0 +1,56 @@
+-- Messages that can be written: names that are names, rdata as its type asks, TTLs without the top bit. Assumes nothing: these are definitions.
+use Prim.Native.Nat.{ℕ, _<_, _≤_}
+use mathlib.Core.Path.{_≡_}
+use mathlib.Core.List.{List, [], _∷_}
+use mathlib.Core.Bool.{Bool, true}
+use lib.ListN.{length, drop}
+use Rattle.names.specs.Names.{isName}
+use Rattle.rdata.specs.Rdata.{stringsFill}
+use Rattle.wire.specs.Message.{Question, Record, Message}
+use Rattle.wire.specs.Layout.{plainHeader}
+use Rattle.wire.specs.declared.Layout.{Layout}
+use Rattle.compose.specs.Packets.{header, putQuestion, putRecord, putAll, packetOf}
+
+-- rdata as its type asks (1 A, 12 PTR, 16 TXT, 28 AAAA, 33 SRV)
+pub data Shaped : ℕ → List ℕ → Type 0 where
+  four : {k : ℕ} {d : List ℕ} → k ≡ 1 → length d ≡ 4 → Shaped k d
+  target : {k : ℕ} {d : List ℕ} → k ≡ 12 → isName d ≡ true → Shaped k d
+  strings : {k : ℕ} {d : List ℕ} → k ≡ 16 → stringsFill 0 d ≡ true → Shaped k d
+  sixteen : {k : ℕ} {d : List ℕ} → k ≡ 28 → length d ≡ 16 → Shaped k d
+  server : {k : ℕ} {d : List ℕ} → k ≡ 33 → 6 ≤ length d → isName (drop 6 d) ≡ true → Shaped k d
+  other : {k : ℕ} {d : List ℕ} → (k ≡ 1 → ⊥) → (k ≡ 12 → ⊥) → (k ≡ 16 → ⊥) → (k ≡ 28 → ⊥) → (k ≡ 33 → ⊥) → Shaped k d
+
+pub record IsRecord (r : Record) : Type 0 where
+  pub owned : isName (r .owner) ≡ true
+  pub shaped : Shaped (r .rtype) (r .rdata)
+  pub counts : r .ttl < 2147483648
+
+abbrev pub IsQuestion : Question → Type 0
+IsQuestion q = isName (q .name) ≡ true
+
+-- each of a list is so
+pub data Each {A : Type 0} (Ok : A → Type 0) : List A → Type 0 where
+  none : Each Ok []
+  one : {x : A} {xs : List A} → Ok x → Each Ok xs → Each Ok (x ∷ xs)
+
+pub record Writable (m : Message) : Type 0 where
+  pub plain : plainHeader (m .flags) ≡ true
+  pub questions : Each IsQuestion (m .questions)
+  pub answers : Each IsRecord (m .answers)
+  pub authorities : Each IsRecord (m .authorities)
+  pub additionals : Each IsRecord (m .additionals)
+
+-- where the parts of a message lie in its packet
+abbrev pub layoutOf : Message → Layout
+layoutOf m = record {
+  id = m .id;
+  flags = m .flags;
+  questions = record { at = 12; count = length (m .questions) };
+  answers = record { at = length (putAll putQuestion (header m) (m .questions) .bytes); count = length (m .answers) };
+  authorities = record { at = length (putAll putRecord (putAll putQuestion (header m) (m .questions)) (m .answers) .bytes); count = length (m .authorities) };
+  additionals = record {
+    at = length (putAll putRecord (putAll putRecord (putAll putQuestion (header m) (m .questions)) (m .answers)) (m .authorities) .bytes);
+    count = length (m .additionals);
+  };
+  end = length (packetOf m);
+}

@@ -1,0 +1,146 @@
+-- The round trip of a whole message: the packet that is written for it is read as it, whatever bytes follow. Assumes nothing.
+use Prim.Native.Nat.{ℕ, zero, suc, _+_, _*_, _/_, _%_, _<_, _≤_}
+use mathlib.Core.Path.{_≡_, refl, sym, ap, ap₂, _∙_}
+use mathlib.Core.List.{List, [], _∷_, _++_, append-assoc, append-nil}
+use mathlib.Core.Bool.{Bool, true, false, cond, _&&_, _||_}
+use native.Mathlib.Omega.{arith}
+use borrow.Author.Tests.{le-leb, le-ltb, lt-leb, eq-eqb, ne-eqb}
+use lib.ListN.{length, getD, take, drop, length-append}
+use lib.Dec.{eqb, ltb, leb}
+use Rattle.octets.specs.Octets.{byteAt, word16, word32}
+use Rattle.compression.specs.Sentence.{Rising, empty, next}
+use Rattle.wire.specs.Message.{Question, Record, Message}
+use Rattle.wire.specs.Layout.{questionAt, recordAt, Listing, listing, listFrom, Reads, read, refused, plainHeader, additionalsOf, authoritiesOf, answersOf, questionsOf, messageAt}
+use Rattle.wire.specs.declared.Section.{Section}
+use Rattle.wire.specs.declared.Layout.{Layout}
+use Rattle.compose.specs.Packets.{Writing, u16, putRecord, putQuestion, putAll, header, packetOf}
+use Rattle.roundtrip.specs.Shapes.{IsRecord, IsQuestion, Each, none, one, Writable, layoutOf}
+use Rattle.roundtrip.specs.Items.{Sound, record-back, record-sound, record-more, question-back, question-sound, question-more, More, all-sound, all-more, all-back}
+
+-- a message from its sections
+sections : (P : List ℕ) (i f nq na nn nr : ℕ) (qs : List Question) (an ns ar : List Record) (a b c d : ℕ) → 12 ≤ length P → length P ≤ 8972 → plainHeader f ≡ true
+    → word16 P 0 ≡ i → word16 P 2 ≡ f → word16 P 4 ≡ nq → word16 P 6 ≡ na → word16 P 8 ≡ nn → word16 P 10 ≡ nr
+    → listFrom (questionAt P) nq 12 ≡ listing qs a → listFrom (recordAt P) na a ≡ listing an b → listFrom (recordAt P) nn b ≡ listing ns c → listFrom (recordAt P) nr c ≡ listing ar d
+    → messageAt P
+    ≡ read
+    (record {
+      id = i;
+      flags = f;
+      questions = record { at = 12; count = nq };
+      answers = record { at = a; count = na };
+      authorities = record { at = b; count = nn };
+      additionals = record { at = c; count = nr };
+      end = d;
+    }) (record { id = i; flags = f; questions = qs; answers = an; authorities = ns; additionals = ar })
+unfolding messageAt
+sections P i f nq na nn nr qs an ns ar a b c d long most plain ei ef eq ea en er hq ha hn hr =
+    simp (le-ltb (length P) 12 long, le-ltb 8972 (length P) most, ap plainHeader ef ∙ plain)
+    (ap (questionsOf P) (ap (λ (n : ℕ). listFrom (questionAt P) n 12) eq ∙ hq)
+    ∙ ap (answersOf P qs a) (ap (λ (n : ℕ). listFrom (recordAt P) n a) ea ∙ ha)
+    ∙ ap (authoritiesOf P qs an a b) (ap (λ (n : ℕ). listFrom (recordAt P) n b) en ∙ hn)
+    ∙ ap (additionalsOf P qs an ns a b c) (ap (λ (n : ℕ). listFrom (recordAt P) n c) er ∙ hr)
+    ∙ λ j. read
+    (record {
+      id = ei j;
+      flags = ef j;
+      questions = record { at = 12; count = eq j };
+      answers = record { at = a; count = ea j };
+      authorities = record { at = b; count = en j };
+      additionals = record { at = c; count = er j };
+      end = d;
+    }) (record { id = ei j; flags = ef j; questions = qs; answers = an; authorities = ns; additionals = ar }))
+
+-- The round trip: a message that can be written, in a packet of at most 8,972 bytes, is read back whole: the header, each question and each record in
+-- its section, in order, every name and every rdata byte for byte, and the end of the packet.
+pub message-back : (m : Message) → Writable m → (post : List ℕ) → length (packetOf m ++ post) ≤ 8972 → messageAt (packetOf m ++ post) ≡ read (layoutOf m) m
+unfolding packetOf
+message-back m ok post most =
+    sections P (m .id) (m .flags) (length (m .questions)) (length (m .answers)) (length (m .authorities)) (length (m .additionals)) (m .questions) (m .answers) (m .authorities) (m .additionals)
+    (length (w₁ .bytes)) (length (w₂ .bytes)) (length (w₃ .bytes)) (length (w₄ .bytes)) (omega (arith, ap length from-header, length-append (w₀ .bytes) rest₀)) most (ok .plain)
+    (word 0 (m .id) refl refl) (word 2 (m .flags) refl refl) (word 4 (length (m .questions)) refl refl) (word 6 (length (m .answers)) refl refl) (word 8 (length (m .authorities)) refl refl) (word 10 (length (m .additionals)) refl refl)
+    (all-back putQuestion questionAt IsQuestion question-sound question-more question-back (ok .questions) w₀ s₀ (omega (arith, lengths, small)) P rest₁ to₁)
+    (all-back putRecord recordAt IsRecord record-sound record-more record-back (ok .answers) w₁ s₁ (omega (arith, lengths, small)) P rest₂ to₂)
+    (all-back putRecord recordAt IsRecord record-sound record-more record-back (ok .authorities) w₂ s₂ (omega (arith, lengths, small)) P rest₃ to₃)
+    (all-back putRecord recordAt IsRecord record-sound record-more record-back (ok .additionals) w₃ s₃ (omega (arith, small)) P post refl)
+  where
+    w₀ : Writing
+    w₀ = header m
+
+    w₁ : Writing
+    w₁ = putAll putQuestion w₀ (m .questions)
+
+    w₂ : Writing
+    w₂ = putAll putRecord w₁ (m .answers)
+
+    w₃ : Writing
+    w₃ = putAll putRecord w₂ (m .authorities)
+
+    w₄ : Writing
+    w₄ = putAll putRecord w₃ (m .additionals)
+
+    P : List ℕ
+    P = w₄ .bytes ++ post
+
+    small : length (w₄ .bytes) ≤ 8972
+    small = omega (arith, most, length-append (w₄ .bytes) post)
+
+    s₀ : Sound w₀
+    s₀ = let g : 12 ≤ 12 = omega arith in empty g
+
+    s₁ : Sound w₁
+    s₁ = all-sound putQuestion questionAt IsQuestion question-sound question-more question-back (ok .questions) w₀ s₀
+
+    s₂ : Sound w₂
+    s₂ = all-sound putRecord recordAt IsRecord record-sound record-more record-back (ok .answers) w₁ s₁
+
+    s₃ : Sound w₃
+    s₃ = all-sound putRecord recordAt IsRecord record-sound record-more record-back (ok .authorities) w₂ s₂
+
+    m₁ : More w₀ w₁
+    m₁ = all-more putQuestion questionAt IsQuestion question-sound question-more question-back w₀ (m .questions)
+
+    m₂ : More w₁ w₂
+    m₂ = all-more putRecord recordAt IsRecord record-sound record-more record-back w₁ (m .answers)
+
+    m₃ : More w₂ w₃
+    m₃ = all-more putRecord recordAt IsRecord record-sound record-more record-back w₂ (m .authorities)
+
+    m₄ : More w₃ w₄
+    m₄ = all-more putRecord recordAt IsRecord record-sound record-more record-back w₃ (m .additionals)
+
+    rest₃ : List ℕ
+    rest₃ = m₄ .0 ++ post
+
+    rest₂ : List ℕ
+    rest₂ = m₃ .0 ++ rest₃
+
+    rest₁ : List ℕ
+    rest₁ = m₂ .0 ++ rest₂
+
+    rest₀ : List ℕ
+    rest₀ = m₁ .0 ++ rest₁
+
+    to₃ : P ≡ w₃ .bytes ++ rest₃
+    to₃ = ap (λ (l : List ℕ). l ++ post) (m₄ .1) ∙ append-assoc (w₃ .bytes) (m₄ .0) post
+
+    to₂ : P ≡ w₂ .bytes ++ rest₂
+    to₂ = to₃ ∙ ap (λ (l : List ℕ). l ++ rest₃) (m₃ .1) ∙ append-assoc (w₂ .bytes) (m₃ .0) rest₃
+
+    to₁ : P ≡ w₁ .bytes ++ rest₁
+    to₁ = to₂ ∙ ap (λ (l : List ℕ). l ++ rest₂) (m₂ .1) ∙ append-assoc (w₁ .bytes) (m₂ .0) rest₂
+
+    from-header : P ≡ w₀ .bytes ++ rest₀
+    from-header = to₁ ∙ ap (λ (l : List ℕ). l ++ rest₁) (m₁ .1) ∙ append-assoc (w₀ .bytes) (m₁ .0) rest₁
+
+    lengths : (length (w₁ .bytes) ≤ length (w₂ .bytes)) × (length (w₂ .bytes) ≤ length (w₃ .bytes)) × (length (w₃ .bytes) ≤ length (w₄ .bytes))
+    lengths = (
+      omega (arith, ap length (m₂ .1), length-append (w₁ .bytes) (m₂ .0)),
+      omega (arith, ap length (m₃ .1), length-append (w₂ .bytes) (m₃ .0)),
+      omega (arith, ap length (m₄ .1), length-append (w₃ .bytes) (m₄ .0)),
+    )
+
+    word : (i n : ℕ) → getD (w₀ .bytes ++ rest₀) i 0 ≡ n / 256 → getD (w₀ .bytes ++ rest₀) (i + 1) 0 ≡ n % 256 → word16 P i ≡ n
+    word i n a b =
+        let x : getD P i 0 ≡ n / 256 = ap (λ (l : List ℕ). getD l i 0) from-header ∙ a in
+        let y : getD P (i + 1) 0 ≡ n % 256 = ap (λ (l : List ℕ). getD l (i + 1) 0) from-header ∙ b in
+        omega arith

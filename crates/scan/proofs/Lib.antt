@@ -1,0 +1,5 @@
+-- Laws that belong to no one function.
+mod Tests
+mod Walks
+mod Owned
+mod Said
