@@ -1,4 +1,4 @@
--- The two packets of paper 01's corner readings, and one of all five records, as the checker computes them; and so a set-up that keeps the rules.
+-- The two packets of paper 01's corner readings, and the instance's probe, as the checker computes them; and so a set-up that keeps the rules.
 -- Assumes nothing.
 use Prim.Native.Nat.{ℕ}
 use mathlib.Core.Path.{_≡_, refl}
