@@ -5,7 +5,7 @@ set -eu
 root=$(cd "$(dirname "$0")/.." && pwd)
 cargo build --release --quiet --manifest-path "$root/second/Cargo.toml"
 second=$root/second/target/release/second
-for part in reader txt form; do python3 "$root/vectors/$part.py"; done | cmp - "$root/crates/console/stdin"
+for part in reader txt responder form; do python3 "$root/vectors/$part.py"; done | cmp - "$root/crates/console/stdin"
 "$second" <"$root/crates/console/stdin" | cmp - "$root/crates/console/stdout"
 echo "$(grep -c . "$root/crates/console/stdout") stored answers are those of the second program"
 python3 "$root/vectors/pipes.py" "$root/target/bin/console" "$second"

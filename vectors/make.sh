@@ -4,5 +4,5 @@
 set -eu
 here=$(dirname "$0")
 console=$here/../crates/console
-for part in reader txt form; do python3 "$here/$part.py"; done > "$console/stdin"
+for part in reader txt responder form; do python3 "$here/$part.py"; done > "$console/stdin"
 "$1" < "$console/stdin" > "$console/stdout"

@@ -1,10 +1,15 @@
 // The console: one line a call, one line an answer. This file reads the lines of standard input; `calls` answers each at once.
 // A thin layer over the libraries: no rule of paper 01 is here.
 mod calls;
+mod fields;
 mod pairs;
 mod reading;
+mod sending;
+mod setup;
+mod showing;
 
 use libc::STDIN_FILENO;
+use responder::State;
 ghost use Prim.Native.Nat.{_+_, _≤_};
 ghost use lib.ListN.{length};
 
@@ -46,24 +51,25 @@ fn keep(input: &mut [u8], from: usize, filled: usize) -> usize
     n
 }
 
-// Answers a line. An empty line or a comment has no answer.
-fn answer_line(line: &[u8], text: &mut [u8; 4096]) {
+// Answers a line, and tells the responder after it. An empty line or a comment has no answer.
+fn answer_line(line: &[u8], held: State, out: &mut [u8; 4096], text: &mut [u8; 4096]) -> State {
     if line.len() == 0 {
-        return;
+        return held;
     }
     if line[0] == b'#' {
-        return;
+        return held;
     }
     if MOST_LINE < line.len() {
         output::bad_line(text);
-        return;
+        return held;
     }
-    calls::call(line, text);
+    calls::call(line, held, out, text)
 }
 
 // Reads and answers line by line until the input ends. Of the buffer's first `filled` bytes the line begins at `start`, and no LF stands before
 // `seen`. Nothing says that the input ends, so the loop counts its turns down, from a number of lines and reads that no run uses up.
-fn serve(input: &mut [u8], text: &mut [u8; 4096]) {
+fn serve(input: &mut [u8], out: &mut [u8; 4096], text: &mut [u8; 4096]) {
+    let mut state = setup::unset();
     let mut start = 0;
     let mut seen = 0;
     let mut filled = 0;
@@ -72,8 +78,9 @@ fn serve(input: &mut [u8], text: &mut [u8; 4096]) {
         turns -= 1;
         let end = bytes::scan::find(input, seen, filled, b'\n');
         if end < filled {
-            answer_line(&input[start..end], text);
-            start = end + 1;
+            let next = end + 1;
+            state = answer_line(&input[start..end], state, out, text);
+            start = next;
             seen = start;
         } else {
             let held = keep(input, start, filled);
@@ -89,6 +96,7 @@ fn serve(input: &mut [u8], text: &mut [u8; 4096]) {
 
 fn main() {
     let mut input = [0u8; 65536];
+    let mut out = [0u8; 4096];
     let mut text = [0u8; 4096];
-    serve(&mut input, &mut text);
+    serve(&mut input, &mut out, &mut text);
 }

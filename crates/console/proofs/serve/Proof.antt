@@ -6,10 +6,13 @@ use Rattle.console.proofs.serve.Statement.{statement}
 use Rattle.console.proofs.serve.Tie as tie
 
 abbrev Inv-loop : tie.InvT-loop
-Inv-loop input₀ text₀ start₀ seen₀ filled₀ turns₀ input text start seen filled turns = (length input ≡ length input₀) × (start ≤ seen) × (seen ≤ filled) × (filled ≤ length input)
+Inv-loop input₀ out₀ text₀ state₀ start₀ seen₀ filled₀ turns₀ input out text state start seen filled turns = (length input ≡ length input₀) × (start ≤ seen) × (seen ≤ filled) × (filled ≤ length input)
 
 abbrev μ-loop : tie.MeasureT-loop
-μ-loop input₀ text₀ start₀ seen₀ filled₀ turns₀ input text start seen filled turns = turns
+μ-loop input₀ out₀ text₀ state₀ start₀ seen₀ filled₀ turns₀ input out text state start seen filled turns = turns
+
+unset-requires : tie.Need-unset-requires Inv-loop μ-loop
+unset-requires c κs = search needs
 
 loop-holds : tie.Need-loop-holds Inv-loop μ-loop
 loop-holds c = search needs
@@ -19,6 +22,9 @@ sub-turns c = search needs
 
 find-requires : tie.Need-find-requires Inv-loop μ-loop
 find-requires c κs = search needs
+
+add-next : tie.Need-add-next Inv-loop μ-loop
+add-next c = search needs
 
 sub-answer-line : tie.Need-sub-answer-line Inv-loop μ-loop
 sub-answer-line c = search needs
@@ -31,9 +37,6 @@ part-answer-line-end c = search needs
 
 answer-line-requires : tie.Need-answer-line-requires Inv-loop μ-loop
 answer-line-requires c κs = search needs
-
-add-start : tie.Need-add-start Inv-loop μ-loop
-add-start c = search needs
 
 loop-less : tie.Need-loop-less Inv-loop μ-loop
 loop-less c = search needs
@@ -71,14 +74,15 @@ serve-spec =
     (tie.spec
     Inv-loop
     μ-loop
+    unset-requires
     loop-holds
     sub-turns
     find-requires
+    add-next
     sub-answer-line
     part-answer-line-start
     part-answer-line-end
     answer-line-requires
-    add-start
     loop-less
     loop-again
     keep-requires
