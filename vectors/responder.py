@@ -184,6 +184,13 @@ claims()
 tick(now + 20119)
 tick(now + 20120)
 claims()
+show("every subset of SRV, TXT, A and AAAA asked for at once, with and without an AAAA")
+for aaaa in (SIX, b""):
+    now = state("held", aaaa=aaaa)
+    for subset in range(1, 16):
+        now += 1000
+        recv(now, query([q for i, q in enumerate((question(INSTANCE, SRV), question(INSTANCE, TXT), question(HOST, A), question(HOST, AAAA))) if subset >> i & 1]))
+now = state("held", aaaa=SIX)
 show("a PTR reply that is set stays as set; at its step it is dropped where PTR was multicast less than 1,000 ms ago")
 recv(now + 30000, query([question(SERVICE, PTR)]), draw=100)
 recv(now + 30010, query([question(SERVICE, PTR)]), draw=20)
