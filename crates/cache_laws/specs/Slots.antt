@@ -10,6 +10,7 @@ use lib.ListN.{length, getD, set, take, drop, replicate, length-replicate}
 use lib.Seq.{sets, length-sets, sets-eq, take-at, drop-at, take-set-le, drop-set-lt, drop-set-add, getD-set-same, getD-set-other, length-take-le}
 use lib.Dec.{eqb, ltb}
 use borrow.Author.Tests.{eqb-true, eqb-false, ltb-true, ltb-false}
+use Rattle.octets.proofs.Sets.{drop-replicate}
 use Rattle.wire.specs.Message.{Record}
 use Rattle.entries.specs.Entries.{blank, slotOf}
 use Rattle.entries.specs.Tables.{lowest, each}
@@ -59,6 +60,11 @@ slot-other store i j x z = part-sets store (1024 * i) (slotFor x) (1024 * j) 102
     go false true e f = inr (omega (arith, ltb-true j i f))
     go false false e f = absurd (z (omega (arith, ltb-false i j e, ltb-false j i f)))
 
+take-replicate : (k m : ℕ) → k ≤ m → take {A = ℕ} k (replicate m 0) ≡ replicate k 0
+take-replicate zero m h = refl
+take-replicate (suc k) zero h = absurd (omega arith)
+take-replicate (suc k) (suc m) h = ap (λ (l : List ℕ). 0 ∷ l) (take-replicate k m (omega arith))
+
 -- "256 bytes owner, 768 rdata, .. unused bytes 0"
 module _ (x : Record) (short : length (x .owner) ≤ 256) (fits : length (x .rdata) ≤ 768) where
   pub owner-back : take (length (x .owner)) (slotFor x) ≡ x .owner
@@ -70,6 +76,20 @@ module _ (x : Record) (short : length (x .owner) ≤ 256) (fits : length (x .rda
   rdata-back =
       let n : length (sets (replicate 1024 0) 0 (x .owner)) ≡ 1024 = length-sets (replicate 1024 0) 0 (x .owner) ∙ length-replicate {A = ℕ} 1024 0 in
       read-back (sets (replicate 1024 0) 0 (x .owner)) 256 (x .rdata) (omega (arith, n))
+
+  pub unused-owner : take (256 - length (x .owner)) (drop (length (x .owner)) (slotFor x)) ≡ replicate (256 - length (x .owner)) 0
+  unused-owner =
+      let o = length (x .owner) in
+      part-sets (sets (replicate 1024 0) 0 (x .owner)) 256 (x .rdata) o (256 - o) (inr (omega arith))
+      ∙ part-sets (replicate 1024 0) 0 (x .owner) o (256 - o) (inl (omega arith))
+      ∙ ap (take (256 - o)) (drop-replicate o 1024 0) ∙ take-replicate (256 - o) (1024 - o) (omega arith)
+
+  pub unused-rdata : take (768 - length (x .rdata)) (drop (256 + length (x .rdata)) (slotFor x)) ≡ replicate (768 - length (x .rdata)) 0
+  unused-rdata =
+      let d = length (x .rdata) in
+      part-sets (sets (replicate 1024 0) 0 (x .owner)) 256 (x .rdata) (256 + d) (768 - d) (inl (omega arith))
+      ∙ part-sets (replicate 1024 0) 0 (x .owner) (256 + d) (768 - d) (inl (omega arith))
+      ∙ ap (take (768 - d)) (drop-replicate (256 + d) 1024 0) ∙ take-replicate (768 - d) (1024 - (256 + d)) (omega arith)
 
 -- ---- entries
 
