@@ -1,3 +1,4 @@
 pub mod Examples
 pub mod Starred
 pub mod States
+pub mod Subsets
