@@ -1,27 +1,64 @@
 #!/bin/sh
-# Random scripts through the console and the independent second program, compared line by line. Only the calls that the console has so far
-# are taken from each script; how often each kind of answer came is printed, so that a run of refusals alone would show.
+# Random scripts of every call through the console and the independent second program, compared line by line. How often each kind of answer came is
+# printed, and a kind below that never came fails the run: a run of refusals alone would show.
 # Usage: tests/differential.sh [SEEDS [LINES]], by default about a minute.
 set -eu
-calls='start|recv|tick|claims|out|read|txt'
 root=$(cd "$(dirname "$0")/.." && pwd)
+second=$root/second/target/release
 work=$(mktemp -d)
 trap 'rm -rf "$work"' EXIT
 cargo build --release --quiet --manifest-path "$root/second/Cargo.toml"
-: >"$work/all"
-for seed in $(seq 1 "${1:-20}"); do
-    "$root/second/target/release/generate" "$seed" "${2:-60000}" | grep -aE "^($calls)( |$)" >"$work/script"
-    "$root/second/target/release/second" <"$work/script" >"$work/expected"
-    "$root/target/bin/console" <"$work/script" >"$work/got"
-    if ! cmp -s "$work/expected" "$work/got"; then
-        line=$(cmp "$work/expected" "$work/got" | sed 's/.*line //')
-        echo "seed $seed: the answers to line $line differ"
-        sed -n "${line}p" "$work/script" | cut -c1-400
-        sed -n "${line}p" "$work/expected" | cut -c1-400
-        sed -n "${line}p" "$work/got" | cut -c1-400
+for seed in $(seq 1 "${1:-40}"); do
+    "$second/compare" "$root/target/bin/console" "$second/second" "$seed" "${2:-60000}" >"$work/report" || {
+        echo "seed $seed:"
+        cut -c1-400 "$work/report"
         exit 1
-    fi
-    cat "$work/expected" >>"$work/all"
+    }
+    cat "$work/report" >>"$work/all"
 done
-echo "$(wc -l <"$work/all") answers are the same; by kind:"
-awk '{ kind = $1; if (kind == "refused") kind = kind " " $2; else if (kind == "value") kind = kind " " $2; else if (kind == "sent") kind = kind " " $3; else if (kind ~ /^[0-9]/) kind = "claims " $3 " " $6; count[kind]++ } END { for (kind in count) print "  " count[kind], kind }' "$work/all" | sort -k2
+awk '/ answers compared/ { compared += $1; next }
+    { n = $1; sub(/^ *[0-9]+  /, ""); count[$0] += n }
+    END { for (kind in count) printf "%9d  %s\n", count[kind], kind | "sort -k2"; close("sort -k2"); print compared " answers are the same" }' "$work/all" >"$work/kinds"
+cat "$work/kinds"
+missing=0
+while read -r kind; do
+    grep -q "^ *[0-9]*  $kind\$" "$work/kinds" || {
+        echo "never came: $kind"
+        missing=1
+    }
+done <<'KINDS'
+bad line
+start started
+recv quiet
+recv sent response of 4
+recv refused 7
+tick sent probe more
+tick sent response of 3 more
+claims instance waiting
+claims instance probing
+claims instance deferred
+claims instance held with second step
+claims instance held
+claims instance lost
+claims host lost
+claims reply set
+out out
+put cached
+put cached with turned away
+put cached with passed over
+put refused 1
+put refused 4
+put refused 5
+put refused 6
+look slot
+look none
+look refused 1
+look refused 6
+slot used
+slot unused
+clear cleared
+txt value received
+txt value factory
+read message with something
+KINDS
+exit "$missing"

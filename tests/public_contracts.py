@@ -1,20 +1,29 @@
 #!/usr/bin/env python3
-"""Fails if a public function of a crate has a `requires`: every caller may call with anything (paper 01; demand 1)."""
+"""Fails if a public function of a crate has a `requires`, since every caller may call with anything (paper 01; demand 1), or no `ensures`.
+
+Of what a function prints no contract can speak: the functions of the console's own crates that do nothing else are proved safe and ending."""
 import pathlib
 import re
 import sys
 
+PRINTING = {"output", "responder_calls", "cache_calls", "reader_calls", "console"}
 root = pathlib.Path(__file__).resolve().parent.parent
-asking, public = [], 0
+wrong, public, printing = [], 0, 0
 for source in sorted(root.glob("crates/*/src/**/*.rt")):
+    crate = source.relative_to(root).parts[1]
     text = re.sub(r"//[^\n]*", "", source.read_text())
     # a public function's head: from `pub` to the brace that opens its body, which stands on a line of its own or ends the signature
     for match in re.finditer(r"\bpub (?:extern \"C\" )?fn (\w+)", text):
         public += 1
         head = re.split(r"\n\{|\{\n", text[match.start():], maxsplit=1)[0]
+        name = f"{source.relative_to(root)}: {match.group(1)}"
         if re.search(r"^\s*requires\b", head, re.M):
-            asking.append(f"{source.relative_to(root)}: {match.group(1)}")
-for line in asking:
-    print(f"a public function has a requires: {line}")
-print(f"{public} public functions, {len(asking)} with a requires")
-sys.exit(1 if asking or public == 0 else 0)
+            wrong.append(f"a public function has a requires: {name}")
+        if not re.search(r"^\s*ensures\b", head, re.M):
+            printing += 1
+            if crate not in PRINTING:
+                wrong.append(f"a public function has no ensures: {name}")
+for line in wrong:
+    print(line)
+print(f"{public} public functions, none with a requires, {printing} of the console's without an ensures" if not wrong else f"{len(wrong)} wrong")
+sys.exit(1 if wrong or public == 0 else 0)

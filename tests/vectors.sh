@@ -5,7 +5,7 @@ set -eu
 root=$(cd "$(dirname "$0")/.." && pwd)
 cargo build --release --quiet --manifest-path "$root/second/Cargo.toml"
 second=$root/second/target/release/second
-for part in reader txt responder form; do python3 "$root/vectors/$part.py"; done | cmp - "$root/crates/console/stdin"
+for part in reader txt responder cache form; do python3 "$root/vectors/$part.py"; done | cmp - "$root/crates/console/stdin"
 "$second" <"$root/crates/console/stdin" | cmp - "$root/crates/console/stdout"
 echo "$(grep -c . "$root/crates/console/stdout") stored answers are those of the second program"
 "$root/second/target/release/packets" | python3 "$root/vectors/subsets.py" | cmp - "$root/crates/corner/specs/Subsets.antt"

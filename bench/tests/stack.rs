@@ -1,6 +1,7 @@
-//! The reader runs in a stack of 64 KiB, whatever the packet.
+//! The reader runs in a stack of 64 KiB, whatever the packet, and so do the responder's calls.
 
 use bench::packets;
+use bench::responders::Calls;
 
 /// Runs `work` on a thread with a stack of 64 KiB; one that overflows ends the test with a fault.
 fn in_64_kib(work: fn()) {
@@ -9,7 +10,7 @@ fn in_64_kib(work: fn()) {
         .spawn(work)
         .expect("a thread")
         .join()
-        .expect("the reader answers");
+        .expect("an answer");
 }
 
 #[test]
@@ -19,7 +20,7 @@ fn the_longest_chain_of_pointers() {
         assert!(packet.len() > 8960 && packet.len() <= 8972);
         assert_eq!(bench::refusal(&packet), 0);
         assert_eq!(bench::name_end(&packet, at), at + 2);
-        assert_eq!(bench::name_length(&packet, at), 1);
+        assert_eq!(bench::expanded_length(&packet, at), 1);
     });
 }
 
@@ -29,7 +30,7 @@ fn a_name_of_127_labels_each_behind_a_pointer() {
         let (packet, at) = packets::label_by_label();
         assert_eq!(bench::refusal(&packet), 0);
         assert_eq!(bench::name_end(&packet, at), at + 4);
-        assert_eq!(bench::name_length(&packet, at), 255);
+        assert_eq!(bench::expanded_length(&packet, at), 255);
     });
 }
 
@@ -39,5 +40,16 @@ fn the_message_that_takes_longest() {
         let packet = packets::worst();
         assert!(packet.len() > 8900 && packet.len() <= 8972);
         assert_eq!(bench::refusal(&packet), 0);
+    });
+}
+
+#[test]
+fn a_responder_that_receives_each() {
+    in_64_kib(|| {
+        let mut responder = bench::responders::proved();
+        for packet in [packets::longest_chain().0, packets::label_by_label().0, packets::worst(), bench::responders::query()] {
+            responder.receive(1000, &packet);
+            responder.tick(1000);
+        }
     });
 }

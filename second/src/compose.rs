@@ -115,7 +115,7 @@ pub fn probe(setup: &Setup, claim: ClaimName) -> Vec<u8> {
 mod tests {
     use super::*;
     use crate::message::Message;
-    use crate::setup::tests::dock;
+    use crate::setup::tests::example;
 
     fn all(setup: &Setup) -> Vec<u8> {
         let records = setup.records();
@@ -124,7 +124,7 @@ mod tests {
 
     #[test]
     fn the_38_byte_announcement() {
-        let records = dock().records();
+        let records = example().records();
         let expected = [
             &b"\x00\x00\x84\x00\x00\x00\x00\x01\x00\x00\x00\x00\x04dock\x05local\x00"[..],
             &b"\x00\x01\x80\x01\x00\x00\x00\x78\x00\x04\x0a\x00\x00\x07"[..],
@@ -142,12 +142,12 @@ mod tests {
         ]
         .concat();
         assert_eq!(expected.len(), 44);
-        assert_eq!(probe(&dock(), ClaimName::Host), expected);
+        assert_eq!(probe(&example(), ClaimName::Host), expected);
     }
 
     #[test]
     fn what_is_written_reads_back() {
-        let mut setup = dock();
+        let mut setup = example();
         setup.aaaa = Some([9; 16]);
         let records = setup.records();
         let read = Message::read(&all(&setup)).unwrap();
@@ -166,7 +166,7 @@ mod tests {
 
     #[test]
     fn the_instance_announcement_byte_for_byte() {
-        let records = dock().records();
+        let records = example().records();
         let expected = [
             &b"\x00\x00\x84\x00\x00\x00\x00\x03\x00\x00\x00\x00"[..],
             // 12: service name; its PTR rdata at 41 is "booth" and a pointer
@@ -182,7 +182,7 @@ mod tests {
     #[test]
     fn suffixes_are_whole_labels_and_case_counts() {
         // the instance label holds the bytes of "local." but not as a label
-        let mut setup = dock();
+        let mut setup = example();
         setup.instance = b"\x05local\x00".to_vec();
         let probe = probe(&setup, ClaimName::Instance);
         assert_eq!(&probe[12..20], b"\x07\x05local\x00");
@@ -191,7 +191,7 @@ mod tests {
         assert!(u16::from_be_bytes([target[5], target[6]]) > 0xC000 + 20);
 
         // host "_TCP" is no suffix of the service name, "_tcp" is
-        let mut setup = dock();
+        let mut setup = example();
         setup.host = b"_TCP".to_vec();
         assert!(all(&setup)
             .windows(7)
@@ -211,7 +211,7 @@ mod tests {
             host: vec![b'h'; 63],
             txt: vec![0; 400],
             aaaa: Some([0; 16]),
-            ..dock()
+            ..example()
         };
         assert!(setup.is_legal());
         assert_eq!(all(&setup).len(), 657);

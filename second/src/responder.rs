@@ -460,7 +460,7 @@ fn is_known(query: &Message, record: &OwnRecord) -> bool {
 #[cfg(test)]
 mod tests {
     use super::*;
-    use crate::setup::tests::dock;
+    use crate::setup::tests::example;
     use crate::MDNS_PORT;
 
     const HOST: &[u8] = b"\x04dock\x05local\x00";
@@ -537,7 +537,7 @@ mod tests {
 
     /// A responder that announced at 1,000 and again at 2,000.
     fn held() -> Responder {
-        let mut responder = Responder::start(250, 0, dock()).unwrap();
+        let mut responder = Responder::start(250, 0, example()).unwrap();
         for now in [250, 500, 750, 1000, 2000] {
             assert!(tick(&mut responder, now).unwrap().1);
             assert!(!tick(&mut responder, now).unwrap().1);
@@ -547,7 +547,7 @@ mod tests {
     }
 
     fn probing() -> Responder {
-        let mut responder = Responder::start(0, 0, dock()).unwrap();
+        let mut responder = Responder::start(0, 0, example()).unwrap();
         tick(&mut responder, 0);
         tick(&mut responder, 0);
         responder
@@ -555,7 +555,7 @@ mod tests {
 
     #[test]
     fn a_claims_life() {
-        let mut responder = Responder::start(100, 50, dock()).unwrap();
+        let mut responder = Responder::start(100, 50, example()).unwrap();
         assert_eq!(tick(&mut responder, 149), None);
         assert_eq!(tick(&mut responder, 150), Some((vec![16, 33], true)));
         assert_eq!(tick(&mut responder, 160), Some((vec![1], false)));
@@ -577,7 +577,7 @@ mod tests {
 
     #[test]
     fn the_second_step_leaves_out_what_was_just_sent() {
-        let mut responder = Responder::start(250, 0, dock()).unwrap();
+        let mut responder = Responder::start(250, 0, example()).unwrap();
         for now in [250, 500, 750, 1000] {
             tick(&mut responder, now);
             tick(&mut responder, now);
@@ -616,7 +616,7 @@ mod tests {
         let mut responder = probing();
         receive(&mut responder, 1, &conflict);
         assert_eq!(responder.host, Claim::Lost);
-        let mut waiting = Responder::start(0, 0, dock()).unwrap();
+        let mut waiting = Responder::start(0, 0, example()).unwrap();
         receive(&mut waiting, 0, &conflict);
         assert_eq!(waiting.host, Claim::Lost);
     }

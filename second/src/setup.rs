@@ -192,7 +192,7 @@ pub mod tests {
     use super::*;
 
     /// Paper 01's dock: dock.local, 10.0.0.7, with booth._voice._tcp.local.
-    pub fn dock() -> Setup {
+    pub fn example() -> Setup {
         Setup {
             instance: b"booth".to_vec(),
             service: b"_voice".to_vec(),
@@ -233,7 +233,7 @@ pub mod tests {
     #[test]
     fn label_and_txt_lengths() {
         let with = |change: fn(&mut Setup)| {
-            let mut setup = dock();
+            let mut setup = example();
             change(&mut setup);
             setup.is_legal()
         };
@@ -255,7 +255,7 @@ pub mod tests {
 
     #[test]
     fn the_five_records() {
-        let mut setup = dock();
+        let mut setup = example();
         assert_eq!(setup.records().len(), 4);
         setup.aaaa = Some([1; 16]);
         let records = setup.records();

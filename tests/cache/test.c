@@ -1,12 +1,12 @@
-// The cache from C, over the static library of crate `table`: paper 01's cases and the refusals, with the paper's own numbers. Says what fails, and the
+// The cache from C, over the static library: paper 01's cases and the refusals, with the paper's own numbers. Says what fails, and the
 // count. Run by ../cache.sh.
-#include "cache.h"
+#include "kurgashel.h"
 #include <stdio.h>
 #include <string.h>
 #define A 1
 #define PTR 12
 #define TXT 16
-static struct entry e[65], kept[65];
+static struct kurgashel_entry e[65], kept[65];
 static uint8_t st[65537], old[65537];
 static int failed, cases;
 static void expect(int ok, const char *what) { cases++; if (!ok) { failed++; printf("FAILED: %s\n", what); } }
@@ -23,9 +23,9 @@ static void record(int section, const char *owner, size_t olen, uint16_t type, u
     uint8_t f[10] = { type >> 8, type, class >> 8, class, ttl >> 24, ttl >> 16, ttl >> 8, ttl, len >> 8, len };
     memcpy(m + n, f, 10); n += 10; memcpy(m + n, rd, len); n += len; count(section);
 }
-static struct taken go(uint64_t now, uint16_t port) { return take(e, 64, st, 65536, now, port, m, n); }
-static struct looked find(uint64_t now, const char *name, size_t len, uint16_t type, size_t from) {
-    return look_up(e, 64, st, 65536, now, (uint8_t *)name, len, type, from); }
+static struct kurgashel_taken go(uint64_t now, uint16_t port) { return kurgashel_cache_take(e, 64, st, 65536, now, port, m, n); }
+static struct kurgashel_looked find(uint64_t now, const char *name, size_t len, uint16_t type, size_t from) {
+    return kurgashel_cache_look_up(e, 64, st, 65536, now, (uint8_t *)name, len, type, from); }
 #define NAME "\4dock\5local"
 #define UPPER "\4DOCK\5Local"
 #define OTHER "\4mask\5local"
@@ -33,9 +33,9 @@ static struct looked find(uint64_t now, const char *name, size_t len, uint16_t t
 static const uint8_t ip[4] = { 10, 0, 0, 7 }, ip2[4] = { 10, 0, 0, 8 };
 static void put(int i, const char *owner, uint16_t type, const void *rd, size_t len, uint64_t received, uint64_t expiry) {
     memset(st + 1024 * i, 0, 1024); memcpy(st + 1024 * i, owner, LEN); memcpy(st + 1024 * i + 256, rd, len);
-    e[i] = (struct entry){ type, LEN, len, received, expiry };
+    e[i] = (struct kurgashel_entry){ type, LEN, len, received, expiry };
 }
-static int is(struct taken t, uint8_t refusal, uint32_t turned, uint32_t passed) { return t.refusal == refusal && t.turned == turned && t.passed == passed; }
+static int is(struct kurgashel_taken t, uint8_t refusal, uint32_t turned, uint32_t passed) { return t.refusal == refusal && t.turned_away == turned && t.passed_over == passed; }
 
 int main(void) {
     // the 38 bytes of paper 01's announcement
@@ -44,7 +44,7 @@ int main(void) {
     expect(e[0].rtype == A && e[0].owner == 12 && e[0].rdata == 4 && e[0].received == 1000 && e[0].expiry == 121000, "its entry");
     uint8_t slot[1024] = { 0 }; memcpy(slot, NAME, LEN); memcpy(slot + 256, ip, 4);
     expect(!memcmp(st, slot, 1024) && st[1024] == 0, "its slot, unused bytes 0");
-    struct looked l = find(1000, NAME, LEN, A, 0); expect(!l.refusal && l.found && l.slot == 0, "found");
+    struct kurgashel_looked l = find(1000, NAME, LEN, A, 0); expect(!l.refusal && l.found && l.slot == 0, "found");
     l = find(120999, UPPER, LEN, A, 0); expect(l.found, "found until it expires, letters folded");
     l = find(121000, NAME, LEN, A, 0); expect(!l.refusal && !l.found, "not at its expiry");
     l = find(1000, NAME, LEN, A, 1); expect(!l.found, "not from the next slot on");
@@ -103,12 +103,12 @@ int main(void) {
     expect(go(1ull << 62, 5353).refusal == 0, "2^62 itself is accepted"); memcpy(e, kept, sizeof e); memcpy(st, old, sizeof st);
     expect(go(9, 0).refusal == 1 && same(), "before an entry's receive time: 1, before 5");
     e[3].received = 50; keep(); expect(go(49, 5353).refusal == 1 && same(), "of a dead entry too"); e[3].received = 0; keep();
-    expect(take(e, 3, st, 65536, 9, 5353, m, n).refusal == 1, "a table of 3 with a later receive time: 1, not 8");
-    expect(take(e, 63, st, 65536, 10, 5353, m, 11).refusal == 8, "63 entries: 8, before 4");
-    expect(take(e, 65, st, 65536, 10, 5353, m, n).refusal == 8, "65 entries: 8");
-    expect(take(e, 0, st, 65536, 10, 5353, m, n).refusal == 8, "no entries: 8");
-    expect(take(e, 64, st, 65535, 10, 5353, m, n).refusal == 8, "a store of 65,535 bytes: 8");
-    expect(take(e, 64, st, 65537, 10, 5353, m, n).refusal == 8 && same(), "of 65,537: 8");
+    expect(kurgashel_cache_take(e, 3, st, 65536, 9, 5353, m, n).refusal == 1, "a table of 3 with a later receive time: 1, not 8");
+    expect(kurgashel_cache_take(e, 63, st, 65536, 10, 5353, m, 11).refusal == 8, "63 entries: 8, before 4");
+    expect(kurgashel_cache_take(e, 65, st, 65536, 10, 5353, m, n).refusal == 8, "65 entries: 8");
+    expect(kurgashel_cache_take(e, 0, st, 65536, 10, 5353, m, n).refusal == 8, "no entries: 8");
+    expect(kurgashel_cache_take(e, 64, st, 65535, 10, 5353, m, n).refusal == 8, "a store of 65,535 bytes: 8");
+    expect(kurgashel_cache_take(e, 64, st, 65537, 10, 5353, m, n).refusal == 8 && same(), "of 65,537: 8");
     e[63].owner = 256; expect(go(10, 5353).refusal == 8, "an owner length of 256: 8"); e[63].owner = 255; expect(go(10, 5353).refusal == 0, "255 passes"); memcpy(e, kept, sizeof e); memcpy(st, old, sizeof st);
     e[63].rdata = 769; expect(go(10, 5353).refusal == 8, "an rdata length of 769: 8"); l = find(10, NAME, LEN, A, 0); expect(l.refusal == 8, "for a lookup too"); e[63].rdata = 0;
     keep(); n = 11; expect(go(10, 0).refusal == 4 && same(), "11 bytes: 4, before 5"); n = 8973; expect(go(10, 5353).refusal == 4, "8,973 bytes: 4");

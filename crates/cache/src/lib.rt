@@ -196,7 +196,7 @@ fn take_new(
             es[i] = Entry {
                 rtype,
                 owner: owner.len() as u16,
-                rdata: content.len() as u16,
+                rdata: content.len() as u32,
                 received: time,
                 expiry: time + 1000 * ttl as u64,
             };

@@ -71,7 +71,8 @@ store-after now x c = go (ltb 768 (length (x .rdata))) (eqb (x .ttl) 0)
     go false true = inl (of-goodbye (equalSlot now x c))
     go false false = of-renewed (equalSlot now x c)
 
-still : (n t : ℕ) → (t ≡ 0 → ⊥) → n < n + 1000 * t
+-- a TTL that is not 0 ends after now
+pub still : (n t : ℕ) → (t ≡ 0 → ⊥) → n < n + 1000 * t
 still n zero z = absurd (z refl)
 still n (suc t) z = omega arith
 

@@ -36,7 +36,7 @@ pub record Taken (now : ℕ) (x : Record) (i : ℕ) (d : Cache) : Type 0 where
   pub found : (t : ℕ) → t < entryAt d i .expiry → lookIn t (d .entries) (d .store) (x .owner) (x .rtype) i ≡ At i
 
 -- a live entry of a name and type is found by a lookup from its slot on
-look-here : (t : ℕ) (es : List Entry) (store name : List ℕ) (rtype i : ℕ) → i < length es → isLive t (getD es i blank) ≡ true → isOf store name rtype i (getD es i blank) ≡ true → lookIn t es store name rtype i ≡ At i
+pub look-here : (t : ℕ) (es : List Entry) (store name : List ℕ) (rtype i : ℕ) → i < length es → isLive t (getD es i blank) ≡ true → isOf store name rtype i (getD es i blank) ≡ true → lookIn t es store name rtype i ≡ At i
 unfolding lookIn
 look-here t es store name rtype i h l o =
     sym (lowest-here (matches t store name rtype i) es i (from-slot t store name rtype i es) h

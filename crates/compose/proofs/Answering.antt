@@ -23,27 +23,45 @@ use Rattle.compose.specs.declared.Written.{Written}
 use Rattle.compose.specs.declared.Written.the-variants.{Sent, Nothing, Refused}
 use Rattle.compose.specs.Packets.{Writing, headerBytes, header, putQuestion, putRecord, putAll, packetOf}
 use Rattle.compose.specs.Writer.{heldIn, questionOf, nameFits, questionFits, Grown}
-use Rattle.compose.specs.Own.{ownRecord, responseRecords, probeRecords, claimIndex, responseOf, probeOf, noneIfEmpty, responsePacket, probePacket, refusal, unlessRefused, sentOf, writtenOf, laidOver}
+use Rattle.compose.specs.Own.{refusalOf, lengthOf, ownRecord, responseRecords, probeRecords, claimIndex, responseOf, probeOf, noneIfEmpty, responsePacket, probePacket, refusal, unlessRefused, sentOf, writtenOf, laidOver}
 use Rattle.compose.specs.Ready.{HeaderReady, ListReady, Picks, sizes, labelCounts}
 use Rattle.compose.proofs.Owned.{own-front, own-names, record-low, held-so}
 use Rattle.compose.proofs.Room.{response-size, response-labels, probe-size, probe-labels, claim-size, claim-labels, question-size, question-count, question-low}
 
 -- the answer and the buffer
 abbrev Answered : ℕ → List ℕ → List ℕ → Written → List ℕ → Type 0
-Answered n packet o r o′ = (r ≡ writtenOf n packet) × (o′ ≡ laidOver (unlessRefused n packet) o)
+Answered n packet o r o′ =
+    (r ≡ writtenOf n packet)
+    × ((o′ ≡ laidOver (unlessRefused n packet) o) × ((refusalOf r ≡ n) × (lengthOf r ≡ length (unlessRefused n packet))))
+
+-- 01's number and length for the answer
+number-of : (n : ℕ) (packet : List ℕ) → refusalOf (writtenOf n packet) ≡ n
+number-of zero [] = refl
+number-of zero (b ∷ bs) = refl
+number-of (suc n) packet = simp (ne-eqb (suc n) 0 (λ e. absurd (omega arith)))
+
+length-of : (n : ℕ) (packet : List ℕ) → lengthOf (writtenOf n packet) ≡ length (unlessRefused n packet)
+length-of zero [] = refl
+length-of zero (b ∷ bs) = refl
+length-of (suc n) packet = simp (ne-eqb (suc n) 0 (λ e. absurd (omega arith)))
+
+numbered : (n : ℕ) (packet o : List ℕ) (r : Written) (o′ : List ℕ) → r ≡ writtenOf n packet → o′ ≡ laidOver (unlessRefused n packet) o → Answered n packet o r o′
+numbered n packet o r o′ e f = (e, (f, (ap refusalOf e ∙ number-of n packet, ap lengthOf e ∙ length-of n packet)))
 
 refused : (n m : ℕ) (packet o : List ℕ) → n ≡ m → (m ≡ 0 → ⊥) → Answered n packet o (Refused m) o
-refused n m packet o e z = let k : eqb m 0 ≡ false = ne-eqb m 0 z in rw e (simp k, simp k)
+refused n m packet o e z =
+    let k : eqb n 0 ≡ false = ne-eqb n 0 (λ q. z (sym e ∙ q)) in
+    numbered n packet o (Refused m) o (rw (← e) (simp k)) (simp k)
 
 sent-of : (packet : List ℕ) → 1 ≤ length packet → sentOf packet ≡ Sent (length packet)
 sent-of [] h = absurd (omega arith)
 sent-of (b ∷ bs) h = refl
 
 sent : (n : ℕ) (packet o : List ℕ) (e : ℕ) (o′ : List ℕ) → n ≡ 0 → 1 ≤ length packet → e ≡ length packet → o′ ≡ packet ++ drop (length packet) o → Answered n packet o (Sent e) o′
-sent n packet o e o′ z h le w = let k : eqb n 0 ≡ true = eq-eqb n 0 z in (simp (k, sent-of packet h) (ap Sent le), simp k w)
+sent n packet o e o′ z h le w = let k : eqb n 0 ≡ true = eq-eqb n 0 z in numbered n packet o (Sent e) o′ (simp (k, sent-of packet h) (ap Sent le)) (simp k w)
 
 nothing : (n : ℕ) (packet o : List ℕ) → n ≡ 0 → packet ≡ [] → Answered n packet o Nothing o
-nothing n packet o z e = let k : eqb n 0 ≡ true = eq-eqb n 0 z in (simp (k, e), simp (k, e))
+nothing n packet o z e = let k : eqb n 0 ≡ true = eq-eqb n 0 z in numbered n packet o Nothing o (simp (k, e)) (simp (k, e))
 
 -- what stands behind a packet is as it was
 laid-on : (v o o₀ o′ : List ℕ) (n : ℕ) → o′ ≡ v ++ drop (length v) o → n ≤ length v → drop n o ≡ drop n o₀ → o′ ≡ v ++ drop (length v) o₀

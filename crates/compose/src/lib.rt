@@ -14,13 +14,13 @@ ghost use Rattle.compression.specs.Compression.{nameBytes, namePlaces, starts, 
 ghost use Rattle.compose.specs.Packets.{u16, fields, dataBytes, dataPlaces, putQuestion, putRecord, putAll, headerBytes};
 ghost use Rattle.records.specs.Setups.{validSetup};
 ghost use Rattle.compose.specs.Ready.{HeaderReady, OwnReady, Picks, ListReady};
-ghost use Rattle.compose.specs.Own.{classIn, ownRecord, responseRecords, probeRecords, claimIndex, responsePacket, probePacket, refusal, unlessRefused, writtenOf, laidOver};
+ghost use Rattle.compose.specs.Own.{refusalOf, lengthOf, classIn, ownRecord, responseRecords, probeRecords, claimIndex, responsePacket, probePacket, refusal, unlessRefused, writtenOf, laidOver};
 ghost use Rattle.compose.specs.Writer.{heldIn, questionOf, recordOf, namesFit, labelsFor, nameFits, questionFits, recordFits, placedOf, bytesAfter, placesAfter, Placing, Wrote, Grown, NameReady, DataReady};
 
 // The least buffer that a packet is written into.
 pub const LEAST_OUT: usize = 1452;
 
-// A pointer has 14 bits: nothing is written behind this offset.
+// A pointer has 14 bits: no name is written that would end behind this offset.
 pub const MOST_POINTED: usize = 16384;
 
 // Where what was written ends, and how many places of labels are noted.
@@ -539,13 +539,15 @@ fn write_list(
 
 // Writes a response of the chosen ones of the own records that the set-up has: PTR, SRV, TXT, A, AAAA.
 pub fn respond(s: Setup, chosen: [bool; 5], out: &mut [u8]) -> Written
-    ensures { λ r. ⌜ r ≡ writtenOf (refusal s (now (out .entry))) (responsePacket s chosen) ⌝ }
-    ensures { λ _. ⌜ now (out .exit) ≡ laidOver (unlessRefused (refusal s (now (out .entry))) (responsePacket s chosen)) (now (out .entry)) ⌝ }
+    ensures answer { λ r. ⌜ r ≡ writtenOf (refusal s (now (out .entry))) (responsePacket s chosen) ⌝ }
+    ensures out { λ _. ⌜ now (out .exit) ≡ laidOver (unlessRefused (refusal s (now (out .entry))) (responsePacket s chosen)) (now (out .entry)) ⌝ }
+    ensures number { λ r. ⌜ refusalOf r ≡ refusal s (now (out .entry)) ⌝ }
+    ensures sent { λ r. ⌜ lengthOf r ≡ length (unlessRefused (refusal s (now (out .entry))) (responsePacket s chosen)) ⌝ }
 {
     if out.len() < LEAST_OUT {
         return Written::Refused(3);
     }
-    if !records::check_setup(s) {
+    if !setups::check_setup(s) {
         return Written::Refused(7);
     }
     let list = pick(s, chosen);
@@ -561,13 +563,15 @@ pub fn respond(s: Setup, chosen: [bool; 5], out: &mut [u8]) -> Written
 
 // Writes a claim's probe.
 pub fn probe(s: Setup, claim: Claim, out: &mut [u8]) -> Written
-    ensures { λ r. ⌜ r ≡ writtenOf (refusal s (now (out .entry))) (probePacket s claim) ⌝ }
-    ensures { λ _. ⌜ now (out .exit) ≡ laidOver (unlessRefused (refusal s (now (out .entry))) (probePacket s claim)) (now (out .entry)) ⌝ }
+    ensures answer { λ r. ⌜ r ≡ writtenOf (refusal s (now (out .entry))) (probePacket s claim) ⌝ }
+    ensures out { λ _. ⌜ now (out .exit) ≡ laidOver (unlessRefused (refusal s (now (out .entry))) (probePacket s claim)) (now (out .entry)) ⌝ }
+    ensures number { λ r. ⌜ refusalOf r ≡ refusal s (now (out .entry)) ⌝ }
+    ensures sent { λ r. ⌜ lengthOf r ≡ length (unlessRefused (refusal s (now (out .entry))) (probePacket s claim)) ⌝ }
 {
     if out.len() < LEAST_OUT {
         return Written::Refused(3);
     }
-    if !records::check_setup(s) {
+    if !setups::check_setup(s) {
         return Written::Refused(7);
     }
     let list = pick_claim(s, claim);

@@ -1,43 +1,46 @@
-// A call by its first word: each has a function of its own, which reads its fields, calls the library and writes the answer. To add a call, add
-// its function and its test here.
-use crate::pairs::txt;
-use crate::reading::read;
-use crate::sending::recv;
-use crate::sending::tick;
-use crate::setup::start;
-use crate::showing::claims;
-use crate::showing::out;
-use output::bad_line;
+// A call by its first word, answered by the crate that has it.
+use entries::Entry;
 use responder::State;
 
-// Answers the call of a line, over the responder that is held and the out buffer, and tells the responder after it.
-pub fn call(line: &[u8], held: State, lent: &mut [u8; 4096], text: &mut [u8; 4096]) -> State {
+// What the console holds between calls, beside the out buffer and the cache's byte store: a responder, and the table of the cache.
+pub struct Held {
+    state: State,
+    entries: [Entry; 64],
+}
+
+// What is held before the first call.
+pub fn at_first() -> Held {
+    Held {
+        state: responder_calls::at_first(),
+        entries: cache_calls::no_entries(),
+    }
+}
+
+// Answers the call of a line, and tells what is held after it.
+pub fn call(
+    line: &[u8],
+    held: Held,
+    store: &mut [u8; 65536],
+    out: &mut [u8; 4096],
+    text: &mut [u8; 4096],
+) -> Held {
     let word = lines::field(line, 0);
-    if expansion::same_bytes(word, b"start") {
-        return start(line, held, text);
+    if responder_calls::is_call(word) {
+        let state = held.state;
+        let entries = held.entries;
+        return Held {
+            state: responder_calls::call(line, state, out, text),
+            entries,
+        };
     }
-    if expansion::same_bytes(word, b"recv") {
-        return recv(line, held, lent, text);
+    if cache_calls::is_call(word) {
+        let state = held.state;
+        let entries = held.entries;
+        return Held {
+            state,
+            entries: cache_calls::call(line, entries, store, text),
+        };
     }
-    if expansion::same_bytes(word, b"tick") {
-        return tick(line, held, lent, text);
-    }
-    if expansion::same_bytes(word, b"claims") {
-        claims(line, held, text);
-        return held;
-    }
-    if expansion::same_bytes(word, b"out") {
-        out(line, lent, text);
-        return held;
-    }
-    if expansion::same_bytes(word, b"read") {
-        read(line, text);
-        return held;
-    }
-    if expansion::same_bytes(word, b"txt") {
-        txt(line, text);
-        return held;
-    }
-    bad_line(text);
+    reader_calls::call(line, text);
     held
 }

@@ -1,15 +1,9 @@
-// The console: one line a call, one line an answer. This file reads the lines of standard input; `calls` answers each at once.
+// The console: one line a call, one line an answer. This file reads the lines of standard input; `calls` has each answered at once.
 // A thin layer over the libraries: no rule of paper 01 is here.
 mod calls;
-mod fields;
-mod pairs;
-mod reading;
-mod sending;
-mod setup;
-mod showing;
 
+use calls::Held;
 use libc::STDIN_FILENO;
-use responder::State;
 ghost use Prim.Native.Nat.{_+_, _≤_};
 ghost use lib.ListN.{length};
 
@@ -51,8 +45,14 @@ fn keep(input: &mut [u8], from: usize, filled: usize) -> usize
     n
 }
 
-// Answers a line, and tells the responder after it. An empty line or a comment has no answer.
-fn answer_line(line: &[u8], held: State, out: &mut [u8; 4096], text: &mut [u8; 4096]) -> State {
+// Answers a line, and tells what is held after it. An empty line or a comment has no answer.
+fn answer_line(
+    line: &[u8],
+    held: Held,
+    store: &mut [u8; 65536],
+    out: &mut [u8; 4096],
+    text: &mut [u8; 4096],
+) -> Held {
     if line.len() == 0 {
         return held;
     }
@@ -63,13 +63,13 @@ fn answer_line(line: &[u8], held: State, out: &mut [u8; 4096], text: &mut [u8; 4
         output::bad_line(text);
         return held;
     }
-    calls::call(line, held, out, text)
+    calls::call(line, held, store, out, text)
 }
 
 // Reads and answers line by line until the input ends. Of the buffer's first `filled` bytes the line begins at `start`, and no LF stands before
 // `seen`. Nothing says that the input ends, so the loop counts its turns down, from a number of lines and reads that no run uses up.
-fn serve(input: &mut [u8], out: &mut [u8; 4096], text: &mut [u8; 4096]) {
-    let mut state = setup::unset();
+fn serve(input: &mut [u8], store: &mut [u8; 65536], out: &mut [u8; 4096], text: &mut [u8; 4096]) {
+    let mut held = calls::at_first();
     let mut start = 0;
     let mut seen = 0;
     let mut filled = 0;
@@ -79,15 +79,15 @@ fn serve(input: &mut [u8], out: &mut [u8; 4096], text: &mut [u8; 4096]) {
         let end = bytes::scan::find(input, seen, filled, b'\n');
         if end < filled {
             let next = end + 1;
-            state = answer_line(&input[start..end], state, out, text);
+            held = answer_line(&input[start..end], held, store, out, text);
             start = next;
             seen = start;
         } else {
-            let held = keep(input, start, filled);
+            let kept = keep(input, start, filled);
             start = 0;
-            seen = held;
-            filled = refill(input, held);
-            if filled == held {
+            seen = kept;
+            filled = refill(input, kept);
+            if filled == kept {
                 return;
             }
         }
@@ -96,7 +96,8 @@ fn serve(input: &mut [u8], out: &mut [u8; 4096], text: &mut [u8; 4096]) {
 
 fn main() {
     let mut input = [0u8; 65536];
+    let mut store = [0u8; 65536];
     let mut out = [0u8; 4096];
     let mut text = [0u8; 4096];
-    serve(&mut input, &mut out, &mut text);
+    serve(&mut input, &mut store, &mut out, &mut text);
 }

@@ -8,6 +8,10 @@ use Rattle.wire.specs.Message.{Record, Message}
 use Rattle.records.specs.declared.Setup.{Setup}
 use Rattle.records.specs.Setups.{tcp, local}
 use Rattle.records.specs.Records.{ownName, ownType, ownRdata}
+use Rattle.claims.specs.declared.Claim.the-variants.{Held}
+use Rattle.claims.specs.declared.Sent.the-variants.{Never}
+use Rattle.claims.specs.declared.Reply.the-variants.{Unset}
+use Rattle.claims.specs.declared.Life.{Life}
 use Rattle.entries.specs.declared.Entry.{Entry}
 use Rattle.entries.specs.Cache.{Cache, atStart}
 
@@ -15,8 +19,8 @@ use Rattle.entries.specs.Cache.{Cache, atStart}
 abbrev pub padded : ℕ → List ℕ → List ℕ
 padded n bs = bs ++ replicate (n - length bs) 0
 
-abbrev pub dock : List ℕ
-dock = 100 ∷ (111 ∷ (99 ∷ (107 ∷ [])))
+abbrev pub hostLabel : List ℕ
+hostLabel = 100 ∷ (111 ∷ (99 ∷ (107 ∷ [])))
 
 abbrev pub address : List ℕ
 address = 10 ∷ (0 ∷ (0 ∷ (7 ∷ [])))
@@ -27,13 +31,24 @@ example = record {
   instance = record { bytes = padded 63 (98 ∷ (111 ∷ (111 ∷ (116 ∷ (104 ∷ []))))); len = 5 };
   service = record { bytes = padded 16 (95 ∷ (118 ∷ (111 ∷ (105 ∷ (99 ∷ (101 ∷ [])))))); len = 6 };
   protocol = tcp;
-  host = record { bytes = padded 63 dock; len = 4 };
+  host = record { bytes = padded 63 hostLabel; len = 4 };
   domain = local;
   port = 4000;
   txt = record { bytes = padded 400 (0 ∷ []); len = 1 };
   a = address;
   hasaaaa = false;
   aaaa = replicate 16 0;
+}
+
+-- both claims held, and nothing multicast
+unfoldable pub holding : Life
+holding = record {
+  instance = Held;
+  host = Held;
+  sent = record { ptr = Never; srv = Never; txt = Never; a = Never; aaaa = Never };
+  reply = Unset;
+  draw = 0;
+  last = 0;
 }
 
 -- a query that carries the own record of an index as a known answer, with a TTL
@@ -48,16 +63,16 @@ knowing i ttl = record {
 }
 
 -- "dock.local" as it stands in a packet
-abbrev pub dockLocal : List ℕ
-dockLocal = 4 ∷ (100 ∷ (111 ∷ (99 ∷ (107 ∷ (5 ∷ (108 ∷ (111 ∷ (99 ∷ (97 ∷ (108 ∷ (0 ∷ [])))))))))))
+abbrev pub hostName : List ℕ
+hostName = 4 ∷ (100 ∷ (111 ∷ (99 ∷ (107 ∷ (5 ∷ (108 ∷ (111 ∷ (99 ∷ (97 ∷ (108 ∷ (0 ∷ [])))))))))))
 
 -- a cache of one entry for the address, received at a time and expiring at 100,000
 unfoldable pub cached : ℕ → Cache
-cached received = atStart (record { rtype = 1; owner = 12; rdata = 4; received = received; expiry = 100000 } ∷ []) (padded 256 dockLocal ++ address)
+cached received = atStart (record { rtype = 1; owner = 12; rdata = 4; received = received; expiry = 100000 } ∷ []) (padded 256 hostName ++ address)
 
 -- another address of that name, with the cache flush bit
 unfoldable pub announced : Record
-announced = record { owner = dockLocal; rtype = 1; class = 0x8001; ttl = 120; rdata = 10 ∷ (0 ∷ (0 ∷ (8 ∷ []))) }
+announced = record { owner = hostName; rtype = 1; class = 0x8001; ttl = 120; rdata = 10 ∷ (0 ∷ (0 ∷ (8 ∷ []))) }
 
 -- a query whose one question's name is a pointer at 12 to 12
 abbrev pub selfPointing : List ℕ

@@ -5,7 +5,7 @@ use mathlib.Core.List.{List, [], _∷_, _++_}
 use mathlib.Core.Bool.{true, false}
 use Prim.Native.Nat.{ℕ}
 use lib.IntN.{pos, negsuc}
-use lib.ListN.{length}
+use lib.ListN.{length, replicate}
 use Rattle.fold.specs.Fold.{sameName}
 use Rattle.names.specs.Names.{pieceAt, readFrom, fromRun, nameAt}
 use Rattle.rdata.specs.Rdata.{stringsFill, rdataIn, rdataAt}
@@ -17,8 +17,9 @@ use Rattle.txt.specs.declared.Answer.the-variants.{Present}
 use Rattle.records.specs.Setups.{serviceLabels, instanceLabels, hostLabels}
 use Rattle.records.specs.Records.{hasRecord, ownLabels, ownName, ownType, ownClass, ownTtl, srvRdata, ownRdata}
 use Rattle.order.specs.Later.{numberOf, compareNumbers, inTurn, compareRecords, insertBy, sortBy, tie}
-use Rattle.order.specs.Probe.{ownRecord, some}
-use Rattle.scan.specs.Facts.{isKnown}
+use Rattle.order.specs.Probe.{ownRecord, some, listUnder, isProbe}
+use Rattle.answers.specs.Answers.{omittedOf}
+use Rattle.scan.specs.Facts.{isAsked, isKnown, laterThan, queryFacts, factsOf}
 use Rattle.entries.specs.Tables.{each}
 use Rattle.entries.specs.Entries.{isOf, liveOf, soon, flushed}
 use Rattle.entries.specs.Cache.{rule1}
@@ -26,7 +27,7 @@ use Rattle.compression.specs.Compression.{standsAt, placeOf, cutFrom, nameBytes
 use Rattle.compose.specs.Packets.{putName, dataBytes, dataPlaces, putFields, packetOf}
 use Rattle.compose.specs.Own as own
 use Rattle.compose.specs.Own.{responsePacket, responseRecords, picked, responseOf}
-use Rattle.corner.specs.Examples.{address, example, knowing, cached, announced, selfPointing, announcement}
+use Rattle.corner.specs.Examples.{address, example, holding, knowing, cached, announced, selfPointing, announcement}
 
 abbrev pub Starred : Type 0
 Starred =
@@ -35,13 +36,13 @@ Starred =
     -- "Equal lists give 0."
     × (numberOf (tie (ownRecord 1 address ∷ []) (ownRecord 1 address ∷ [])) ≡ pos 0)
     -- "{A} before {A, AAAA} with the same A."
-    × (numberOf (tie (ownRecord 1 address ∷ []) (ownRecord 1 address ∷ (ownRecord 28 address ∷ []))) ≡ negsuc 0)
+    × (numberOf (tie (ownRecord 1 address ∷ []) (ownRecord 1 address ∷ (ownRecord 28 (replicate 16 0) ∷ []))) ≡ negsuc 0)
     -- "Known PTR TTL 2250 omits, 2249 doesn't."
-    × (isKnown example 0 (knowing 0 2250) ≡ true)
-    × (isKnown example 0 (knowing 0 2249) ≡ false)
+    × (omittedOf holding (factsOf example (knowing 0 2250)) 0 .ptr ≡ true)
+    × (omittedOf holding (factsOf example (knowing 0 2249)) 0 .ptr ≡ false)
     -- "A at 60 omits, at 59 doesn't."
-    × (isKnown example 3 (knowing 3 60) ≡ true)
-    × (isKnown example 3 (knowing 3 59) ≡ false)
+    × (omittedOf holding (factsOf example (knowing 3 60)) 0 .a ≡ true)
+    × (omittedOf holding (factsOf example (knowing 3 59)) 0 .a ≡ false)
     -- "At 5000, a flush leaves an entry received at 4000, and sets one received at 3999 to expire by 6000."
     × (rule1 5000 announced (cached 4000) .entries ≡ cached 4000 .entries)
     × (rule1 5000 announced (cached 3999) .entries ≡ record { rtype = 1; owner = 12; rdata = 4; received = 3999; expiry = 6000 } ∷ [])
@@ -55,5 +56,5 @@ Starred =
     × (responsePacket example (false ∷ (false ∷ (false ∷ (true ∷ (true ∷ []))))) ≡ announcement)
 
 pub starred : Starred
-unfolding example knowing cached announced tie sortBy insertBy compareRecords inTurn compareNumbers some isKnown sameName sameBytes hasRecord ownLabels ownName ownType ownClass ownTtl srvRdata ownRdata serviceLabels instanceLabels hostLabels rule1 each flushed liveOf isOf soon lookupOf refusalOf badKey anyBad stringsFill inTxt firstWith stringsFrom hasKey keyOf valueOf givenBy messageAt listFrom questionAt questionRead recordAt recordRead nameAt fromRun readFrom pieceAt rdataAt rdataIn responsePacket responseRecords picked responseOf own.ownRecord packetOf putName dataBytes dataPlaces putFields nameBytes namePlaces starts cutFrom placeOf standsAt
+unfolding example knowing cached announced tie sortBy insertBy compareRecords inTurn compareNumbers some isProbe listUnder isAsked isKnown laterThan queryFacts factsOf omittedOf holding sameName sameBytes hasRecord ownLabels ownName ownType ownClass ownTtl srvRdata ownRdata serviceLabels instanceLabels hostLabels rule1 each flushed liveOf isOf soon lookupOf refusalOf badKey anyBad stringsFill inTxt firstWith stringsFrom hasKey keyOf valueOf givenBy messageAt listFrom questionAt questionRead recordAt recordRead nameAt fromRun readFrom pieceAt rdataAt rdataIn responsePacket responseRecords picked responseOf own.ownRecord packetOf putName dataBytes dataPlaces putFields nameBytes namePlaces starts cutFrom placeOf standsAt
 starred = (refl, refl, refl, refl, refl, refl, refl, refl, refl, refl, refl, refl)

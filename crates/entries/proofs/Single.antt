@@ -1,5 +1,5 @@
 -- The tests and rules on one entry, from what the code has tested. Assumes nothing.
-use mathlib.Core.Path.{_≡_, sym, ap, _∙_}
+use mathlib.Core.Path.{_≡_, refl, sym, ap, _∙_}
 use mathlib.Core.List.{List, []}
 use mathlib.Core.Bool.{Bool, true, false, not, and-false}
 use Prim.Native.Nat.{ℕ, _+_, _*_, _/_, _<_, _≤_}
@@ -8,6 +8,7 @@ use lib.ListN.{length, take, drop, drop-of-length-le}
 use lib.Dec.{ltb}
 use borrow.Author.Tests.{lt-ltb, le-ltb, le-leb, lt-leb, eq-eqb, ne-eqb}
 use Rattle.fold.specs.Fold.{sameName}
+use Rattle.rdata.specs.Answers.{startIn}
 use Rattle.expansion.specs.Equal.{sameBytes}
 use Rattle.entries.specs.Entries.{slotOf, isLive, isFree, isOf, liveOf, matches, holds, until, lesser, soon, flushed, tooLong}
 use Rattle.entries.specs.declared.Entry.{Entry}
@@ -17,6 +18,11 @@ pub slot-past : (store : List ℕ) (i : ℕ) → length store / 1024 < i → [] 
 slot-past store i h =
     let l : length store ≤ 1024 * i = omega arith in
     sym (ap (take 1024) (drop-of-length-le store l))
+
+pub start-past : (store : List ℕ) (i : ℕ) (place : ℕ × ℕ) → length store / 1024 < i → startIn store (length store) place ≡ startIn store (1024 * i) place
+start-past store i place h =
+    let l : length store < 1024 * i = omega arith in
+    rw (le-leb (length store) (length store) (omega arith), lt-leb (1024 * i) (length store) l) refl
 
 module _ (store name : List ℕ) (rtype i : ℕ) (e : Entry) where
   pub of-type : (e .rtype ≡ rtype → ⊥) → false ≡ isOf store name rtype i e

@@ -1,14 +1,18 @@
 // One entry of the cache by value (paper 01, 'The cache'): when it is live, whose record it holds, and what the rules make of it. The owner and the
 // rdata of entry i lie in slot i of the byte store.
 ghost use mathlib.Core.Path.{_≡_};
+ghost use denote.Ref.{ptr};
+ghost use Prim.Native.Nat.{_*_};
+ghost use Rattle.rdata.specs.Answers.{startIn};
 ghost use Rattle.entries.specs.Entries.{isLive, slotOf, isOf, liveOf, holds, soon, flushed, heardAhead, tooLong};
 
-// "type, lengths, received, expiry"; the times are in milliseconds.
+// "type, lengths, received, expiry"; the times are in milliseconds. The length of rdata has four bytes, so that the entry has no padding and its values are
+// all its bytes.
 #[repr(C)]
 pub struct Entry {
     pub rtype: u16,
     pub owner: u16,
-    pub rdata: u16,
+    pub rdata: u32,
     pub received: u64,
     pub expiry: u64,
 }
@@ -22,7 +26,7 @@ pub enum Slot {
 // The most bytes of an owner and of rdata that an entry may have.
 pub const MOST_OWNER: u16 = 255;
 
-pub const MOST_RDATA: u16 = 768;
+pub const MOST_RDATA: u32 = 768;
 
 // Whether an entry is live.
 pub fn is_live(e: Entry, time: u64) -> bool
@@ -33,7 +37,8 @@ pub fn is_live(e: Entry, time: u64) -> bool
 
 // The bytes of slot i. What lies past the store's end is left out.
 pub fn slot_of<'a>(store: &'a [u8], i: usize) -> &'a [u8]
-    ensures { λ r. ⌜ now r ≡ slotOf (now (store .entry)) i ⌝ }
+    ensures bytes { λ r. ⌜ now r ≡ slotOf (now (store .entry)) i ⌝ }
+    ensures start { λ r. ⌜ ptr r ≡ startIn (now (store .entry)) (1024 * i) (ptr (store .entry)) ⌝ }
 {
     if store.len() / 1024 < i {
         return rdata::part(store, store.len(), 0);

@@ -18,10 +18,10 @@ use Rattle.names.specs.declared.Name.the-variants as nam
 use Rattle.names.specs.declared.Expanded.{Expanded}
 use Rattle.names.proofs.Use.{as-expanded, as-unexpanded, at-most-255}
 use Rattle.rdata.specs.Rdata.{Rdata, rdata, unfit, stringsFill, asItLies, endingName, rdataIn, rdataAt}
-use Rattle.rdata.specs.Answers.{fits}
+use Rattle.rdata.specs.Answers.{fits, startIn}
 use Rattle.rdata.proofs.Fits.{at-past, at-within, in-other}
 use Rattle.expansion.specs.Equal.{sameBytes, rdataIs, rdataSame}
-use Rattle.expansion.specs.Opened.{namesIn, padded, openedOf, openedName, openedAt, viewOf}
+use Rattle.expansion.specs.Opened.{namesIn, padded, openedOf, openedName, openedAt, viewOf, viewStart}
 use Rattle.expansion.specs.declared.Opened.{Opened}
 
 -- bytes written into zeros from the front
@@ -208,6 +208,17 @@ module _ (p : List ℕ) (rtype at len : ℕ) where
 
   pub view-plain : (opened : List ℕ) (n : ℕ) → (rtype ≡ 12 → ⊥) → (rtype ≡ 33 → ⊥) → take len (drop at p) ≡ viewOf p opened n rtype at len
   view-plain opened n a b = sym (ap (λ (t : Bool). cond t (take n opened) (take len (drop at p))) (names-other rtype a b))
+
+  -- and where it starts
+  module _ (place : ℕ × ℕ) (opened : List ℕ) (openedPlace : ℕ × ℕ) where
+    pub start-ptr : rtype ≡ 12 → startIn opened 0 openedPlace ≡ viewStart p place opened openedPlace rtype at
+    start-ptr e = sym (ap (λ (b : Bool). cond b (startIn opened 0 openedPlace) (startIn p at place)) (names-ptr rtype e))
+
+    pub start-srv : rtype ≡ 33 → startIn opened 0 openedPlace ≡ viewStart p place opened openedPlace rtype at
+    start-srv e = sym (ap (λ (b : Bool). cond b (startIn opened 0 openedPlace) (startIn p at place)) (names-srv rtype e))
+
+    pub start-plain : (rtype ≡ 12 → ⊥) → (rtype ≡ 33 → ⊥) → startIn p at place ≡ viewStart p place opened openedPlace rtype at
+    start-plain a b = sym (ap (λ (t : Bool). cond t (startIn opened 0 openedPlace) (startIn p at place)) (names-other rtype a b))
 
   pub is-nothing : (other : List ℕ) (v : Bool) → v ≡ fits (rdataAt p rtype at len) → v ≡ false → false ≡ rdataIs (rdataAt p rtype at len) other
   is-nothing other v e f = sym (ap (λ (x : Rdata). rdataIs x other) (is-unfit (rdataAt p rtype at len) (sym e ∙ f)))

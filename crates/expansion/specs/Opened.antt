@@ -6,6 +6,7 @@ use lib.ListN.{length, take, drop, replicate}
 use lib.Dec.{eqb}
 use Rattle.names.specs.Names.{Reading, name, malformed}
 use Rattle.rdata.specs.Rdata.{Rdata, rdata, unfit, rdataAt}
+use Rattle.rdata.specs.Answers.{startIn}
 use Rattle.expansion.specs.declared.Opened.{Opened}
 
 -- a type whose rdata holds a name
@@ -33,3 +34,7 @@ openedAt p rtype at len = cond (namesIn rtype) (openedOf (rdataAt p rtype at len
 -- the bytes of rdata: the first `n` of those opened where it holds a name, else the part of the packet
 abbrev pub viewOf : List ℕ → List ℕ → ℕ → ℕ → ℕ → ℕ → List ℕ
 viewOf p opened n rtype at len = cond (namesIn rtype) (take n opened) (take len (drop at p))
+
+-- and where they start in memory
+abbrev pub viewStart : List ℕ → ℕ × ℕ → List ℕ → ℕ × ℕ → ℕ → ℕ → ℕ × ℕ
+viewStart p place opened openedPlace rtype at = cond (namesIn rtype) (startIn opened 0 openedPlace) (startIn p at place)

@@ -1,13 +1,14 @@
 // Rdata with the names in PTR and SRV expanded, and its equality (paper 01, 'Reading a message'): "Rdata is equal when the bytes are, after names
 // in PTR and SRV are expanded into a buffer of 255 zeros; case counts there."
 ghost use mathlib.Core.Path.{_≡_};
+ghost use denote.Ref.{ptr};
 ghost use Prim.Native.Nat.{_+_, _≤_};
 ghost use lib.ListN.{length, take, drop};
 ghost use lib.Seq.{sets};
 ghost use Rattle.names.specs.Names.{nameAt};
 ghost use Rattle.rdata.specs.Rdata.{rdataAt};
 ghost use Rattle.expansion.specs.Equal.{sameBytes, rdataIs, rdataSame};
-ghost use Rattle.expansion.specs.Opened.{openedName, openedAt, viewOf};
+ghost use Rattle.expansion.specs.Opened.{openedName, openedAt, viewOf, viewStart};
 
 // Rdata with its name expanded: 6 bytes and a name of 255 at the most, zeros after them.
 pub struct Opened {
@@ -102,7 +103,8 @@ pub fn view<'a>(
     at: usize,
     len: usize,
 ) -> &'a [u8]
-    ensures { λ r. ⌜ now r ≡ viewOf (now (p .entry)) (now (opened .entry)) n rtype at len ⌝ }
+    ensures bytes { λ r. ⌜ now r ≡ viewOf (now (p .entry)) (now (opened .entry)) n rtype at len ⌝ }
+    ensures start { λ r. ⌜ ptr r ≡ viewStart (now (p .entry)) (ptr (p .entry)) (now (opened .entry)) (ptr (opened .entry)) rtype at ⌝ }
 {
     if rtype == rdata::PTR {
         return rdata::part(opened, 0, n);

@@ -1,9 +1,4 @@
--- Laws that belong to no one function.
-mod Ranges
-mod Hex
+-- Laws that belong to no one function; Ranges is for callers too.
+pub mod Ranges
 mod Split
 mod Digits
-mod Pairs
-mod Filled
-mod Spelled
-pub mod Back

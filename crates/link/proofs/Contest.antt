@@ -1,10 +1,10 @@
--- Devices that claim one name and carry one record type, as the proof of uniqueness sees them: which entries are whose, what is sent and heard,
+-- Responders that claim one name and carry one record type, as the proof of uniqueness sees them: which entries are whose, what is sent and heard,
 -- and each claim's stage after the first n entries. Nothing is said of packets, states or calls. Assumes nothing.
 use mathlib.Core.Path.{_≡_}
 use mathlib.Core.Logic.{_⊎_}
 use Prim.Native.Nat.{ℕ, suc, _+_, _≤_, _<_}
 use Rattle.link.specs.Premises.{deliveryTime, lateness}
-use Rattle.link.specs.Laws.{probeGap, defenceGap, Stage, probing, held, Apart}
+use Rattle.link.specs.Laws.{probeGap, defenceGap, Stage, probing, held, Unclaimed}
 
 -- The claim became held at entry n: three probes were sent, the step was due, and entry n multicasts the record.
 pub record Won (Party : Type 0) (stage : Party → ℕ → Stage) (now : ℕ → ℕ) (Acts Says : Party → ℕ → Type 0) (d : Party) (n : ℕ) : Type 0 where
@@ -42,7 +42,7 @@ pub record Contest : Type 1 where
   pub count : ℕ
   pub time : ℕ → ℕ
   pub now : ℕ → ℕ
-  -- the devices, and each one's claim after the first n entries
+  -- the responders, and each one's claim after the first n entries
   pub Party : Type 0
   pub stage : Party → ℕ → Stage
   -- of d and entry n: an accepted call of d; it sends d's probe; it multicasts d's record
@@ -63,20 +63,20 @@ pub record Contest : Type 1 where
   pub one-actor : (d e : Party) (n : ℕ) → Differ d e → Acts d n → Acts e n → ⊥
   pub one-rate : (d : Party) (m n : ℕ) → Acts d m → Acts d n → now m + time n ≡ now n + time m
   -- a claim by itself
-  pub at-first : (d : Party) → Apart (stage d 0)
+  pub at-first : (d : Party) → Unclaimed (stage d 0)
   pub won : (d : Party) (n : ℕ) → (stage d n ≡ held → ⊥) → stage d (suc n) ≡ held → Won Party stage now Acts Says d n
   pub probed :
       (d : Party) (n i u : ℕ) → (stage d n ≡ probing i u → ⊥) → stage d (suc n) ≡ probing i u → Probed Party stage now Acts Probes d n i u
   -- what is done with what is heard
-  pub yields : (d e : Party) (n : ℕ) → Differ d e → HearsRecord d e n → Apart (stage d (suc n))
-  pub defers : (d e : Party) (n i u : ℕ) → Differ d e → Later e d → HearsProbe d e n → stage d n ≡ probing i u → Apart (stage d (suc n))
+  pub yields : (d e : Party) (n : ℕ) → Differ d e → HearsRecord d e n → Unclaimed (stage d (suc n))
+  pub defers : (d e : Party) (n i u : ℕ) → Differ d e → Later e d → HearsProbe d e n → stage d n ≡ probing i u → Unclaimed (stage d (suc n))
   pub defends : (d e : Party) (n : ℕ) → Differ d e → HearsProbe d e n → stage d n ≡ held → Says d n ⊎ Recent Party now Acts Says d n
   pub hearer-acts : (d e : Party) (n : ℕ) → HearsProbe d e n → Acts d n
   -- the premises, for claims that are probing or held
   pub on-time : (d : Party) (m n i u : ℕ) → n < count → Acts d m → stage d n ≡ probing i u → time n + now m ≤ u + lateness + time m
   pub probe-heard :
-      (d e : Party) (i j : ℕ) → Differ d e → j < count → Probes d i → (Apart (stage e i) → ⊥) → (Apart (stage e j) → ⊥) → time i + deliveryTime < time j
+      (d e : Party) (i j : ℕ) → Differ d e → j < count → Probes d i → (Unclaimed (stage e i) → ⊥) → (Unclaimed (stage e j) → ⊥) → time i + deliveryTime < time j
       → Taken time (HearsProbe e d) i j
   pub record-heard :
-      (d e : Party) (i j : ℕ) → Differ d e → j < count → Says d i → (Apart (stage e i) → ⊥) → (Apart (stage e j) → ⊥) → time i + deliveryTime < time j
+      (d e : Party) (i j : ℕ) → Differ d e → j < count → Says d i → (Unclaimed (stage e i) → ⊥) → (Unclaimed (stage e j) → ⊥) → time i + deliveryTime < time j
       → Taken time (HearsRecord e d) i j

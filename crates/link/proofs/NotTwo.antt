@@ -1,4 +1,4 @@
--- No two devices hold with different data. Say X came to hold first. If Y did so at most 100 ms later, each heard the other's third probe while
+-- No two responders hold with different data. Say X came to hold first. If Y did so at most 100 ms later, each heard the other's third probe while
 -- probing, and one of them would have deferred (`near`). Otherwise Y, while probing, heard X's announcement, or X's answer to its second probe, or
 -- a multicast of X less than 250 ms before that answer fell due (`far`): Y would have lost. Assumes nothing.
 use mathlib.Core.Path.{_≡_, subst}
@@ -7,15 +7,15 @@ use Prim.Native.Nat.{ℕ, suc, _+_, _≤_, _<_}
 use native.Mathlib.Omega.{arith}
 use native.Mathlib.Decide.{decLe, decLt}
 use Rattle.link.specs.Premises.{deliveryTime}
-use Rattle.link.specs.Laws.{Stage, probing, held, Apart}
+use Rattle.link.specs.Laws.{Stage, probing, held, Unclaimed}
 use Rattle.link.proofs.Contest.{Contest, Taken, Recent}
 use Rattle.link.proofs.Probes.{Probing, Life, life}
 
-probing-active : (f : Stage) → Probing f → Apart f → ⊥
-probing-active f p q = subst Apart (p .2) q
+probing-active : (f : Stage) → Probing f → Unclaimed f → ⊥
+probing-active f p q = subst Unclaimed (p .2) q
 
-held-active : (f : Stage) → f ≡ held → Apart f → ⊥
-held-active f p q = subst Apart p q
+held-active : (f : Stage) → f ≡ held → Unclaimed f → ⊥
+held-active f p q = subst Unclaimed p q
 
 module _ (L : Contest) where
   open Contest L using (Party, count, time, now, stage, Acts, Probes, Says, HearsProbe, HearsRecord, Differ, Later, in-order, one-actor)

@@ -1,11 +1,11 @@
--- How a device came to hold: three probes, 250 to 300 ms apart, with nothing between them that changed its claim, and a fourth step, 250 to 300 ms
+-- How a responder came to hold: three probes, 250 to 300 ms apart, with nothing between them that changed its claim, and a fourth step, 250 to 300 ms
 -- later, that announces. Assumes nothing.
 use mathlib.Core.Path.{_≡_, refl, subst}
 use Prim.Native.Nat.{ℕ, suc, _+_, _≤_, _<_}
 use native.Mathlib.Omega.{arith}
 use native.Mathlib.Decide.{decLe, ℕ-discrete}
 use Rattle.link.specs.Premises.{lateness}
-use Rattle.link.specs.Laws.{probeGap, Stage, probing, held, apart, Apart, Stage-discrete}
+use Rattle.link.specs.Laws.{probeGap, Stage, probing, held, apart, Unclaimed, Stage-discrete}
 use Rattle.link.proofs.Since.{Since, since}
 use Rattle.link.proofs.Contest.{Contest, Probed, Won}
 
@@ -50,8 +50,8 @@ module _ (L : Contest) where
     from : (j : ℕ) → at < j → j ≤ n → stage d j ≡ probing i u
 
   -- the last position before n at which the claim was not f
-  last : (f : Stage) → (Apart f → ⊥) → (d : Party) (n : ℕ) → stage d n ≡ f → Since (λ j. stage d j ≡ f) n
-  last f active d n p = since (λ j. stage d j ≡ f) (λ j. Stage-discrete ℕ-discrete (stage d j) f) (λ q. active (subst Apart q (at-first d))) n p
+  last : (f : Stage) → (Unclaimed f → ⊥) → (d : Party) (n : ℕ) → stage d n ≡ f → Since (λ j. stage d j ≡ f) n
+  last f active d n p = since (λ j. stage d j ≡ f) (λ j. Stage-discrete ℕ-discrete (stage d j) f) (λ q. active (subst Unclaimed q (at-first d))) n p
 
   sent : (d : Party) (n i u : ℕ) → stage d n ≡ probing i u → Sent d n i u
   sent d n i u p =
@@ -63,7 +63,7 @@ module _ (L : Contest) where
         from = s .from;
       }
 
-  -- two of a device's calls are as far apart on the link as on its clock
+  -- two of a responder's calls are as far apart on the link as on its clock
   gap-low : (d : Party) (m n u : ℕ) → Acts d m → Acts d n → u ≡ now m + probeGap → u ≤ now n → time m + probeGap ≤ time n
   gap-low d m n u am an e l = omega (arith, one-rate d m n am an)
 

@@ -1,4 +1,4 @@
--- Lawful devices that claim one name and carry one record type make a contest (Contest.antt), so no two of them with different data have held
+-- Lawful responders that claim one name and carry one record type make a contest (Contest.antt), so no two of them with different data have held
 -- claims at once. Assumes nothing.
 use mathlib.Core.Path.{_≡_, refl, sym, _∙_, ap, subst}
 use mathlib.Core.Logic.{_≢_, _⊎_, inl, inr, ⊎-elim}
@@ -10,10 +10,10 @@ use Prim.Native.Nat.{ℕ, suc, _+_, _≤_, _<_}
 use native.Mathlib.Omega.{arith}
 use native.Mathlib.Decide.{ℕ-discrete}
 use lib.ListN.{length}
-use Rattle.link.specs.Device.{Device, Claim}
+use Rattle.link.specs.Responder.{Responder, Claim}
 use Rattle.link.specs.Entries.{Entry, timeAt, clockAt, setupOf, after, isSome}
 use Rattle.link.specs.Premises.{Among, deliveryTime, lateness, Delivered, dueIn, Premises}
-use Rattle.link.specs.Laws.{probeGap, defenceGap, Stage, waiting, probing, held, apart, Apart, Step, hears, Rules, next, out, Multicasts, Move, stays, probesFirst, probesAgain, wins, hearsConflict, hearsLater, Lawful}
+use Rattle.link.specs.Laws.{probeGap, defenceGap, Stage, waiting, probing, held, apart, Unclaimed, Step, hears, Rules, next, out, Multicasts, Move, stays, probesFirst, probesAgain, wins, hearsConflict, hearsLater, Lawful}
 use Rattle.link.proofs.Since.{Since, since}
 use Rattle.link.proofs.Contest.{Contest, Won, Probed, Taken, Recent}
 use Rattle.link.proofs.NotTwo.{not-two}
@@ -23,10 +23,10 @@ use Rattle.link.proofs.Order.{in-order, taken-before}
 use Rattle.link.proofs.Steps.{Sends, Hears, hearer-calls, act, sends, heard-step}
 use Rattle.link.proofs.Stages as stages
 
-module _ (D : Device) (R : Rules D) (L : Lawful D R) (es : List (Entry D)) (P : Premises D es) (k : Claim) (type : ℕ) where
-  open Device D using (Setup, State, Message)
+module _ (D : Responder) (R : Rules D) (L : Lawful D R) (es : List (Entry D)) (P : Premises D es) (k : Claim) (type : ℕ) where
+  open Responder D using (Setup, State, Message)
 
-  -- a device whose set-up carries the type
+  -- a responder whose set-up carries the type
   pub record Party : Type 0 where
     pub at : ℕ
     pub setup : Setup
@@ -35,7 +35,7 @@ module _ (D : Device) (R : Rules D) (L : Lawful D R) (es : List (Entry D)) (P : 
     pub has : D .rdata setup k type ≡ some datum
     pub valid : R .Valid setup
 
-  -- two devices with one name and different data
+  -- two responders with one name and different data
   pub record Differ (d e : Party) : Type 0 where
     pub two : d .at ≢ e .at
     pub same : D .sameName (D .name (d .setup) k) (D .name (e .setup) k) ≡ true
@@ -93,12 +93,12 @@ module _ (D : Device) (R : Rules D) (L : Lawful D R) (es : List (Entry D)) (P : 
     move-of : Moves
     move-of = stages.move-of D R L es (d .at) (d .setup) (d .started) n c k
 
-    yielded : (draw : ℕ) (m : Message) → taken ≡ hears draw m → D .conflicts m (d .setup) k ≡ true → Apart (stage d (suc n))
+    yielded : (draw : ℕ) (m : Message) → taken ≡ hears draw m → D .conflicts m (d .setup) k ≡ true → Unclaimed (stage d (suc n))
     yielded = stages.yielded D R L es (d .at) (d .setup) (d .started) n c k
 
     deferred :
         (draw : ℕ) (m : Message) (i u : ℕ) → taken ≡ hears draw m → D .defeats m (d .setup) k ≡ true → R .stage (c .state) k ≡ probing i u
-        → Apart (stage d (suc n))
+        → Unclaimed (stage d (suc n))
     deferred = stages.deferred D R L es (d .at) (d .setup) (d .started) n c k
 
     says : Multicasts D R (d .setup) (c .state) (now n) taken k type → Says d n
@@ -132,8 +132,8 @@ module _ (D : Device) (R : Rules D) (L : Lawful D R) (es : List (Entry D)) (P : 
             acts = c;
             says = says d n c (record { message = an .message; sent = an .sent; carries = an .all type (d .datum) (d .has) });
           }
-      go (hearsConflict draw m e h) = absurd (subst Apart t (yielded d n c draw m e h))
-      go (hearsLater draw m i u e h was) = absurd (subst Apart t (deferred d n c draw m i u e h was))
+      go (hearsConflict draw m e h) = absurd (subst Unclaimed t (yielded d n c draw m e h))
+      go (hearsLater draw m i u e h was) = absurd (subst Unclaimed t (deferred d n c draw m i u e h was))
 
   probed :
       (d : Party) (n i u : ℕ) → (stage d n ≡ probing i u → ⊥) → stage d (suc n) ≡ probing i u → Event D es (d .at) n
@@ -164,8 +164,8 @@ module _ (D : Device) (R : Rules D) (L : Lawful D R) (es : List (Entry D)) (P : 
             earlier = λ m q. let same : j ≡ suc m = omega arith in (v, stage-before d n c ∙ was ∙ ap (λ (b : ℕ). probing b v) same, late);
           }
       go (wins v was late an e) = absurd (clash (let z = after-is held e in cc))
-      go (hearsConflict draw m e h) = absurd (subst Apart t (yielded d n c draw m e h))
-      go (hearsLater draw m j v e h was) = absurd (subst Apart t (deferred d n c draw m j v e h was))
+      go (hearsConflict draw m e h) = absurd (subst Unclaimed t (yielded d n c draw m e h))
+      go (hearsLater draw m j v e h was) = absurd (subst Unclaimed t (deferred d n c draw m j v e h was))
 
   -- ---- the last multicast of the record
 
@@ -201,10 +201,10 @@ module _ (D : Device) (R : Rules D) (L : Lawful D R) (es : List (Entry D)) (P : 
       let w = noted d (s .at) m (s .not-yet) (s .from (suc (s .at)) (omega arith) (omega arith)) (event D es (d .at) (s .at)) in
       record { at = s .at; before = s .before; acts = w .0; says = w .1; gap = omega (arith, w .2) }
 
-  -- ---- what a device does with what it hears
+  -- ---- what a responder does with what it hears
 
   module _ (d e : Party) (n : ℕ) (differ : Differ e d) where
-    yields : Hears D es (d .at) n (HasRecord e) → Apart (stage d (suc n))
+    yields : Hears D es (d .at) n (HasRecord e) → Unclaimed (stage d (suc n))
     yields h =
         let c : Acts d n = hearer-calls D es (d .at) n (HasRecord e) h in
         let s = heard-step D R L es (d .at) n c (h .packet) (h .message) (h .heard) (h .reads) in
@@ -214,7 +214,7 @@ module _ (D : Device) (R : Rules D) (L : Lawful D R) (es : List (Entry D)) (P : 
 
     defers :
         (i u : ℕ) → D .defeats (R .probe (e .setup) k) (d .setup) k ≡ true → Hears D es (d .at) n (IsProbe e) → stage d n ≡ probing i u
-        → Apart (stage d (suc n))
+        → Unclaimed (stage d (suc n))
     defers i u l h p =
         let c : Acts d n = hearer-calls D es (d .at) n (IsProbe e) h in
         let s = heard-step D R L es (d .at) n c (h .packet) (h .message) (h .heard) (h .reads) in
@@ -252,13 +252,13 @@ module _ (D : Device) (R : Rules D) (L : Lawful D R) (es : List (Entry D)) (P : 
   on-time : (d : Party) (m n i u : ℕ) → n < length es → Acts d m → stage d n ≡ probing i u → timeAt D es n + now m ≤ u + lateness + timeAt D es m
   on-time d m n i u h a e = omega (arith, rate d m a, P .onTime (d .at) n u h (due-in (after D es (d .at) n) i u e))
 
-  active : (o : Option State) → (Apart (stage-of o) → ⊥) → isSome o ≡ true
+  active : (o : Option State) → (Unclaimed (stage-of o) → ⊥) → isSome o ≡ true
   active none f = absurd (f tt)
   active (some x) f = refl
 
   heard :
-      (d e : Party) (i j : ℕ) (Q : Message → Type 0) → Differ d e → j < length es → Sends D es (d .at) i Q → (Apart (stage e i) → ⊥)
-      → (Apart (stage e j) → ⊥) → timeAt D es i + deliveryTime < timeAt D es j → Taken (timeAt D es) (λ n. Hears D es (e .at) n Q) i j
+      (d e : Party) (i j : ℕ) (Q : Message → Type 0) → Differ d e → j < length es → Sends D es (d .at) i Q → (Unclaimed (stage e i) → ⊥)
+      → (Unclaimed (stage e j) → ⊥) → timeAt D es i + deliveryTime < timeAt D es j → Taken (timeAt D es) (λ n. Hears D es (e .at) n Q) i j
   heard d e i j Q f h s a b t =
       let w : Delivered D es (e .at) i (s .packet) =
       P .delivered i j (e .at) (s .packet) (s .sent) (λ q. f .two (sym (s .whose) ∙ sym q)) (active (after D es (e .at) i) a) h
@@ -272,7 +272,7 @@ module _ (D : Device) (R : Rules D) (L : Lawful D R) (es : List (Entry D)) (P : 
         takes = record { whose = w .taker; packet = s .packet; heard = w .takes; message = s .message; reads = s .reads; says = s .says };
       }
 
-  first-stage : (d : Party) → Apart (stage d 0)
+  first-stage : (d : Party) → Unclaimed (stage d 0)
   unfolding after
   first-stage d = tt
 

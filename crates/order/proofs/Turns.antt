@@ -23,7 +23,7 @@ use Rattle.wire.specs.declared.Layout.{Layout}
 use Rattle.order.specs.declared.Verdict.{Verdict}
 use Rattle.order.specs.declared.Verdict.the-variants.{Earlier, Same, Later}
 use Rattle.order.specs.declared.Counts.{Counts}
-use Rattle.order.specs.Later.{isLater, orElse, compareNumbers, inTurn, compareBytes, TieRecord, compareRecords, tie}
+use Rattle.order.specs.Later.{numberOf, isLater, orElse, compareNumbers, inTurn, compareBytes, TieRecord, compareRecords, tie}
 use Rattle.order.specs.Probe.{under, tieRecord, listUnder, theirs, ownRecord, ownList, asksAll, some, isProbe, readable, messageIn}
 use Rattle.order.specs.Counts.{countOne, countMet, countAll, noneCounted, placed, beyond, dataOf, tieRecordAt, asksAt}
 use Rattle.order.proofs.Orders.{number-earlier, number-later, number-same, records-order}
@@ -270,3 +270,7 @@ module _ (p : List ℕ) (l : Layout) (other : List ℕ) where
     pub asked-for : v ≡ true → (w : Bool) → w ≡ some (under other) (readable (recordAt p) (l .authorities .count) (l .authorities .at)) → w ≡ isProbe other (messageIn p l)
     unfolding isProbe messageIn
     asked-for e w h = h ∙ sym (simp (lt-leb 32768 (l .flags) query, sym asked ∙ e))
+
+-- a verdict with 01's number for it
+pub numbered : (v w : Verdict) → v ≡ w → (v ≡ w) × (numberOf v ≡ numberOf w)
+numbered v w e = (e, ap numberOf e)

@@ -9,7 +9,7 @@ ghost use Rattle.rdata.specs.Rdata.{rdataAt};
 ghost use Rattle.rdata.specs.Answers.{fits};
 ghost use Rattle.wire.specs.Layout.{questionAt, recordAt, recordRead};
 ghost use Rattle.names.specs.Answers.{nameIs};
-ghost use Rattle.order.specs.Later.{isLater, compareBytes, compareRecords, tie};
+ghost use Rattle.order.specs.Later.{numberOf, isLater, compareBytes, compareRecords, tie};
 ghost use Rattle.order.specs.Probe.{readable, under, asksAll, some, listUnder, ownRecord, ownList, theirs, isProbe, messageIn};
 ghost use Rattle.order.specs.Counts.{countOne, countMet, countAll, asksAt, noneCounted, placed, beyond, unbroken, tieRecordAt};
 
@@ -257,7 +257,8 @@ pub fn tiebreak(
     first: &[u8],
     second: &[u8],
 ) -> Verdict
-    ensures { λ r. ⌜ r ≡ tie (theirs (now (name .entry)) (messageIn (now (p .entry)) l)) (ownList (own .first) (now (first .entry)) (own .both) (own .second) (now (second .entry))) ⌝ }
+    ensures verdict { λ r. ⌜ r ≡ tie (theirs (now (name .entry)) (messageIn (now (p .entry)) l)) (ownList (own .first) (now (first .entry)) (own .both) (own .second) (now (second .entry))) ⌝ }
+    ensures number { λ r. ⌜ numberOf r ≡ numberOf (tie (theirs (now (name .entry)) (messageIn (now (p .entry)) l)) (ownList (own .first) (now (first .entry)) (own .both) (own .second) (now (second .entry)))) ⌝ }
 {
     let s = l.authorities;
     let a = own.first;

@@ -50,7 +50,7 @@ pub fn number(text: &mut [u8; 4096], used: usize, n: u64) -> usize {
 // Adds a piece of bytes in hex digits, or `-` for none.
 fn spelled(text: &mut [u8; 4096], used: usize, s: &[u8]) -> usize {
     let mut digits = [0u8; 256];
-    let k = lines::spell(s, &mut digits);
+    let k = hex::spell(s, &mut digits);
     plain(text, used, lines::front(&digits, k))
 }
 

@@ -17,7 +17,7 @@ use Rattle.names.specs.declared.Name.the-variants as nam
 use Rattle.names.proofs.Use.{as-name, as-malformed}
 use Rattle.names.proofs.Extend.{within}
 use Rattle.rdata.specs.Rdata.{Rdata, rdata, unfit, stringsFill, endingName, rdataIn, rdataAt}
-use Rattle.rdata.specs.Answers.{fits, targetIn}
+use Rattle.rdata.specs.Answers.{fits, targetIn, startIn}
 
 -- a test of fitness
 fits-cond : (b : Bool) (d : List ℕ) → fits (cond b (rdata d) unfit) ≡ b
@@ -117,3 +117,11 @@ module _ (p : List ℕ) (at len : ℕ) where
 
   pub part-whole : take (at + len - at) (drop at p) ≡ take len (drop at p)
   part-whole = ap (λ (k : ℕ). take k (drop at p)) (add-sub-cancel-left at len)
+
+-- where it starts
+module _ (p : List ℕ) (at : ℕ) (place : ℕ × ℕ) where
+  pub start-past : length p < at → (place .0, length p + place .1) ≡ startIn p at place
+  start-past h = rw (lt-leb at (length p) h) refl
+
+  pub start-inside : at ≤ length p → (place .0, at + place .1) ≡ startIn p at place
+  start-inside h = rw (le-leb at (length p) h) refl

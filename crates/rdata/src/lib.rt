@@ -1,13 +1,14 @@
 // The rdata of a record (paper 01, 'Reading a message'), handed on as a part of the packet that starts in its middle, together with the whole
 // packet for pointers: whether it is as its type asks, and what it holds.
 ghost use mathlib.Core.Path.{_≡_};
+ghost use denote.Ref.{ptr};
 ghost use Prim.Native.Nat.{_+_, _≤_};
 ghost use lib.ListN.{length, take, drop};
 ghost use mathlib.Core.List.{[]};
 ghost use Rattle.names.specs.Names.{nameAt};
 ghost use Rattle.names.specs.Answers.{expanded};
 ghost use Rattle.rdata.specs.Rdata.{stringsFill, rdataIn, rdataAt, endingName};
-ghost use Rattle.rdata.specs.Answers.{fits, srvOf, targetIn};
+ghost use Rattle.rdata.specs.Answers.{fits, srvOf, targetIn, startIn};
 
 // The five types (RFC 1035, RFC 2782, RFC 3596).
 pub const A: u16 = 1;
@@ -102,7 +103,8 @@ pub fn srv_numbers(d: &[u8]) -> SrvNumbers
 
 // The rdata itself, as a part of the packet: the address of an A or AAAA record, the strings of a TXT. What lies past the packet's end is left out.
 pub fn part<'a>(p: &'a [u8], at: usize, len: usize) -> &'a [u8]
-    ensures { λ r. ⌜ now r ≡ take len (drop at (now (p .entry))) ⌝ }
+    ensures bytes { λ r. ⌜ now r ≡ take len (drop at (now (p .entry))) ⌝ }
+    ensures start { λ r. ⌜ ptr r ≡ startIn (now (p .entry)) at (ptr (p .entry)) ⌝ }
 {
     let size = p.len();
     if size < at {

@@ -9,8 +9,10 @@ use Rattle.names.specs.declared.Span.{Span}
 use Rattle.names.specs.declared.Name.{Name}
 use Rattle.names.specs.declared.Name.the-variants.{Found, Malformed}
 use Rattle.names.specs.declared.Expanded.{Expanded}
-use Rattle.names.proofs.Use.{as-name, as-malformed, as-expanded, as-unexpanded}
-use Rattle.reader.specs.Reader.{endOf, lengthOf}
+use Rattle.names.proofs.Use.{as-name, as-malformed, as-unexpanded}
+use Rattle.reader.specs.Reader.{endOf, lengthOf, nameOf}
+use Rattle.reader.specs.declared.Name as exported
+use lib.ListN.{length, replicate}
 
 module _ (x : Reading) (r : Name) (h : r ≡ foundOf x) where
   pub end-found : (s : Span) → r ≡ Found s → s .end ≡ endOf x
@@ -19,11 +21,26 @@ module _ (x : Reading) (r : Name) (h : r ≡ foundOf x) where
   pub end-bad : r ≡ Malformed → 0 ≡ endOf x
   end-bad k = sym (ap endOf (as-malformed x r h k))
 
-module _ (x : Reading) (r : Expanded) (h : r ≡ expanded x) where
-  pub length-found : (s : Span) → r .name ≡ Found s → s .len ≡ lengthOf x
+  pub length-found : (s : Span) → r ≡ Found s → s .len ≡ lengthOf x
   length-found s k =
-      let f = as-expanded x r (r .name) s h refl k in
+      let f = as-name x r s h k in
       sym (ap lengthOf (f .1) ∙ f .2)
 
-  pub length-bad : r .name ≡ Malformed → 0 ≡ lengthOf x
-  length-bad k = sym (ap lengthOf (as-unexpanded x r (r .name) h refl k))
+  pub length-bad : r ≡ Malformed → 0 ≡ lengthOf x
+  length-bad k = sym (ap lengthOf (as-malformed x r h k))
+
+module _ (x : Reading) (r : Expanded) (h : r ≡ expanded x) where
+  pub name-found : (s : Span) → r .name ≡ Found s → _≡_ {A = exported.Name} (record { length = s .len; bytes = r .bytes }) (nameOf x)
+  name-found s k = go x h
+    where
+      go : (y : Reading) → r ≡ expanded y → _≡_ {A = exported.Name} (record { length = s .len; bytes = r .bytes }) (nameOf y)
+      go (name bs e) g =
+          let f : Found s ≡ Found (record { end = e; len = length bs }) = sym k ∙ ap (λ (z : Expanded). z .name) g in
+          let i : s ≡ record { end = e; len = length bs } = cc in
+          λ j. record { length = i j .len; bytes = g j .bytes }
+      go malformed g =
+          let f : Found s ≡ Malformed = sym k ∙ ap (λ (z : Expanded). z .name) g in
+          let z : _≡_ {A = ℕ} 0 1 = cc in absurd (omega arith)
+
+  pub name-bad : r .name ≡ Malformed → _≡_ {A = exported.Name} (record { length = 0; bytes = replicate 255 0 }) (nameOf x)
+  name-bad k = sym (ap nameOf (as-unexpanded x r (r .name) h refl k))

@@ -3,7 +3,7 @@
 use mathlib.Core.Path.{_≡_}
 use Prim.Native.Nat.{ℕ, _+_, _-_, _/_, _%_, _≤_}
 use mathlib.Core.List.{List, [], _∷_, _++_}
-use mathlib.Core.Bool.{Bool, true, false, not, cond, _&&_, _||_}
+use mathlib.Core.Bool.{Bool, true, cond, _&&_, _||_}
 use lib.ListN.{length, take, replicate}
 use lib.Seq.{sets}
 use lib.Dec.{leb, ltb, eqb}
@@ -11,8 +11,6 @@ use Rattle.labels.specs.Labels.{encode}
 use Rattle.records.specs.Setups.{serviceLabels, instanceLabels, hostLabels}
 use Rattle.records.specs.declared.Setup.{Setup}
 use Rattle.records.specs.declared.Own.{Own}
-use Rattle.records.specs.declared.Claim.{Claim}
-use Rattle.records.specs.declared.Claim.the-variants.{Instance, Host}
 
 -- a label after its length byte
 abbrev pub labelBytes : List ℕ → List ℕ
@@ -28,7 +26,7 @@ pub record Laid (at : ℕ) (bs : List ℕ) (most : ℕ) (o : List ℕ) (end : �
 abbrev pub ownOf : List ℕ → Own
 ownOf bs = record { bytes = bs ++ replicate (400 - length bs) 0; len = length bs }
 
--- "PTR (service to instance, ..), SRV, TXT, A, AAAA (.., may be missing)": what the set-up has
+-- what the set-up has: all but AAAA, which "may be missing"
 unfoldable pub hasRecord : Setup → ℕ → Bool
 hasRecord s i = cond (ltb i 4) true (eqb i 4 && s .hasaaaa)
 
@@ -46,7 +44,7 @@ ownType i = cond (eqb i 0) 12 (cond (eqb i 1) 33 (cond (eqb i 2) 16 (cond (eqb i
 unfoldable pub ownClass : ℕ → ℕ
 ownClass i = cond (eqb i 0) 1 0x8001
 
--- "PTR (.. TTL 4500), SRV (.. TTL 120), TXT (4500), A (120), AAAA (120)"
+-- "PTR (.., TTL 4500), SRV (.., TTL 120), TXT (4500), A (120), AAAA (120, ..)"
 unfoldable pub ownTtl : ℕ → ℕ
 ownTtl i = cond (eqb i 0 || eqb i 2) 4500 120
 
@@ -61,11 +59,3 @@ ownRdata s i =
     (cond (eqb i 1) (srvRdata s)
     (cond (eqb i 2) (take (s .txt .len) (s .txt .bytes))
     (cond (eqb i 3) (s .a) (s .aaaa))))
-
--- "Claims: the instance name with SRV and TXT, the host name with A and AAAA."; "PTR goes with the instance claim's announcements"
-unfoldable pub ownClaim : ℕ → Claim
-ownClaim i = cond (leb i 2) Instance Host
-
--- "but is neither probed for nor in conflict"
-unfoldable pub isProbed : ℕ → Bool
-isProbed i = not (eqb i 0)

@@ -3,8 +3,8 @@
 ghost use mathlib.Core.Path.{_≡_};
 ghost use lib.ListN.{length};
 ghost use Rattle.compose.specs.Own.{refusal, laidOver};
-ghost use Rattle.responder.specs.Refusals.{wrongState, byPort};
-ghost use Rattle.responder.specs.Calls.{blank, answerFor, sentOr, claimFor, packetFor, startOf, receiveOf, receivedPacket, tickOf, tickedPacket};
+ghost use Rattle.responder.specs.Refusals.{wrongState, byPort, startRefusal, receiveRefusal, tickRefusal};
+ghost use Rattle.responder.specs.Calls.{refusalOf, lengthOf, blank, answerFor, sentOr, claimFor, packetFor, startOf, receiveOf, receivedPacket, tickOf, tickedPacket};
 use claims::Claim;
 use claims::Kind;
 use claims::Life;
@@ -53,7 +53,7 @@ pub struct Ticked {
 }
 
 // The state of a refused start: no names, no records, both claims lost. Every call refuses it.
-fn blank_state() -> State
+pub fn blank_state() -> State
     ensures { λ r. ⌜ r ≡ blank ⌝ }
 {
     State {
@@ -100,7 +100,8 @@ fn blank_state() -> State
 
 // Begins a responder, whose first probes wait for the draw.
 pub fn start(setup: Setup, time: u64, draw: u64) -> Started
-    ensures { λ r. ⌜ r ≡ startOf setup time draw ⌝ }
+    ensures answer { λ r. ⌜ r ≡ startOf setup time draw ⌝ }
+    ensures number { λ r. ⌜ refusalOf (r .answer) ≡ startRefusal setup time draw ⌝ }
 {
     if claims::start_time_refused(time) {
         return Started {
@@ -114,7 +115,7 @@ pub fn start(setup: Setup, time: u64, draw: u64) -> Started
             state: blank_state(),
         };
     }
-    if !records::check_setup(setup) {
+    if !setups::check_setup(setup) {
         return Started {
             answer: Answer::Refused(7),
             state: blank_state(),
@@ -135,7 +136,7 @@ fn state_refused(state: State) -> bool
 {
     let setup = state.setup;
     let life = state.life;
-    if records::check_setup(setup) {
+    if setups::check_setup(setup) {
         return claims::start_draw_refused(life.draw);
     }
     true
@@ -203,8 +204,10 @@ pub fn receive(
     packet: &[u8],
     out: &mut [u8],
 ) -> Received
-    ensures { λ r. ⌜ r ≡ receiveOf state time port draw (now (packet .entry)) (length (now (out .entry))) ⌝ }
-    ensures { λ _. ⌜ now (out .exit) ≡ laidOver (receivedPacket state time port draw (now (packet .entry)) (length (now (out .entry)))) (now (out .entry)) ⌝ }
+    ensures answer { λ r. ⌜ r ≡ receiveOf state time port draw (now (packet .entry)) (length (now (out .entry))) ⌝ }
+    ensures out { λ _. ⌜ now (out .exit) ≡ laidOver (receivedPacket state time port draw (now (packet .entry)) (length (now (out .entry)))) (now (out .entry)) ⌝ }
+    ensures number { λ r. ⌜ refusalOf (r .answer) ≡ receiveRefusal state time port draw (now (packet .entry)) (length (now (out .entry))) ⌝ }
+    ensures sent { λ r. ⌜ lengthOf (r .answer) ≡ length (receivedPacket state time port draw (now (packet .entry)) (length (now (out .entry)))) ⌝ }
 {
     let setup = state.setup;
     let life = state.life;
@@ -257,8 +260,10 @@ pub fn receive(
 
 // Walks the due steps, and writes the packet of the first that sends.
 pub fn tick(state: State, time: u64, out: &mut [u8]) -> Ticked
-    ensures { λ r. ⌜ r ≡ tickOf state time (length (now (out .entry))) ⌝ }
-    ensures { λ _. ⌜ now (out .exit) ≡ laidOver (tickedPacket state time (length (now (out .entry)))) (now (out .entry)) ⌝ }
+    ensures answer { λ r. ⌜ r ≡ tickOf state time (length (now (out .entry))) ⌝ }
+    ensures out { λ _. ⌜ now (out .exit) ≡ laidOver (tickedPacket state time (length (now (out .entry)))) (now (out .entry)) ⌝ }
+    ensures number { λ r. ⌜ refusalOf (r .answer) ≡ tickRefusal state time (length (now (out .entry))) ⌝ }
+    ensures sent { λ r. ⌜ lengthOf (r .answer) ≡ length (tickedPacket state time (length (now (out .entry)))) ⌝ }
 {
     let setup = state.setup;
     let life = state.life;

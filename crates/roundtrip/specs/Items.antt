@@ -156,7 +156,7 @@ data-rising p os at (sixteen {k = k} {d = d} is e) = rw is (plain-rising p os at
 data-rising p os at (server {k = k} {d = d} is l e) = rw is (srv-rising p os at d l e)
 data-rising p os at (other {k = k} {d = d} a b c e f) = plain-rising p os at k d (simp (ne-eqb _ _ b, ne-eqb _ _ f))
 
-name-sound : (w : Writing) → Sound w → (bs : List ℕ) → isName bs ≡ true → Sound (putName w bs)
+pub name-sound : (w : Writing) → Sound w → (bs : List ℕ) → isName bs ≡ true → Sound (putName w bs)
 unfolding putName
 name-sound w sound bs ok =
     rw (length-append (w .bytes) (nameBytes (w .bytes) (w .places) bs)) (rising-append sound (written-rising (w .bytes) (w .places) bs ok (length (w .bytes))))

@@ -16,12 +16,13 @@ use Rattle.records.specs.declared.Claim.{Claim}
 use Rattle.records.specs.Setups.{validSetup, instanceLabels, hostLabels}
 use Rattle.records.specs.Records.{ownName, ownType, ownTtl, ownRdata, srvRdata}
 use Rattle.records.proofs.Valid.{Valid, valid, instance-name, host-name, own-is-name}
-use Rattle.compose.specs.Packets.{Writing, header, putRecord, putQuestion, putAll, packetOf}
+use Rattle.compose.specs.Packets.{Writing, header, putRecord, putQuestion, putAll, packetOf, written}
 use Rattle.compose.specs.Own.{ownRecord, responseRecords, probeRecords, claimIndex, responseOf, probeOf, noneIfEmpty, responsePacket, probePacket}
 use Rattle.compose.specs.Ready.{sizes, sizeOf}
 use Rattle.compose.proofs.Owned.{own-names, record-size}
 use Rattle.compose.proofs.Room.{response-size, probe-size, claim-size, question-size}
 use Rattle.roundtrip.specs.Shapes.{Shaped, four, target, strings, sixteen, server, IsRecord, IsQuestion, Each, none, one, Writable, layoutOf}
+use Rattle.roundtrip.specs.Sentence.{Composed, composed}
 use Rattle.roundtrip.specs.Whole.{message-back}
 
 module _ (s : Setup) (ok : Valid s) where
@@ -106,3 +107,8 @@ unfolding probePacket
 probe-back s h claim =
     ap messageAt (sym (append-nil (packetOf (probeOf s claim))))
     ∙ message-back (probeOf s claim) (probe-writable s (valid s h) claim) [] (omega (arith, probe-long s (valid s h) claim, ap length (append-nil (packetOf (probeOf s claim)))))
+
+-- Every name of an own packet is cut as 01's sentence says.
+pub own-composed : (s : Setup) → validSetup s ≡ true → (chosen : List Bool) (claim : Claim) → Composed (written (responseOf s chosen)) × Composed (written (probeOf s claim))
+own-composed s h chosen claim =
+    (composed (responseOf s chosen) (response-writable s (valid s h) chosen), composed (probeOf s claim) (probe-writable s (valid s h) claim))

@@ -34,7 +34,7 @@ module _ (now : ℕ) (Q : Turn → Type 0) where
       go true = r
       go false = q
 
-  or-else : (t : Turn) (next : Life → Turn) → Q t → ((l : Life) → Q (quiet l) → Q (next l)) → Q (orElse (t .output) t next)
+  pub or-else : (t : Turn) (next : Life → Turn) → Q t → ((l : Life) → Q (quiet l) → Q (next l)) → Q (orElse (t .output) t next)
   or-else t next q more = go (t .output) refl
     where
       go : (o : Output) → t .output ≡ o → Q (orElse o t next)

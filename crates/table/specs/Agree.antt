@@ -11,7 +11,7 @@ use Rattle.cache.specs.declared.Looked.{Looked}
 use Rattle.cache.specs.declared.LookedNumbers.{LookedNumbers}
 use Rattle.cache.specs.declared.TakenNumbers.{TakenNumbers}
 
--- what `cache::take_by_value` ensures of its result and of the store at exit, and `table::take` of its result, the table and the store at exit
+-- what `cache::take_by_value` ensures of its result and of the store at exit, and `table::kurgashel_cache_take` of its result, the table and the store at exit
 abbrev pub ByValue : ℕ → List Entry → List ℕ → ℕ → List ℕ → AfterTake → List ℕ → Type 0
 ByValue now es store port p r bytes = (r ≡ afterTake now es store port p) × (bytes ≡ takeIn now es store port p .store)
 
@@ -27,7 +27,7 @@ takes-agree now es store port p r bytes lent table last v l = (
   (l .1 .0 ∙ sym (ap (λ (x : AfterTake). x .entries) (v .0)), l .1 .1 ∙ sym (v .1)),
 )
 
--- the same for `cache::look_by_value` and `table::look_up`
+-- the same for `cache::look_by_value` and `table::kurgashel_cache_look_up`
 pub looks-agree : (now : ℕ) (es : List Entry) (store name : List ℕ) (rtype from : ℕ) (r : Looked) (lent : LookedNumbers)
     → r ≡ lookedOf now es store name rtype from → lent ≡ lookedNumbers (lookedOf now es store name rtype from) → lent ≡ lookedNumbers r
 looks-agree now es store name rtype from r lent v l = l ∙ sym (ap lookedNumbers v)

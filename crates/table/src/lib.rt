@@ -210,7 +210,7 @@ fn numbers_of(after: AfterTake) -> TakenNumbers
 
 // Looks a name and a type up in a lent table, in place: the lowest live match from a slot on. Nothing is written.
 #[no_mangle]
-pub extern "C" fn look_up(
+pub extern "C" fn kurgashel_cache_look_up(
     table: &[Entry],
     store: &[u8],
     time: u64,
@@ -237,7 +237,7 @@ pub extern "C" fn look_up(
 
 // Takes the records of a message into a lent table and its store.
 #[no_mangle]
-pub extern "C" fn take(
+pub extern "C" fn kurgashel_cache_take(
     table: &mut [Entry],
     store: &mut [u8],
     time: u64,

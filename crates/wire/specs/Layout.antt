@@ -138,7 +138,7 @@ abbrev pub questionsOf : List ℕ → Listing Question → Reads
 questionsOf p (listing qs a) = answersOf p qs a (listFrom (recordAt p) (word16 p 6) a)
 questionsOf p cut = refused 6
 
--- "4: message under 12 or over 8,972 bytes", "5: opcode or RCODE not zero", "6: message malformed", in this order
+-- 4: "message under 12 or over 8,972 bytes"; 5: "opcode or RCODE not zero, or ..", where the port is the caller's; 6: malformed; in this order
 unfoldable pub messageAt : List ℕ → Reads
 messageAt p =
     cond (ltb (length p) 12 || ltb 8972 (length p)) (refused 4)

@@ -3,7 +3,7 @@
 
 mod lines;
 mod packet;
-mod random;
+pub mod random;
 mod responder;
 mod store;
 

@@ -15,7 +15,7 @@ use Rattle.compose.proofs.pick_claim.Reads as pick-claim-reads
 use Rattle.compose.proofs.put_header.Reads as put-header-reads
 use Rattle.compose.proofs.write_list.Reads as write-list-reads
 use Rattle.compose.proofs.write_question.Reads as write-question-reads
-use Rattle.records.proofs.check_setup.Reads as check-setup-reads
+use Rattle.setups.proofs.check_setup.Reads as check-setup-reads
 use Rattle.records.proofs.own_name.Reads as own-name-reads
 
 returns : tie.Need-returns

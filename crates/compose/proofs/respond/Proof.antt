@@ -13,7 +13,7 @@ use Rattle.compose.proofs.respond.Lts as lts
 use Rattle.compose.proofs.pick.Reads as pick-reads
 use Rattle.compose.proofs.put_header.Reads as put-header-reads
 use Rattle.compose.proofs.write_list.Reads as write-list-reads
-use Rattle.records.proofs.check_setup.Reads as check-setup-reads
+use Rattle.setups.proofs.check_setup.Reads as check-setup-reads
 
 returns : tie.Need-returns
 returns c = refuse-3 (c .before .before .args .s) (c .before .before .args .out .now) _ (c .if1 .taken)

@@ -6,13 +6,13 @@ use Rattle.console.proofs.serve.Statement.{statement}
 use Rattle.console.proofs.serve.Tie as tie
 
 abbrev Inv-loop : tie.InvT-loop
-Inv-loop input₀ out₀ text₀ state₀ start₀ seen₀ filled₀ turns₀ input out text state start seen filled turns = (length input ≡ length input₀) × (start ≤ seen) × (seen ≤ filled) × (filled ≤ length input)
+Inv-loop input₀ store₀ out₀ text₀ held₀ start₀ seen₀ filled₀ turns₀ input store out text held start seen filled turns = (length input ≡ length input₀) × (start ≤ seen) × (seen ≤ filled) × (filled ≤ length input)
 
 abbrev μ-loop : tie.MeasureT-loop
-μ-loop input₀ out₀ text₀ state₀ start₀ seen₀ filled₀ turns₀ input out text state start seen filled turns = turns
+μ-loop input₀ store₀ out₀ text₀ held₀ start₀ seen₀ filled₀ turns₀ input store out text held start seen filled turns = turns
 
-unset-requires : tie.Need-unset-requires Inv-loop μ-loop
-unset-requires c κs = search needs
+at-first-requires : tie.Need-at-first-requires Inv-loop μ-loop
+at-first-requires c κs = search needs
 
 loop-holds : tie.Need-loop-holds Inv-loop μ-loop
 loop-holds c = search needs
@@ -74,7 +74,7 @@ serve-spec =
     (tie.spec
     Inv-loop
     μ-loop
-    unset-requires
+    at-first-requires
     loop-holds
     sub-turns
     find-requires

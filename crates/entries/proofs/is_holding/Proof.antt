@@ -29,7 +29,7 @@ same-bytes-requires : tie.Need-same-bytes-requires
 same-bytes-requires c κs = search needs
 
 returns-3 : tie.Need-returns-3
-returns-3 c = holds-bytes _ _ _ _ _ _ _ (omega arith) (sym (c .before .before .before .before .is-live-of .ensures) ∙ not-false _ (c .before .before .before .if2 .left)) _ _ _ (c .before .before .slot-of .ensures) (c .before .part .ensures) (c .same-bytes .ensures)
+returns-3 c = holds-bytes _ _ _ _ _ _ _ (omega arith) (sym (c .before .before .before .before .is-live-of .ensures) ∙ not-false _ (c .before .before .before .if2 .left)) _ _ _ (c .before .before .slot-of .ensures .0) (c .before .part .ensures .0) (c .same-bytes .ensures)
 
 pub is-holding-spec : {M : Type 1} → statement M
 is-holding-spec =

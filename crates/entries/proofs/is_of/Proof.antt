@@ -24,7 +24,7 @@ same-name-requires : tie.Need-same-name-requires
 same-name-requires c κs = search needs
 
 returns-3 : tie.Need-returns-3
-returns-3 c = of-name _ _ _ _ _ (omega arith) (omega arith) _ _ _ (c .before .before .slot-of .ensures) (c .before .part .ensures) (c .same-name .ensures)
+returns-3 c = of-name _ _ _ _ _ (omega arith) (omega arith) _ _ _ (c .before .before .slot-of .ensures .0) (c .before .part .ensures .0) (c .same-name .ensures)
 
 pub is-of-spec : {M : Type 1} → statement M
 is-of-spec =

@@ -1,5 +1,5 @@
 -- `entries::slot_of` meets its contract. Assumes nothing.
-use Rattle.entries.proofs.Single.{slot-past}
+use Rattle.entries.proofs.Single.{slot-past, start-past}
 use mathlib.Core.Path.{_∙_}
 use borrow.Author.Needs.{needs}
 use Rattle.entries.proofs.slot_of.Statement.{statement}
@@ -9,7 +9,7 @@ part-requires : tie.Need-part-requires
 part-requires c κs = search needs
 
 returns : tie.Need-returns
-returns c = c .part .ensures ∙ slot-past _ _ (c .before .if1 .taken)
+returns c = let a = c .before .before .before .args in (c .part .ensures .0 ∙ slot-past _ _ (c .before .if1 .taken), c .part .ensures .1 ∙ start-past (a .store .now) (a .i) (a .store .ptr) (c .before .if1 .taken))
 
 mul-part : tie.Need-mul-part
 mul-part c = search needs

@@ -31,7 +31,7 @@ rdata-is-requires : tie.Need-rdata-is-requires
 rdata-is-requires c κs = search needs
 
 returns-2 : tie.Need-returns-2
-returns-2 c = let a = c .before .before .before .before .before .before .before .before .before .args in same-viewed (a .q .now) (a .rtype) (a .from) (a .size) (rdataAt (a .p .now) (a .rtype) (a .at) (a .len)) _ (c .before .before .before .before .before .before .rdata-fits .ensures) (not-false _ (c .before .before .before .before .before .if1 .left)) _ (c .before .before .before .before .open .ensures) _ (c .before .view .ensures) _ (c .rdata-is .ensures)
+returns-2 c = let a = c .before .before .before .before .before .before .before .before .before .args in same-viewed (a .q .now) (a .rtype) (a .from) (a .size) (rdataAt (a .p .now) (a .rtype) (a .at) (a .len)) _ (c .before .before .before .before .before .before .rdata-fits .ensures) (not-false _ (c .before .before .before .before .before .if1 .left)) _ (c .before .before .before .before .open .ensures) _ (c .before .view .ensures .0) _ (c .rdata-is .ensures)
 
 pub same-rdata-spec : {M : Type 1} → statement M
 same-rdata-spec =

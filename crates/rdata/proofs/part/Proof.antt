@@ -1,5 +1,5 @@
 use native.Mathlib.Omega.{arith}
-use Rattle.rdata.proofs.Fits.{part-none, part-rest, part-whole}
+use Rattle.rdata.proofs.Fits.{part-none, part-rest, part-whole, start-past, start-inside}
 use borrow.Author.Needs.{needs}
 use Rattle.rdata.proofs.part.Statement.{statement}
 use Rattle.rdata.proofs.part.Tie as tie
@@ -16,7 +16,7 @@ part-result-end : tie.Need-part-result-end
 part-result-end c = search needs
 
 returns : tie.Need-returns
-returns c = let a = c .before .before .args in part-none (a .p .now) (a .at) (a .len) (c .before .if1 .taken)
+returns c = let a = c .before .before .args in (part-none (a .p .now) (a .at) (a .len) (c .before .if1 .taken), start-past (a .p .now) (a .at) (a .p .ptr) (c .before .if1 .taken))
 
 sub-result-2 : tie.Need-sub-result-2
 sub-result-2 c = search needs
@@ -28,7 +28,7 @@ part-result-end-2 : tie.Need-part-result-end-2
 part-result-end-2 c = search needs
 
 returns-2 : tie.Need-returns-2
-returns-2 c = let a = c .before .before .before .args in part-rest (a .p .now) (a .at) (a .len) (omega arith) (omega arith)
+returns-2 c = let a = c .before .before .before .args in (part-rest (a .p .now) (a .at) (a .len) (omega arith) (omega arith), start-inside (a .p .now) (a .at) (a .p .ptr) (omega arith))
 
 add-end : tie.Need-add-end
 add-end c = search needs
@@ -43,7 +43,7 @@ part-result-end-3 : tie.Need-part-result-end-3
 part-result-end-3 c = search needs
 
 returns-3 : tie.Need-returns-3
-returns-3 c = let a = c .before .before .before .args in part-whole (a .p .now) (a .at) (a .len)
+returns-3 c = let a = c .before .before .before .args in (part-whole (a .p .now) (a .at) (a .len), start-inside (a .p .now) (a .at) (a .p .ptr) (omega arith))
 
 pub part-spec : {M : Type 1} → statement M
 part-spec =

@@ -3,25 +3,22 @@ use Rattle.reader.proofs.Names.{length-found, length-bad}
 use borrow.Author.Needs.{needs}
 use Rattle.reader.proofs.kurgashel_name_length.Statement.{statement}
 use Rattle.reader.proofs.kurgashel_name_length.Tie as tie
-use Rattle.reader.proofs.kurgashel_name_length.Reads as reads
-use Rattle.reader.proofs.kurgashel_name_length.Lts as lts
-use Rattle.names.proofs.expand.Reads as expand-reads
 
-expand-requires : tie.Need-expand-requires
-expand-requires c κs = search needs
+name-at-requires : tie.Need-name-at-requires
+name-at-requires c κs = search needs
 
-enum-known-name : tie.Need-enum-known-name
-enum-known-name c = search needs
+enum-known-found : tie.Need-enum-known-found
+enum-known-found c = search needs
 
 enum-told : tie.Need-enum-told
 enum-told c = search needs
 
 returns : tie.Need-returns
-returns c = let a = c .before .before .before .before .before .args in length-found (nameAt (a .message .now) (a .at)) _ (c .before .before .before .expand .ensures) _ (c .before .name .given .1)
+returns c = let a = c .before .before .before .before .before .args in length-found (nameAt (a .message .now) (a .at)) _ (c .before .before .before .name-at .ensures) _ (c .before .found .given .1)
 
 returns-2 : tie.Need-returns-2
-returns-2 c = let a = c .before .before .before .before .args in length-bad (nameAt (a .message .now) (a .at)) _ (c .before .before .expand .ensures) (c .enum-told .given .1)
+returns-2 c = let a = c .before .before .before .before .args in length-bad (nameAt (a .message .now) (a .at)) _ (c .before .before .name-at .ensures) (c .enum-told .given .1)
 
 pub kurgashel-name-length-spec : {M : Type 1} → statement M
 kurgashel-name-length-spec =
-    tie.close (tie.spec expand-requires enum-known-name enum-told returns returns-2)
+    tie.close (tie.spec name-at-requires enum-known-found enum-told returns returns-2)

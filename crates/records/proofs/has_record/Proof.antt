@@ -1,5 +1,5 @@
 use borrow.Author.Tests.{eq-eqb, ne-eqb, le-leb, lt-leb, lt-ltb, le-ltb}
-use Rattle.records.specs.Records.{ownType, ownClass, ownTtl, ownClaim, isProbed, hasRecord}
+use Rattle.records.specs.Records.{ownType, ownClass, ownTtl, hasRecord}
 use native.Mathlib.Omega.{arith}
 use Prim.Native.Nat.{_<_, _≤_}
 use Rattle.records.proofs.has_record.Statement.{statement}

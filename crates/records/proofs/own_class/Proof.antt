@@ -1,5 +1,5 @@
 use borrow.Author.Tests.{eq-eqb, ne-eqb, le-leb, lt-leb, lt-ltb, le-ltb}
-use Rattle.records.specs.Records.{ownType, ownClass, ownTtl, ownClaim, isProbed, hasRecord}
+use Rattle.records.specs.Records.{ownType, ownClass, ownTtl, hasRecord}
 use Rattle.records.proofs.own_class.Statement.{statement}
 use Rattle.records.proofs.own_class.Tie as tie
 use Rattle.records.proofs.own_class.Reads as reads

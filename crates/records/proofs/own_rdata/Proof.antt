@@ -1,5 +1,5 @@
 use native.Mathlib.Omega.{arith}
-use Rattle.records.proofs.Rules.{sized}
+use Rattle.records.proofs.Arrays.{sized}
 use Rattle.records.proofs.Laying.{rdata-ptr, rdata-srv, rdata-txt, rdata-a, rdata-aaaa}
 use borrow.Author.Needs.{needs}
 use Rattle.records.proofs.own_rdata.Statement.{statement}

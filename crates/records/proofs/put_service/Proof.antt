@@ -2,7 +2,7 @@ use native.Mathlib.Omega.{arith}
 use mathlib.Core.Path.{sym}
 use lib.ListN.{length-take}
 use lib.Seq.{length-take-le}
-use Rattle.records.proofs.Rules.{sized}
+use Rattle.records.proofs.Arrays.{sized}
 use Rattle.records.proofs.Laying.{held-short, held-full}
 use borrow.Author.Needs.{needs}
 use Rattle.records.proofs.put_service.Statement.{statement}

@@ -3,7 +3,7 @@ use native.Mathlib.Omega.{arith}
 use mathlib.Core.Path.{sym}
 use lib.ListN.{length-take}
 use lib.Seq.{length-take-le}
-use Rattle.records.proofs.Rules.{sized}
+use Rattle.records.proofs.Arrays.{sized}
 use Rattle.records.proofs.Laying.{own-full, own-of}
 use Rattle.records.proofs.txt_rdata.Statement.{statement}
 use Rattle.records.proofs.txt_rdata.Tie as tie

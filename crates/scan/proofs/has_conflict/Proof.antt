@@ -44,7 +44,7 @@ conflicts-in-requires : tie.Need-conflicts-in-requires
 conflicts-in-requires c κs = search needs
 
 returns-2 : tie.Need-returns-2
-returns-2 c = λ m is. let a = c .before .before .before .before .before .before .before .before .before .before .before .before .before .args in has-it (a .setup) (a .i) m _ (c .before .before .before .before .before .before .before .before .before .before .before .has-record .ensures) (not-false _ (c .before .before .before .before .before .before .before .before .before .before .if1 .left)) _ _ _ (c .before .before .before .before .part .ensures ∙ own-part _ _ (c .before .before .before .before .before .before .before .before .before .own-name .ensures)) (c .before .part2 .ensures ∙ own-part _ _ (c .before .before .before .before .before .before .before .own-rdata .ensures)) (c .before .before .before .own-type .ensures) _ (c .conflicts-in .ensures m is)
+returns-2 c = λ m is. let a = c .before .before .before .before .before .before .before .before .before .before .before .before .before .args in has-it (a .setup) (a .i) m _ (c .before .before .before .before .before .before .before .before .before .before .before .has-record .ensures) (not-false _ (c .before .before .before .before .before .before .before .before .before .before .if1 .left)) _ _ _ (c .before .before .before .before .part .ensures .0 ∙ own-part _ _ (c .before .before .before .before .before .before .before .before .before .own-name .ensures)) (c .before .part2 .ensures .0 ∙ own-part _ _ (c .before .before .before .before .before .before .before .own-rdata .ensures)) (c .before .before .before .own-type .ensures) _ (c .conflicts-in .ensures m is)
 
 pub has-conflict-spec : {M : Type 1} → statement M
 has-conflict-spec =

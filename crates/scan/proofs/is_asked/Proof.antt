@@ -27,7 +27,7 @@ some-asks-requires : tie.Need-some-asks-requires
 some-asks-requires c κs = search needs
 
 returns : tie.Need-returns
-returns c = λ ok. let a = c .before .before .before .before .before .before .before .args in c .some-asks .ensures ok ∙ asks-own (a .setup) (a .i) (listFrom (questionAt (a .p .now)) (a .s .count) (a .s .at)) _ _ (c .before .before .part .ensures ∙ own-part _ _ (c .before .before .before .before .before .own-name .ensures)) (c .before .own-type .ensures)
+returns c = λ ok. let a = c .before .before .before .before .before .before .before .args in c .some-asks .ensures ok ∙ asks-own (a .setup) (a .i) (listFrom (questionAt (a .p .now)) (a .s .count) (a .s .at)) _ _ (c .before .before .part .ensures .0 ∙ own-part _ _ (c .before .before .before .before .before .own-name .ensures)) (c .before .own-type .ensures)
 
 pub is-asked-spec : {M : Type 1} → statement M
 is-asked-spec =

@@ -25,7 +25,7 @@ is-probe-requires : tie.Need-is-probe-requires
 is-probe-requires c κs = search needs
 
 returns : tie.Need-returns
-returns c = let a = c .before .before .before .before .before .before .args in c .is-probe .ensures ∙ ap (λ (n : List ℕ). isProbe n (messageIn (a .p .now) (a .l))) (c .before .part .ensures ∙ own-part _ _ (c .before .before .before .before .own-name .ensures))
+returns c = let a = c .before .before .before .before .before .before .args in c .is-probe .ensures ∙ ap (λ (n : List ℕ). isProbe n (messageIn (a .p .now) (a .l))) (c .before .part .ensures .0 ∙ own-part _ _ (c .before .before .before .before .own-name .ensures))
 
 pub is-probe-spec : {M : Type 1} → statement M
 is-probe-spec =

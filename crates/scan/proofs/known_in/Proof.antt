@@ -92,7 +92,7 @@ own-less : tie.Need-own-less Inv-loop μ-loop Inv-own μ-own
 own-less c = search needs
 
 own-again : tie.Need-own-again Inv-loop μ-loop Inv-own μ-own
-own-again c = (omega arith, λ ok. own-flag (λ (k : ℕ). someIn (suppresses (ownName (c .before .before .before .before .before .before .before .before .before .before .before .before .before .before .before .before .before .before .before .before .before .args .setup) k) (ownType k) (ownRdata (c .before .before .before .before .before .before .before .before .before .before .before .before .before .before .before .before .before .before .before .before .before .args .setup) k) (ownTtl k)) (listFrom (recordAt (c .before .before .before .before .before .before .before .before .before .before .before .before .before .before .before .before .before .before .before .before .before .args .p .now)) (c .before .before .before .before .before .before .before .before .before .before .before .before .before .before .before .before .before .before .before .before .before .args .s .count) (c .before .before .before .before .before .before .before .before .before .before .before .before .before .before .before .before .before .before .before .before .before .args .s .at))) (c .before .before .before .before .before .before .before .before .before .before .before .before .before .before .before .before .before .before .before .own .i) _ _ _ true (c .before .before .before .before .before .before .before .before .before .before .before .loop .inv .0) (c .before .before .before .before .before .before .before .before .before .before .before .loop .inv .1) (c .before .before .before .before .before .before .before .before .before .before .before .before .before .before .before .before .before .before .before .own .inv .1 ok) (sym (sym (suppresses-own (c .before .before .before .before .before .before .before .before .before .before .before .before .before .before .before .before .before .before .before .before .before .args .setup) (c .before .before .before .before .before .before .before .before .before .before .before .before .before .before .before .before .before .before .before .own .i) _ _ _ _ (own-part _ _ (c .before .before .before .before .before .before .before .before .before .before .before .before .before .before .before .before .before .own-name .ensures)) (own-part _ _ (c .before .before .before .before .before .before .before .before .before .before .before .before .before .before .before .own-rdata .ensures)) (c .before .before .before .before .before .before .before .before .before .before .before .before .before .own-type .ensures) (c .before .before .before .before .before .before .before .before .before .before .before .before .own-ttl .ensures) (listFrom (recordAt (c .before .before .before .before .before .before .before .before .before .before .before .before .before .before .before .before .before .before .before .before .before .args .p .now)) (c .before .before .before .before .before .before .before .before .before .before .before .before .before .before .before .before .before .before .before .before .before .args .s .count) (c .before .before .before .before .before .before .before .before .before .before .before .before .before .before .before .before .before .before .before .before .before .args .s .at))) ∙ c .before .before .before .before .before .before .before .before .before .before .before .loop .inv .2 ok .1 ∙ record-meets (c .before .before .before .before .before .before .before .before .before .before .before .before .before .before .before .before .before .before .before .before .before .args .p .now) (c .before .before .before .before .before .before .before .before .before .before .before .loop .left) (c .before .before .before .before .before .before .before .before .before .before .before .loop .here) (c .before .before .before .before .before .before .before .before .before .before .loop-test .taken) _ (c .before .before .before .before .before .before .before .before .before .record-at .ensures) (c .before .before .before .before .before .before .before .before .before .before .before .loop .inv .2 ok .0) _ (c .before .before .before .before .before .before .before .f .given .1) (suppresses (take (c .before .before .before .before .before .before .before .before .before .before .before .before .before .before .before .before .before .own-name .result .len) (drop 0 (c .before .before .before .before .before .before .before .before .before .before .before .before .before .before .before .before .before .own-name .result .bytes))) (c .before .before .before .before .before .before .before .before .before .before .before .before .before .own-type .result) (take (c .before .before .before .before .before .before .before .before .before .before .before .before .before .before .before .own-rdata .result .len) (drop 0 (c .before .before .before .before .before .before .before .before .before .before .before .before .before .before .before .own-rdata .result .bytes))) (c .before .before .before .before .before .before .before .before .before .before .before .before .own-ttl .result)) _ (c .before .suppresses-here .ensures ∙ (λ j. suppressesHere (c .before .before .before .before .before .before .before .before .before .before .before .before .before .before .before .before .before .before .before .before .before .args .p .now) (c .before .before .before .before .before .before .before .f .given .0 .0) (c .before .before .before .before .part .ensures j) (c .before .before .before .before .before .before .before .before .before .before .before .before .before .own-type .result) (c .before .before .part2 .ensures j) (c .before .before .before .before .before .before .before .before .before .before .before .before .own-ttl .result)) ∙ suppresses-so (c .before .before .before .before .before .before .before .before .before .before .before .before .before .before .before .before .before .before .before .before .before .args .p .now) (c .before .before .before .before .before .before .before .before .before .before .before .loop .left) (c .before .before .before .before .before .before .before .before .before .before .before .loop .here) (c .before .before .before .before .before .before .before .before .before .before .loop-test .taken) _ (c .before .before .before .before .before .before .before .before .before .record-at .ensures) (c .before .before .before .before .before .before .before .before .before .before .before .loop .inv .2 ok .0) _ (c .before .before .before .before .before .before .before .f .given .1) _ _ _ _) (c .if1 .taken))))
+own-again c = (omega arith, λ ok. own-flag (λ (k : ℕ). someIn (suppresses (ownName (c .before .before .before .before .before .before .before .before .before .before .before .before .before .before .before .before .before .before .before .before .before .args .setup) k) (ownType k) (ownRdata (c .before .before .before .before .before .before .before .before .before .before .before .before .before .before .before .before .before .before .before .before .before .args .setup) k) (ownTtl k)) (listFrom (recordAt (c .before .before .before .before .before .before .before .before .before .before .before .before .before .before .before .before .before .before .before .before .before .args .p .now)) (c .before .before .before .before .before .before .before .before .before .before .before .before .before .before .before .before .before .before .before .before .before .args .s .count) (c .before .before .before .before .before .before .before .before .before .before .before .before .before .before .before .before .before .before .before .before .before .args .s .at))) (c .before .before .before .before .before .before .before .before .before .before .before .before .before .before .before .before .before .before .before .own .i) _ _ _ true (c .before .before .before .before .before .before .before .before .before .before .before .loop .inv .0) (c .before .before .before .before .before .before .before .before .before .before .before .loop .inv .1) (c .before .before .before .before .before .before .before .before .before .before .before .before .before .before .before .before .before .before .before .own .inv .1 ok) (sym (sym (suppresses-own (c .before .before .before .before .before .before .before .before .before .before .before .before .before .before .before .before .before .before .before .before .before .args .setup) (c .before .before .before .before .before .before .before .before .before .before .before .before .before .before .before .before .before .before .before .own .i) _ _ _ _ (own-part _ _ (c .before .before .before .before .before .before .before .before .before .before .before .before .before .before .before .before .before .own-name .ensures)) (own-part _ _ (c .before .before .before .before .before .before .before .before .before .before .before .before .before .before .before .own-rdata .ensures)) (c .before .before .before .before .before .before .before .before .before .before .before .before .before .own-type .ensures) (c .before .before .before .before .before .before .before .before .before .before .before .before .own-ttl .ensures) (listFrom (recordAt (c .before .before .before .before .before .before .before .before .before .before .before .before .before .before .before .before .before .before .before .before .before .args .p .now)) (c .before .before .before .before .before .before .before .before .before .before .before .before .before .before .before .before .before .before .before .before .before .args .s .count) (c .before .before .before .before .before .before .before .before .before .before .before .before .before .before .before .before .before .before .before .before .before .args .s .at))) ∙ c .before .before .before .before .before .before .before .before .before .before .before .loop .inv .2 ok .1 ∙ record-meets (c .before .before .before .before .before .before .before .before .before .before .before .before .before .before .before .before .before .before .before .before .before .args .p .now) (c .before .before .before .before .before .before .before .before .before .before .before .loop .left) (c .before .before .before .before .before .before .before .before .before .before .before .loop .here) (c .before .before .before .before .before .before .before .before .before .before .loop-test .taken) _ (c .before .before .before .before .before .before .before .before .before .record-at .ensures) (c .before .before .before .before .before .before .before .before .before .before .before .loop .inv .2 ok .0) _ (c .before .before .before .before .before .before .before .f .given .1) (suppresses (take (c .before .before .before .before .before .before .before .before .before .before .before .before .before .before .before .before .before .own-name .result .len) (drop 0 (c .before .before .before .before .before .before .before .before .before .before .before .before .before .before .before .before .before .own-name .result .bytes))) (c .before .before .before .before .before .before .before .before .before .before .before .before .before .own-type .result) (take (c .before .before .before .before .before .before .before .before .before .before .before .before .before .before .before .own-rdata .result .len) (drop 0 (c .before .before .before .before .before .before .before .before .before .before .before .before .before .before .before .own-rdata .result .bytes))) (c .before .before .before .before .before .before .before .before .before .before .before .before .own-ttl .result)) _ (c .before .suppresses-here .ensures ∙ (λ j. suppressesHere (c .before .before .before .before .before .before .before .before .before .before .before .before .before .before .before .before .before .before .before .before .before .args .p .now) (c .before .before .before .before .before .before .before .f .given .0 .0) (c .before .before .before .before .part .ensures .0 j) (c .before .before .before .before .before .before .before .before .before .before .before .before .before .own-type .result) (c .before .before .part2 .ensures .0 j) (c .before .before .before .before .before .before .before .before .before .before .before .before .own-ttl .result)) ∙ suppresses-so (c .before .before .before .before .before .before .before .before .before .before .before .before .before .before .before .before .before .before .before .before .before .args .p .now) (c .before .before .before .before .before .before .before .before .before .before .before .loop .left) (c .before .before .before .before .before .before .before .before .before .before .before .loop .here) (c .before .before .before .before .before .before .before .before .before .before .loop-test .taken) _ (c .before .before .before .before .before .before .before .before .before .record-at .ensures) (c .before .before .before .before .before .before .before .before .before .before .before .loop .inv .2 ok .0) _ (c .before .before .before .before .before .before .before .f .given .1) _ _ _ _) (c .if1 .taken))))
 
 enum-told : tie.Need-enum-told Inv-loop μ-loop Inv-own μ-own
 enum-told c = search needs
@@ -116,7 +116,7 @@ loop-less : tie.Need-loop-less Inv-loop μ-loop Inv-own μ-own
 loop-less c = search needs
 
 loop-again : tie.Need-loop-again Inv-loop μ-loop Inv-own μ-own
-loop-again c = (c .before .before .before .before .before .before .before .before .before .before .before .loop .inv .0, c .before .before .before .before .before .before .before .before .before .before .before .loop .inv .1, λ ok. let m = record-passed (c .before .before .before .before .before .before .before .before .before .before .before .before .before .before .before .before .before .before .before .before .before .args .p .now) (c .before .before .before .before .before .before .before .before .before .before .before .loop .left) (c .before .before .before .before .before .before .before .before .before .before .before .loop .here) (c .before .before .before .before .before .before .before .before .before .before .loop-test .taken) _ (c .before .before .before .before .before .before .before .before .before .record-at .ensures) (c .before .before .before .before .before .before .before .before .before .before .before .loop .inv .2 ok .0) _ (c .before .before .before .before .before .before .before .f .given .1) (suppresses (take (c .before .before .before .before .before .before .before .before .before .before .before .before .before .before .before .before .before .own-name .result .len) (drop 0 (c .before .before .before .before .before .before .before .before .before .before .before .before .before .before .before .before .before .own-name .result .bytes))) (c .before .before .before .before .before .before .before .before .before .before .before .before .before .own-type .result) (take (c .before .before .before .before .before .before .before .before .before .before .before .before .before .before .before .own-rdata .result .len) (drop 0 (c .before .before .before .before .before .before .before .before .before .before .before .before .before .before .before .own-rdata .result .bytes))) (c .before .before .before .before .before .before .before .before .before .before .before .before .own-ttl .result)) _ (c .before .suppresses-here .ensures ∙ (λ j. suppressesHere (c .before .before .before .before .before .before .before .before .before .before .before .before .before .before .before .before .before .before .before .before .before .args .p .now) (c .before .before .before .before .before .before .before .f .given .0 .0) (c .before .before .before .before .part .ensures j) (c .before .before .before .before .before .before .before .before .before .before .before .before .before .own-type .result) (c .before .before .part2 .ensures j) (c .before .before .before .before .before .before .before .before .before .before .before .before .own-ttl .result)) ∙ suppresses-so (c .before .before .before .before .before .before .before .before .before .before .before .before .before .before .before .before .before .before .before .before .before .args .p .now) (c .before .before .before .before .before .before .before .before .before .before .before .loop .left) (c .before .before .before .before .before .before .before .before .before .before .before .loop .here) (c .before .before .before .before .before .before .before .before .before .before .loop-test .taken) _ (c .before .before .before .before .before .before .before .before .before .record-at .ensures) (c .before .before .before .before .before .before .before .before .before .before .before .loop .inv .2 ok .0) _ (c .before .before .before .before .before .before .before .f .given .1) _ _ _ _) (c .if1 .left) in (m .0, c .before .before .before .before .before .before .before .before .before .before .before .loop .inv .2 ok .1 ∙ m .1))
+loop-again c = (c .before .before .before .before .before .before .before .before .before .before .before .loop .inv .0, c .before .before .before .before .before .before .before .before .before .before .before .loop .inv .1, λ ok. let m = record-passed (c .before .before .before .before .before .before .before .before .before .before .before .before .before .before .before .before .before .before .before .before .before .args .p .now) (c .before .before .before .before .before .before .before .before .before .before .before .loop .left) (c .before .before .before .before .before .before .before .before .before .before .before .loop .here) (c .before .before .before .before .before .before .before .before .before .before .loop-test .taken) _ (c .before .before .before .before .before .before .before .before .before .record-at .ensures) (c .before .before .before .before .before .before .before .before .before .before .before .loop .inv .2 ok .0) _ (c .before .before .before .before .before .before .before .f .given .1) (suppresses (take (c .before .before .before .before .before .before .before .before .before .before .before .before .before .before .before .before .before .own-name .result .len) (drop 0 (c .before .before .before .before .before .before .before .before .before .before .before .before .before .before .before .before .before .own-name .result .bytes))) (c .before .before .before .before .before .before .before .before .before .before .before .before .before .own-type .result) (take (c .before .before .before .before .before .before .before .before .before .before .before .before .before .before .before .own-rdata .result .len) (drop 0 (c .before .before .before .before .before .before .before .before .before .before .before .before .before .before .before .own-rdata .result .bytes))) (c .before .before .before .before .before .before .before .before .before .before .before .before .own-ttl .result)) _ (c .before .suppresses-here .ensures ∙ (λ j. suppressesHere (c .before .before .before .before .before .before .before .before .before .before .before .before .before .before .before .before .before .before .before .before .before .args .p .now) (c .before .before .before .before .before .before .before .f .given .0 .0) (c .before .before .before .before .part .ensures .0 j) (c .before .before .before .before .before .before .before .before .before .before .before .before .before .own-type .result) (c .before .before .part2 .ensures .0 j) (c .before .before .before .before .before .before .before .before .before .before .before .before .own-ttl .result)) ∙ suppresses-so (c .before .before .before .before .before .before .before .before .before .before .before .before .before .before .before .before .before .before .before .before .before .args .p .now) (c .before .before .before .before .before .before .before .before .before .before .before .loop .left) (c .before .before .before .before .before .before .before .before .before .before .before .loop .here) (c .before .before .before .before .before .before .before .before .before .before .loop-test .taken) _ (c .before .before .before .before .before .before .before .before .before .record-at .ensures) (c .before .before .before .before .before .before .before .before .before .before .before .loop .inv .2 ok .0) _ (c .before .before .before .before .before .before .before .f .given .1) _ _ _ _) (c .if1 .left) in (m .0, c .before .before .before .before .before .before .before .before .before .before .before .loop .inv .2 ok .1 ∙ m .1))
 
 array-write-known-3 : tie.Need-array-write-known-3 Inv-loop μ-loop Inv-own μ-own
 array-write-known-3 c = search needs

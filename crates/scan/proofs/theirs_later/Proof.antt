@@ -64,7 +64,7 @@ is-later-requires c κs = search needs
 
 returns : tie.Need-returns
 unfolding laterThan
-returns c = let a = c .before .before .before .before .before .before .before .before .before .before .before .before .before .before .before .before .before .before .args in let n = c .before .before .before .before .before .before .part .ensures ∙ own-part _ _ (c .before .before .before .before .before .before .before .before .before .before .before .before .before .before .before .before .own-name .ensures) in let d = c .before .before .before .before .part2 .ensures ∙ own-part _ _ (c .before .before .before .before .before .before .before .before .before .before .before .before .before .before .own-rdata .ensures) in let e = c .before .before .part3 .ensures ∙ own-part _ _ (c .before .before .before .before .before .before .before .before .before .before .before .before .own-rdata2 .ensures) in c .is-later .ensures ∙ ap isLater (c .before .tiebreak .ensures ∙ (λ j. tie (theirs (n j) (messageIn (a .p .now) (a .l))) (ownList (c .before .before .before .before .before .before .before .before .before .before .own-type .ensures j) (d j) (c .before .before .before .before .before .before .before .before .has-record .ensures j) (c .before .before .before .before .before .before .before .before .before .own-type2 .ensures j) (e j))))
+returns c = let a = c .before .before .before .before .before .before .before .before .before .before .before .before .before .before .before .before .before .before .args in let n = c .before .before .before .before .before .before .part .ensures .0 ∙ own-part _ _ (c .before .before .before .before .before .before .before .before .before .before .before .before .before .before .before .before .own-name .ensures) in let d = c .before .before .before .before .part2 .ensures .0 ∙ own-part _ _ (c .before .before .before .before .before .before .before .before .before .before .before .before .before .before .own-rdata .ensures) in let e = c .before .before .part3 .ensures .0 ∙ own-part _ _ (c .before .before .before .before .before .before .before .before .before .before .before .before .own-rdata2 .ensures) in c .is-later .ensures ∙ ap isLater (c .before .tiebreak .ensures .0 ∙ (λ j. tie (theirs (n j) (messageIn (a .p .now) (a .l))) (ownList (c .before .before .before .before .before .before .before .before .before .before .own-type .ensures j) (d j) (c .before .before .before .before .before .before .before .before .has-record .ensures j) (c .before .before .before .before .before .before .before .before .before .own-type2 .ensures j) (e j))))
 
 pub theirs-later-spec : {M : Type 1} → statement M
 theirs-later-spec =

@@ -1,0 +1,5 @@
+-- Laws that belong to no one function.
+pub mod States
+pub mod Starting
+pub mod Receiving
+pub mod Ticking

@@ -1,0 +1,8 @@
+-- Laws that belong to no one function.
+pub mod Parts
+pub mod Cases
+pub mod Round
+pub mod Told
+pub mod Written
+pub mod Whole
+pub mod Encoded

@@ -1,0 +1,419 @@
+// A responder's state in bytes, for callers in other languages: 579 bytes of set-up, then 88 of what changes (specs/Layout). Every buffer of 667
+// bytes reads as a state; one of another length reads as the blank state, which every call refuses.
+ghost use mathlib.Core.Path.{_≡_};
+ghost use Prim.Native.Nat.{_+_, _≤_, _<_};
+ghost use lib.ListN.{length};
+ghost use Rattle.codec.specs.Numbers.{word64, bytes64};
+ghost use Rattle.codec.specs.Layout.{partAt, flagAt, labelAt, serviceAt, stringsAt, setupAt, claimAt, sentAt, replyAt, multicastsAt, lifeAt};
+ghost use Rattle.codec.specs.Codec.{setupOf, decode, claimTag, claimDue, sentFlag, sentTime, replyFlag, replyDue, caseBytes, claimBytes, sentBytes, replyBytes, multicastsBytes, lifeBytes, MulticastsFit, LifeFits, withLife, stateWith, withSetup};
+ghost use Rattle.codec.specs.Laid.{Laid};
+use claims::Claim;
+use claims::Life;
+use claims::Multicasts;
+use claims::Reply;
+use claims::Sent;
+use records::Label;
+use records::Service;
+use records::Setup;
+use records::Strings;
+use responder::State;
+
+// The bytes of a set-up, and of a state.
+pub const SETUP_SIZE: usize = 579;
+
+pub const STATE_SIZE: usize = 667;
+
+// Writes `s` into `out` from index `at` on.
+fn put(out: &mut [u8], at: usize, s: &[u8])
+    requires { ⌜ at + length (now s) ≤ length (now out) ⌝ }
+    ensures { λ _. ⌜ Laid (now (out .entry)) at (now (s .entry)) (now (out .exit)) ⌝ }
+{
+    let mut i = 0;
+    while i < s.len() {
+        out[at + i] = s[i];
+        i += 1;
+    }
+}
+
+// The 64-bit number at an offset.
+fn be64(b: &[u8], at: usize) -> u64
+    requires { ⌜ at < 1024 ⌝ }
+    ensures { λ r. ⌜ r ≡ word64 (now (b .entry)) at ⌝ }
+{
+    let high = octets::be32(b, at) as u64;
+    let low = octets::be32(b, at + 4) as u64;
+    high * 4294967296 + low
+}
+
+// A flag, by its low bit.
+fn flag(b: &[u8], at: usize) -> bool
+    ensures { λ r. ⌜ r ≡ flagAt (now (b .entry)) at ⌝ }
+{
+    octets::byte(b, at) % 2 == 1
+}
+
+// ---- the set-up
+
+// Four bytes from an offset on; the next ones as their names say.
+fn four_at(b: &[u8], at: usize) -> [u8; 4]
+    requires { ⌜ at + 4 ≤ length (now b) ⌝ }
+    ensures { λ r. ⌜ r ≡ partAt (now (b .entry)) at 4 ⌝ }
+{
+    let mut bytes = [0u8; 4];
+    let end = at + 4;
+    put(&mut bytes, 0, &b[at..end]);
+    bytes
+}
+
+fn five_at(b: &[u8], at: usize) -> [u8; 5]
+    requires { ⌜ at + 5 ≤ length (now b) ⌝ }
+    ensures { λ r. ⌜ r ≡ partAt (now (b .entry)) at 5 ⌝ }
+{
+    let mut bytes = [0u8; 5];
+    let end = at + 5;
+    put(&mut bytes, 0, &b[at..end]);
+    bytes
+}
+
+fn sixteen_at(b: &[u8], at: usize) -> [u8; 16]
+    requires { ⌜ at + 16 ≤ length (now b) ⌝ }
+    ensures { λ r. ⌜ r ≡ partAt (now (b .entry)) at 16 ⌝ }
+{
+    let mut bytes = [0u8; 16];
+    let end = at + 16;
+    put(&mut bytes, 0, &b[at..end]);
+    bytes
+}
+
+// A label of an instance or a host.
+fn label_at(b: &[u8], at: usize) -> Label
+    requires { ⌜ at + 63 ≤ length (now b) ⌝ }
+    ensures { λ r. ⌜ r ≡ labelAt (now (b .entry)) at ⌝ }
+{
+    let mut bytes = [0u8; 63];
+    let end = at + 63;
+    put(&mut bytes, 0, &b[at..end]);
+    Label {
+        bytes,
+        len: octets::byte(b, end) as usize,
+    }
+}
+
+fn service_at(b: &[u8], at: usize) -> Service
+    requires { ⌜ at + 16 ≤ length (now b) ⌝ }
+    ensures { λ r. ⌜ r ≡ serviceAt (now (b .entry)) at ⌝ }
+{
+    let bytes = sixteen_at(b, at);
+    Service {
+        bytes,
+        len: octets::byte(b, at + 16) as usize,
+    }
+}
+
+fn strings_at(b: &[u8], at: usize) -> Strings
+    requires { ⌜ at + 400 ≤ length (now b) ⌝ }
+    ensures { λ r. ⌜ r ≡ stringsAt (now (b .entry)) at ⌝ }
+{
+    let mut bytes = [0u8; 400];
+    let end = at + 400;
+    put(&mut bytes, 0, &b[at..end]);
+    Strings {
+        bytes,
+        len: octets::be16(b, end) as usize,
+    }
+}
+
+fn setup_at(b: &[u8]) -> Setup
+    requires { ⌜ 579 ≤ length (now b) ⌝ }
+    ensures { λ r. ⌜ r ≡ setupAt (now (b .entry)) ⌝ }
+{
+    Setup {
+        instance: label_at(b, 0),
+        service: service_at(b, 64),
+        protocol: four_at(b, 81),
+        host: label_at(b, 85),
+        domain: five_at(b, 149),
+        port: octets::be16(b, 154),
+        txt: strings_at(b, 156),
+        a: four_at(b, 558),
+        hasaaaa: flag(b, 562),
+        aaaa: sixteen_at(b, 563),
+    }
+}
+
+// ---- what changes
+
+// A claim: its case, and when its next step is due.
+fn claim_at(b: &[u8], at: usize) -> Claim
+    requires { ⌜ at < 1000 ⌝ }
+    ensures { λ r. ⌜ r ≡ claimAt (now (b .entry)) at ⌝ }
+{
+    let tag = octets::byte(b, at);
+    let due = be64(b, at + 1);
+    match tag {
+        0 => Claim::Waiting(due),
+        1 => Claim::Probing1(due),
+        2 => Claim::Probing2(due),
+        3 => Claim::Probing3(due),
+        4 => Claim::Deferred(due),
+        5 => Claim::Announced(due),
+        6 => Claim::Held,
+        _ => Claim::Lost,
+    }
+}
+
+fn sent_at(b: &[u8], at: usize) -> Sent
+    requires { ⌜ at < 1000 ⌝ }
+    ensures { λ r. ⌜ r ≡ sentAt (now (b .entry)) at ⌝ }
+{
+    if flag(b, at) {
+        return Sent::At(be64(b, at + 1));
+    }
+    Sent::Never
+}
+
+fn reply_at(b: &[u8], at: usize) -> Reply
+    requires { ⌜ at < 1000 ⌝ }
+    ensures { λ r. ⌜ r ≡ replyAt (now (b .entry)) at ⌝ }
+{
+    if flag(b, at) {
+        return Reply::Due(be64(b, at + 1));
+    }
+    Reply::Unset
+}
+
+fn multicasts_at(b: &[u8], at: usize) -> Multicasts
+    requires { ⌜ at < 900 ⌝ }
+    ensures { λ r. ⌜ r ≡ multicastsAt (now (b .entry)) at ⌝ }
+{
+    Multicasts {
+        ptr: sent_at(b, at),
+        srv: sent_at(b, at + 9),
+        txt: sent_at(b, at + 18),
+        a: sent_at(b, at + 27),
+        aaaa: sent_at(b, at + 36),
+    }
+}
+
+fn life_at(b: &[u8]) -> Life
+    ensures { λ r. ⌜ r ≡ lifeAt (now (b .entry)) ⌝ }
+{
+    Life {
+        instance: claim_at(b, 579),
+        host: claim_at(b, 588),
+        sent: multicasts_at(b, 597),
+        reply: reply_at(b, 642),
+        draw: be64(b, 651),
+        last: be64(b, 659),
+    }
+}
+
+// ---- from bytes
+
+// The set-up that a buffer holds.
+pub fn read_setup(b: &[u8]) -> Setup
+    ensures { λ r. ⌜ r ≡ setupOf (now (b .entry)) ⌝ }
+{
+    if b.len() == SETUP_SIZE {
+        return setup_at(b);
+    }
+    let blank = responder::blank_state();
+    blank.setup
+}
+
+// The state that a buffer holds.
+pub fn read_state(b: &[u8]) -> State
+    ensures { λ r. ⌜ r ≡ decode (now (b .entry)) ⌝ }
+{
+    if b.len() == STATE_SIZE {
+        return State {
+            setup: setup_at(b),
+            life: life_at(b),
+        };
+    }
+    responder::blank_state()
+}
+
+// ---- to bytes
+
+// The eight bytes of a number.
+fn number_bytes(n: u64) -> [u8; 8]
+    ensures { λ r. ⌜ (r ≡ bytes64 n) × (n < 18446744073709551616) ⌝ }
+{
+    let n1 = n / 256;
+    let n2 = n1 / 256;
+    let n3 = n2 / 256;
+    let n4 = n3 / 256;
+    let n5 = n4 / 256;
+    let n6 = n5 / 256;
+    let n7 = n6 / 256;
+    [
+        (n7 % 256) as u8,
+        (n6 % 256) as u8,
+        (n5 % 256) as u8,
+        (n4 % 256) as u8,
+        (n3 % 256) as u8,
+        (n2 % 256) as u8,
+        (n1 % 256) as u8,
+        (n % 256) as u8,
+    ]
+}
+
+fn put_number(out: &mut [u8], at: usize, n: u64)
+    requires { ⌜ at + 8 ≤ length (now out) ⌝ }
+    ensures { λ _. ⌜ Laid (now (out .entry)) at (bytes64 n) (now (out .exit)) × (n < 18446744073709551616) ⌝ }
+{
+    let bytes = number_bytes(n);
+    put(out, at, &bytes);
+}
+
+// A case byte and its number.
+fn put_case(out: &mut [u8], at: usize, tag: u8, n: u64)
+    requires { ⌜ at + 9 ≤ length (now out) ⌝ }
+    ensures { λ _. ⌜ Laid (now (out .entry)) at (caseBytes tag n) (now (out .exit)) × (n < 18446744073709551616) ⌝ }
+{
+    let first = [tag];
+    put(out, at, &first);
+    put_number(out, at + 1, n);
+}
+
+fn claim_tag(c: Claim) -> u8
+    ensures { λ r. ⌜ r ≡ claimTag c ⌝ }
+{
+    match c {
+        Claim::Waiting(_) => 0,
+        Claim::Probing1(_) => 1,
+        Claim::Probing2(_) => 2,
+        Claim::Probing3(_) => 3,
+        Claim::Deferred(_) => 4,
+        Claim::Announced(_) => 5,
+        Claim::Held => 6,
+        Claim::Lost => 7,
+    }
+}
+
+fn claim_due(c: Claim) -> u64
+    ensures { λ r. ⌜ r ≡ claimDue c ⌝ }
+{
+    match c {
+        Claim::Waiting(due) => due,
+        Claim::Probing1(due) => due,
+        Claim::Probing2(due) => due,
+        Claim::Probing3(due) => due,
+        Claim::Deferred(due) => due,
+        Claim::Announced(due) => due,
+        Claim::Held => 0,
+        Claim::Lost => 0,
+    }
+}
+
+fn sent_flag(s: Sent) -> u8
+    ensures { λ r. ⌜ r ≡ sentFlag s ⌝ }
+{
+    match s {
+        Sent::Never => 0,
+        Sent::At(_) => 1,
+    }
+}
+
+fn sent_time(s: Sent) -> u64
+    ensures { λ r. ⌜ r ≡ sentTime s ⌝ }
+{
+    match s {
+        Sent::Never => 0,
+        Sent::At(time) => time,
+    }
+}
+
+fn reply_flag(r: Reply) -> u8
+    ensures { λ n. ⌜ n ≡ replyFlag r ⌝ }
+{
+    match r {
+        Reply::Unset => 0,
+        Reply::Due(_) => 1,
+    }
+}
+
+fn reply_due(r: Reply) -> u64
+    ensures { λ n. ⌜ n ≡ replyDue r ⌝ }
+{
+    match r {
+        Reply::Unset => 0,
+        Reply::Due(due) => due,
+    }
+}
+
+fn put_claim(out: &mut [u8], at: usize, c: Claim)
+    requires { ⌜ at + 9 ≤ length (now out) ⌝ }
+    ensures { λ _. ⌜ Laid (now (out .entry)) at (claimBytes c) (now (out .exit)) × (claimDue c < 18446744073709551616) ⌝ }
+{
+    put_case(out, at, claim_tag(c), claim_due(c));
+}
+
+fn put_sent(out: &mut [u8], at: usize, s: Sent)
+    requires { ⌜ at + 9 ≤ length (now out) ⌝ }
+    ensures { λ _. ⌜ Laid (now (out .entry)) at (sentBytes s) (now (out .exit)) × (sentTime s < 18446744073709551616) ⌝ }
+{
+    put_case(out, at, sent_flag(s), sent_time(s));
+}
+
+fn put_reply(out: &mut [u8], at: usize, r: Reply)
+    requires { ⌜ at + 9 ≤ length (now out) ⌝ }
+    ensures { λ _. ⌜ Laid (now (out .entry)) at (replyBytes r) (now (out .exit)) × (replyDue r < 18446744073709551616) ⌝ }
+{
+    put_case(out, at, reply_flag(r), reply_due(r));
+}
+
+fn put_multicasts(out: &mut [u8], at: usize, sent: Multicasts)
+    requires { ⌜ at + 45 ≤ length (now out) ⌝ }
+    ensures { λ _. ⌜ Laid (now (out .entry)) at (multicastsBytes sent) (now (out .exit)) × MulticastsFit sent ⌝ }
+{
+    let ptr = sent.ptr;
+    let srv = sent.srv;
+    let txt = sent.txt;
+    let a = sent.a;
+    let aaaa = sent.aaaa;
+    put_sent(out, at, ptr);
+    put_sent(out, at + 9, srv);
+    put_sent(out, at + 18, txt);
+    put_sent(out, at + 27, a);
+    put_sent(out, at + 36, aaaa);
+}
+
+// Writes what changes, behind the set-up.
+fn lay_life(out: &mut [u8], life: Life)
+    requires { ⌜ length (now out) ≡ 667 ⌝ }
+    ensures { λ _. ⌜ Laid (now (out .entry)) 579 (lifeBytes life) (now (out .exit)) × LifeFits life ⌝ }
+{
+    let instance = life.instance;
+    let host = life.host;
+    let sent = life.sent;
+    let reply = life.reply;
+    put_claim(out, 579, instance);
+    put_claim(out, 588, host);
+    put_multicasts(out, 597, sent);
+    put_reply(out, 642, reply);
+    put_number(out, 651, life.draw);
+    put_number(out, 659, life.last);
+}
+
+// Writes what changes into a state's bytes; those of its set-up stay, and so does a buffer of another length.
+pub fn put_life(state: &mut [u8], life: Life)
+    ensures { λ _. ⌜ (now (state .exit) ≡ withLife (now (state .entry)) life) × (decode (now (state .exit)) ≡ stateWith (now (state .entry)) life) ⌝ }
+{
+    if state.len() == STATE_SIZE {
+        lay_life(state, life);
+    }
+}
+
+// Lays a set-up over the front of a state's bytes; where either has another length, nothing changes.
+pub fn put_setup(state: &mut [u8], setup: &[u8])
+    ensures { λ _. ⌜ now (state .exit) ≡ withSetup (now (state .entry)) (now (setup .entry)) ⌝ }
+{
+    if state.len() != STATE_SIZE {
+        return;
+    }
+    if setup.len() == SETUP_SIZE {
+        put(state, 0, setup);
+    }
+}

@@ -1,0 +1,173 @@
+-- The lists of specs/Example.antt, evaluated: they meet the premises; alone, a responder holds both names 1,200 ms after its start and is one of whom the
+-- 1,200 ms are asked; of two that want one name with different data, one holds it and the other has lost it. Assumes nothing.
+use mathlib.Core.Path.{_≡_, refl, sym}
+use mathlib.Core.Bool.{Bool, true, false, not}
+use mathlib.Core.Option.{Option, none, some}
+use mathlib.Core.List.{List}
+use Prim.Native.Nat.{ℕ, _+_}
+use lib.ListN.{length}
+use lib.Dec.{leb, ltb}
+use borrow.Author.Tests.{leb-true, ltb-true}
+use Rattle.fold.specs.Fold.{sameName}
+use Rattle.names.specs.Names.{nameAt, fromRun, readFrom, pieceAt}
+use Rattle.rdata.specs.Rdata.{stringsFill, rdataIn, rdataAt}
+use Rattle.expansion.specs.Equal.{sameBytes}
+use Rattle.wire.specs.Layout.{questionRead, recordRead, questionAt, recordAt, listFrom, messageAt}
+use Rattle.compression.specs.Compression.{standsAt, placeOf, cutFrom, nameBytes, starts, namePlaces}
+use Rattle.records.specs.declared.Setup.{Setup}
+use Rattle.records.specs.Setups.{labelFits, isLetter, isNameByte, nameBytes as lettersOnly, someLetter, hyphensApart, serviceRule, serviceFits, protocolFits, domainFits, txtFits, validSetup, serviceLabels, instanceLabels, hostLabels}
+use Rattle.records.specs.Records.{hasRecord, ownLabels, ownName, ownType, ownClass, ownTtl, srvRdata, ownRdata}
+use Rattle.claims.specs.Time.{afterMs, markedAll}
+use Rattle.claims.specs.Claims as claims
+use Rattle.claims.specs.declared.Claim as life
+use Rattle.claims.specs.declared.Claim.the-variants.{Waiting, Probing1, Probing2, Probing3, Deferred, Announced, Held, Lost}
+use Rattle.claims.specs.Refusals.{multicastsKept, kept, wrongTime}
+use Rattle.steps.specs.Steps.{moreDue, stepOf, unsentOf}
+use Rattle.steps.specs.Tick as steps
+use Rattle.order.specs.Later.{compareNumbers, inTurn, compareRecords, insertBy, sortBy, tie}
+use Rattle.order.specs.Probe.{listUnder, some as someOf, isProbe}
+use Rattle.answers.specs.Answers as answers
+use Rattle.scan.specs.Facts.{isAsked, isKnown, conflicted, laterThan, responseFacts, queryFacts, factsOf}
+use Rattle.compose.specs.Packets.{putName, dataBytes, dataPlaces, putFields, packetOf}
+use Rattle.compose.specs.Own.{ownRecord, picked, responseRecords, probeRecords, responseOf, probeOf, responsePacket, probePacket}
+use Rattle.responder.specs.Refusals.{wrongState, startRefusal, receiveRefusal, tickRefusal}
+use Rattle.responder.specs.Calls.{blank, startOf, packetFor, receivedPacket, receiveOf, tickedPacket, tickOf}
+use Rattle.responder.specs.declared.State.{State}
+use Rattle.link.specs.Responder.{Claim, instance, host}
+use Rattle.link.specs.Entries.{entry, clockOf, ownerOf, setupIn, setupOf as startedWith, timeAt, reply, returned, called, after, runs, isAccepted, acceptedAt, packetsOf, heardIn, Entry}
+use Rattle.link.specs.Premises.{Premises}
+use Rattle.link.specs.Holding.{isAnd, anyOf, respondsFor, conflictsWith, defeatsOf, writes, hears, holds}
+use Rattle.link.specs.Demand3.{Unopposed, holdingTime}
+use Rattle.link.specs.Witness.{every, someBelow, allOf, sameBytes as samePackets, ordered, atOneRate, owed, taken, allDelivered, allOnTime, meets}
+use Rattle.link.proofs.Witness.{met, below}
+use Rattle.uniqueness.specs.Responder.{start, tick, receive, due, responds, conflicts, defeats, responder}
+use Rattle.uniqueness.specs.Example.{setupOf, one, other, alone, contest, rivals}
+
+-- the claim is lost; the instance claim of a state is
+abbrev pub isLost : life.Claim → Bool
+isLost (Waiting u) = false
+isLost (Probing1 u) = false
+isLost (Probing2 u) = false
+isLost (Probing3 u) = false
+isLost (Deferred u) = false
+isLost (Announced u) = false
+isLost Held = false
+isLost Lost = true
+
+abbrev pub lostBy : State → Bool
+lostBy x = isLost (x .life .instance)
+
+-- of responder d with the set-up s, for a claim: among the first n entries it hears nothing that contradicts it, and it holds the name after them
+abbrev Holds : List (Entry responder) → ℕ → Setup → Claim → ℕ → Type 0
+Holds es d s k n =
+    (every n (λ j. not (hears responder es d (conflictsWith responder s k) j)) ≡ true)
+    × (every n (λ j. not (hears responder es d (defeatsOf responder s k) j)) ≡ true)
+    × (holds responder es d s k n ≡ true)
+
+-- it was started with s, the first n entries are those at most 1,200 ms after its start, one comes later, and it runs
+abbrev Asked : List (Entry responder) → ℕ → Setup → ℕ → Type 0
+Asked es d s n =
+    (startedWith responder es d ≡ some s)
+    × (every n (λ j. leb (timeAt responder es j) (timeAt responder es d + holdingTime)) ≡ true)
+    × (ltb n (length es) ≡ true)
+    × (ltb (timeAt responder es d + holdingTime) (timeAt responder es n) ≡ true)
+    × (runs responder es d n ≡ true)
+
+-- everything that the checker computes of the two lists
+abbrev Seen : Type 0
+Seen =
+    (meets responder alone ≡ true)
+    × Asked alone 0 one 9
+    × Holds alone 0 one instance 9
+    × Holds alone 0 one host 9
+    × (meets responder contest ≡ true)
+    × (holds responder contest 0 one instance (length contest) ≡ true)
+    × (holds responder contest 9 other instance (length contest) ≡ false)
+    × (isAnd lostBy (after responder contest 9 (length contest)) ≡ true)
+    × (holds responder contest 9 other host (length contest) ≡ true)
+    × (meets responder rivals ≡ true)
+    × Asked rivals 1 other 38
+    × Holds rivals 1 other instance 38
+    × Holds rivals 1 other host 38
+    × (holds responder rivals 0 one host 29 ≡ true)
+    × (holds responder rivals 0 one host 30 ≡ false)
+    × (isAnd lostBy (after responder rivals 0 29) ≡ true)
+    × (isAnd lostBy (after responder rivals 30 (length rivals)) ≡ true)
+    × (acceptedAt responder rivals 10 ≡ false)
+    × (acceptedAt responder rivals 35 ≡ false)
+
+seen : Seen
+unfolding setupOf alone contest rivals holds writes hears anyOf respondsFor conflictsWith defeatsOf responds conflicts defeats meets ordered atOneRate owed taken allDelivered allOnTime every someBelow allOf samePackets entry clockOf ownerOf setupIn reply returned called after isAccepted packetsOf heardIn start tick receive due blank startOf packetFor receivedPacket receiveOf tickedPacket tickOf wrongState startRefusal receiveRefusal tickRefusal ownRecord picked responseRecords probeRecords responseOf probeOf responsePacket probePacket putName dataBytes dataPlaces putFields packetOf isAsked isKnown conflicted laterThan responseFacts queryFacts factsOf answers.heardOf answers.dueOf answers.omittedOf answers.without answers.wantedOf answers.receiveOf listUnder someOf isProbe compareNumbers inTurn compareRecords insertBy sortBy tie steps.sends steps.stepTurn steps.claimTurn steps.ptrReply steps.replyTurn steps.orHost steps.orReply steps.endedOf steps.tickOf moreDue stepOf unsentOf multicastsKept kept wrongTime claims.startOf afterMs markedAll hasRecord ownLabels ownName ownType ownClass ownTtl srvRdata ownRdata labelFits isLetter isNameByte lettersOnly someLetter hyphensApart serviceRule serviceFits protocolFits domainFits txtFits validSetup serviceLabels instanceLabels hostLabels standsAt placeOf cutFrom nameBytes starts namePlaces questionRead recordRead questionAt recordAt listFrom messageAt sameBytes stringsFill nameAt fromRun readFrom pieceAt sameName rdataAt rdataIn
+seen =
+    (refl, (refl, refl, refl, refl, refl), (refl, refl, refl), (refl, refl, refl), refl, refl, refl, refl, refl, refl, (refl, refl, refl, refl, refl), (refl, refl, refl), (refl, refl, refl), refl, refl, refl, refl, refl, refl)
+
+not-true : (b : Bool) → not b ≡ true → b ≡ false
+not-true false e = refl
+not-true true e = sym e
+
+unopposed : (es : List (Entry responder)) (d : ℕ) (s : Setup) (k : Claim) (n : ℕ) → Asked es d s n → Holds es d s k n → Unopposed responder es d s k n
+unopposed es d s k n a h = record {
+  started = a .0;
+  within = λ j l. leb-true (timeAt responder es j) (timeAt responder es d + holdingTime) (below n (λ i. leb (timeAt responder es i) (timeAt responder es d + holdingTime)) (a .1) j l);
+  inList = ltb-true n (length es) (a .2);
+  beyond = ltb-true (timeAt responder es d + holdingTime) (timeAt responder es n) (a .3);
+  running = a .4;
+  noConflict = λ j l. not-true (hears responder es d (conflictsWith responder s k) j) (below n (λ i. not (hears responder es d (conflictsWith responder s k) i)) (h .0) j l);
+  noLater = λ j l. not-true (hears responder es d (defeatsOf responder s k) j) (below n (λ i. not (hears responder es d (defeatsOf responder s k) i)) (h .1) j l);
+}
+
+-- ---- a responder alone
+
+pub alone-premises : Premises responder alone
+alone-premises = met responder alone (seen .0)
+
+-- the 1,200 ms are asked of it, for both names, and it holds them then
+pub alone-unopposed : (k : Claim) → Unopposed responder alone 0 one k 9
+alone-unopposed instance = unopposed alone 0 one instance 9 (seen .1) (seen .2)
+alone-unopposed host = unopposed alone 0 one host 9 (seen .1) (seen .3)
+
+pub alone-holds : (k : Claim) → holds responder alone 0 one k 9 ≡ true
+alone-holds instance = seen .2 .2
+alone-holds host = seen .3 .2
+
+-- ---- two that want one name, one after the other
+
+pub contest-premises : Premises responder contest
+contest-premises = met responder contest (seen .4)
+
+pub first-holds : holds responder contest 0 one instance (length contest) ≡ true
+first-holds = seen .5
+
+pub second-does-not : holds responder contest 9 other instance (length contest) ≡ false
+second-does-not = seen .6
+
+pub second-lost : isAnd lostBy (after responder contest 9 (length contest)) ≡ true
+second-lost = seen .7
+
+pub second-holds-host : holds responder contest 9 other host (length contest) ≡ true
+second-holds-host = seen .8
+
+-- ---- two at once, refused calls, a power cut and a new start
+
+pub rivals-premises : Premises responder rivals
+rivals-premises = met responder rivals (seen .9)
+
+-- the 1,200 ms are asked of the second, which is never contradicted, and it holds both names then
+pub winner-unopposed : (k : Claim) → Unopposed responder rivals 1 other k 38
+winner-unopposed instance = unopposed rivals 1 other instance 38 (seen .10) (seen .11)
+winner-unopposed host = unopposed rivals 1 other host 38 (seen .10) (seen .12)
+
+pub winner-holds : (k : Claim) → holds responder rivals 1 other k 38 ≡ true
+winner-holds instance = seen .11 .2
+winner-holds host = seen .12 .2
+
+-- the first holds its host name up to its cut, and has lost the instance name; started anew, it has lost it again
+pub cut-ends : (holds responder rivals 0 one host 29 ≡ true) × (holds responder rivals 0 one host 30 ≡ false)
+cut-ends = (seen .13, seen .14)
+
+pub loser-lost : (isAnd lostBy (after responder rivals 0 29) ≡ true) × (isAnd lostBy (after responder rivals 30 (length rivals)) ≡ true)
+loser-lost = (seen .15, seen .16)
+
+-- the two refused calls
+pub refused-calls : (acceptedAt responder rivals 10 ≡ false) × (acceptedAt responder rivals 35 ≡ false)
+refused-calls = (seen .17, seen .18)

@@ -1,0 +1,133 @@
+-- Small facts about stages, own records and messages, for the laws of a call. Assumes nothing.
+use mathlib.Core.Path.{_≡_, refl, sym, ap, _∙_}
+use mathlib.Core.Bool.{Bool, true, false, cond, _||_}
+use mathlib.Core.List.{List, [], _∷_}
+use Prim.Native.Nat.{ℕ}
+use Rattle.wire.specs.Message.{Message, isResponse}
+use Rattle.records.specs.declared.Setup.{Setup}
+use Rattle.records.specs.Records.{hasRecord}
+use Rattle.claims.specs.Time.{afterMs, marked, markedAll}
+use Rattle.claims.specs.Claims.{heldNow}
+use Rattle.claims.specs.Records.{Own, PTR, SRV, TXT, A, AAAA, has, sentOf, claimFor}
+use Rattle.claims.specs.declared.Claim as life
+use Rattle.claims.specs.declared.Claim.the-variants.{Waiting, Probing1, Probing2, Probing3, Deferred, Announced, Held, Lost}
+use Rattle.claims.specs.declared.Kind.{Kind}
+use Rattle.claims.specs.declared.Multicasts.{Multicasts}
+use Rattle.claims.specs.declared.Records.{Records}
+use Rattle.steps.specs.Steps.{takenStep, recordsOf}
+use Rattle.steps.specs.Tick.{under}
+use Rattle.steps.specs.declared.Step.the-variants as step
+use Rattle.steps.proofs.Moves.{announces, repeats}
+use Rattle.scan.specs.Facts.{inConflict, responseFacts, queryFacts, factsOf}
+use Rattle.compose.specs.Own.{probeOf}
+use Rattle.responder.specs.Calls as calls
+use Rattle.link.specs.Responder.{Claim, instance, host}
+use Rattle.link.specs.Premises.{Among}
+use Rattle.link.specs.Laws as law
+use Rattle.uniqueness.specs.Responder.{kindOf, ownClaim, indexOf, name, conflicts}
+use Rattle.uniqueness.specs.Rules.{unlessEmpty, stageOf}
+use Rattle.uniqueness.proofs.Lists.{clash, never, and-left}
+use Rattle.uniqueness.proofs.Owned.{Owned, srv, txt, a, aaaa, is-present}
+use Rattle.uniqueness.proofs.Messages.{only-one}
+
+pub stage-held : (c : life.Claim) → heldNow c ≡ true → stageOf c ≡ law.held
+stage-held (Waiting u) h = never h
+stage-held (Probing1 u) h = never h
+stage-held (Probing2 u) h = never h
+stage-held (Probing3 u) h = never h
+stage-held (Deferred u) h = never h
+stage-held (Announced u) h = refl
+stage-held Held h = refl
+stage-held Lost h = never h
+
+pub held-stage : (c : life.Claim) → stageOf c ≡ law.held → heldNow c ≡ true
+held-stage (Waiting u) h = clash (cc)
+held-stage (Probing1 u) h = clash (cc)
+held-stage (Probing2 u) h = clash (cc)
+held-stage (Probing3 u) h = clash (cc)
+held-stage (Deferred u) h = clash (cc)
+held-stage (Announced u) h = refl
+held-stage Held h = refl
+held-stage Lost h = clash (cc)
+
+-- a claim that announces or repeats is held then
+pub announce-held : (c d : life.Claim) (now : ℕ) → takenStep c now ≡ step.Announce d → stageOf d ≡ law.held
+announce-held (Waiting u) d now e = clash (cc)
+announce-held (Probing1 u) d now e = clash (cc)
+announce-held (Probing2 u) d now e = clash (cc)
+announce-held (Probing3 u) d now e = let z : Announced (afterMs now 1000) ≡ d = cc in sym (ap stageOf z)
+announce-held (Deferred u) d now e = clash (cc)
+announce-held (Announced u) d now e = clash (cc)
+announce-held Held d now e = clash (cc)
+announce-held Lost d now e = clash (cc)
+
+pub repeat-held : (c d : life.Claim) (now : ℕ) → takenStep c now ≡ step.Repeat d → (stageOf c ≡ law.held) × (stageOf d ≡ law.held)
+repeat-held (Waiting u) d now e = clash (cc)
+repeat-held (Probing1 u) d now e = clash (cc)
+repeat-held (Probing2 u) d now e = clash (cc)
+repeat-held (Probing3 u) d now e = clash (cc)
+repeat-held (Deferred u) d now e = clash (cc)
+repeat-held (Announced u) d now e = let z : Held ≡ d = cc in (refl, sym (ap stageOf z))
+repeat-held Held d now e = clash (cc)
+repeat-held Lost d now e = clash (cc)
+
+-- what is multicast, of one record
+pub marks : (r : Own) (set : Records) (sent : Multicasts) (now : ℕ) → sentOf r (markedAll set sent now) ≡ marked (has r set) (sentOf r sent) now
+unfolding markedAll
+marks PTR set sent now = refl
+marks SRV set sent now = refl
+marks TXT set sent now = refl
+marks A set sent now = refl
+marks AAAA set sent now = refl
+
+-- a response under a claim's name has a record of the claim
+pub record OneOf (k : Claim) (set : Records) : Type 0 where
+  pub type : ℕ
+  pub own : Own
+  pub is : Owned k type own
+  pub there : has own set ≡ true
+
+pub one-of : (k : Claim) (set : Records) → under (kindOf k) set ≡ true → OneOf k set
+one-of instance set h = go (set .srv) refl h
+  where
+    go : (b : Bool) → set .srv ≡ b → (b || set .txt) ≡ true → OneOf instance set
+    go true e h = record { type = 33; own = SRV; is = srv refl; there = e }
+    go false e h = record { type = 16; own = TXT; is = txt refl; there = h }
+one-of host set h = go (set .a) refl h
+  where
+    go : (b : Bool) → set .a ≡ b → (b || set .aaaa) ≡ true → OneOf host set
+    go true e h = record { type = 1; own = A; is = a refl; there = e }
+    go false e h = record { type = 28; own = AAAA; is = aaaa refl; there = h }
+
+-- the first announcement has all records that there are
+pub all-announced : (s : Setup) (k : Claim) (type : ℕ) (r : Own) → Owned k type r → hasRecord s (indexOf r) ≡ true → has r (recordsOf (kindOf k) (s .hasaaaa)) ≡ true
+all-announced s k type r (srv e) h = refl
+all-announced s k type r (txt e) h = refl
+all-announced s k type r (a e) h = refl
+all-announced s k type r (aaaa e) h = sym (is-present s AAAA) ∙ h
+
+-- every claim has a record
+pub first-of : (s : Setup) (k : Claim) → (type : ℕ) × (r : Own) × Owned k type r × (hasRecord s (indexOf r) ≡ true)
+unfolding hasRecord
+first-of s instance = (33, SRV, srv refl, refl)
+first-of s host = (1, A, a refl, refl)
+
+pub facts-response : (s : Setup) (m : Message) → factsOf s m .response ≡ isResponse (m .flags)
+unfolding factsOf responseFacts queryFacts
+facts-response s m = go (isResponse (m .flags))
+  where
+    go : (b : Bool) → cond b (responseFacts s m) (queryFacts s m) .response ≡ b
+    go true = refl
+    go false = refl
+
+pub is-response : (s : Setup) (m : Message) (k : Claim) → conflicts m s k ≡ true → isResponse (m .flags) ≡ true
+unfolding conflicts
+is-response s m k c = and-left (isResponse (m .flags)) (inConflict s (ownClaim k) m) c
+
+pub query-flag : (s : Setup) (j : Kind) → isResponse (probeOf s (calls.claimFor j) .flags) ≡ false
+unfolding probeOf
+query-flag s j = refl
+
+pub unless-out : (is : List ℕ) (m n : Message) → Among n (unlessEmpty is m) → n ≡ m
+unless-out [] m n h = absurd h
+unless-out (i ∷ is) m n h = only-one n m h

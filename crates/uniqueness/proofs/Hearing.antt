@@ -1,0 +1,167 @@
+-- What a message does to a claim, by what it says: laws `yields` and `defers`, and a message that says neither. Assumes nothing.
+use mathlib.Core.Path.{_≡_, refl, sym, ap, subst, _∙_}
+use mathlib.Core.Logic.{_⊎_, inl, inr}
+use mathlib.Core.Bool.{Bool, true, false, cond, not, _&&_, _||_}
+use mathlib.Core.Option.{Option, none, some}
+use mathlib.Core.List.{List, [], _∷_}
+use Prim.Native.Nat.{ℕ}
+use Rattle.wire.specs.Message.{Message, isResponse}
+use Rattle.records.specs.declared.Setup.{Setup}
+use Rattle.records.specs.declared.Claim as own
+use Rattle.claims.specs.Time.{afterMs}
+use Rattle.claims.specs.Claims.{claimOf, heldNow, afterConflict, afterProbe}
+use Rattle.claims.specs.declared.Claim as life
+use Rattle.claims.specs.declared.Claim.the-variants.{Waiting, Probing1, Probing2, Probing3, Deferred, Announced, Held, Lost}
+use Rattle.claims.specs.declared.Kind.{Kind}
+use Rattle.claims.specs.declared.Kind.the-variants.{Instance, Host}
+use Rattle.order.specs.Probe.{some as someOf, asksAll, under, isProbe}
+use Rattle.answers.specs.Answers.{heardOf}
+use Rattle.answers.specs.declared.Heard.{Heard}
+use Rattle.answers.specs.declared.Facts.{Facts}
+use Rattle.answers.proofs.Causes.{heardFor}
+use Rattle.answers.proofs.Receives.{receive-claim}
+use Rattle.scan.specs.Facts.{inConflict, theirsLater, responseTo, queryTo, responseFacts, queryFacts, factsOf}
+use Rattle.responder.specs.Calls.{claimFor}
+use Rattle.responder.specs.declared.State.{State}
+use Rattle.link.specs.Responder.{Claim, instance, host}
+use Rattle.link.specs.Laws.{Unclaimed, probing, held}
+use Rattle.uniqueness.specs.Responder.{kindOf, ownClaim, name, conflicts, defeats}
+use Rattle.uniqueness.specs.Rules.{with, told, stageOf, claimAt}
+use Rattle.uniqueness.proofs.Lists.{clash, never, and-left, and-right}
+
+-- ---- the facts of a response and of a query
+
+response-facts : (s : Setup) (m : Message) → isResponse (m .flags) ≡ true → factsOf s m ≡ responseFacts s m
+unfolding factsOf
+response-facts s m e = rw e
+
+pub query-facts : (s : Setup) (m : Message) → isResponse (m .flags) ≡ false → factsOf s m ≡ queryFacts s m
+unfolding factsOf
+query-facts s m e = rw e
+
+response-heard : (k : Kind) (s : Setup) (m : Message) → (responseFacts s m .response ≡ true) × (heardFor k (responseFacts s m) ≡ responseTo s (claimFor k) m)
+unfolding responseFacts
+response-heard Instance s m = (refl, refl)
+response-heard Host s m = (refl, refl)
+
+pub query-heard : (k : Kind) (s : Setup) (m : Message) → (queryFacts s m .response ≡ false) × (heardFor k (queryFacts s m) ≡ queryTo s (claimFor k) m)
+unfolding queryFacts
+query-heard Instance s m = (refl, refl)
+query-heard Host s m = (refl, refl)
+
+-- ---- a claim after a message
+
+module _ (x : State) (now draw : ℕ) (m : Message) (k : Claim) where
+  abbrev f : Facts
+  f = factsOf (x .setup) m
+
+  abbrev pub after : life.Claim
+  after = claimAt (with x (told x now draw m .life)) k
+
+  abbrev again : ℕ
+  again = afterMs now (x .life .draw)
+
+  heard-is : after ≡ heardOf (claimAt x k) (f .response) (heardFor (kindOf k) f) again (afterMs now 1000)
+  heard-is = receive-claim now draw f (x .setup .hasaaaa) (kindOf k) (x .life)
+
+  by-response : isResponse (m .flags) ≡ true → after ≡ cond (inConflict (x .setup) (ownClaim k) m) (afterConflict (claimAt x k) again) (claimAt x k)
+  unfolding heardOf
+  by-response e =
+      heard-is
+      ∙ ap (λ (g : Facts). heardOf (claimAt x k) (g .response) (heardFor (kindOf k) g) again (afterMs now 1000)) (response-facts (x .setup) m e)
+      ∙ ap (λ (b : Bool). heardOf (claimAt x k) b (heardFor (kindOf k) (responseFacts (x .setup) m)) again (afterMs now 1000)) (response-heard (kindOf k) (x .setup) m .0)
+      ∙ ap (λ (h : Heard). heardOf (claimAt x k) true h again (afterMs now 1000)) (response-heard (kindOf k) (x .setup) m .1)
+
+  by-query : isResponse (m .flags) ≡ false → after ≡ cond (defeats m (x .setup) k) (afterProbe (claimAt x k) (afterMs now 1000)) (claimAt x k)
+  unfolding heardOf defeats
+  by-query e =
+      heard-is
+      ∙ ap (λ (g : Facts). heardOf (claimAt x k) (g .response) (heardFor (kindOf k) g) again (afterMs now 1000)) (query-facts (x .setup) m e)
+      ∙ ap (λ (b : Bool). heardOf (claimAt x k) b (heardFor (kindOf k) (queryFacts (x .setup) m)) again (afterMs now 1000)) (query-heard (kindOf k) (x .setup) m .0)
+      ∙ ap (λ (h : Heard). heardOf (claimAt x k) false h again (afterMs now 1000)) (query-heard (kindOf k) (x .setup) m .1)
+
+  -- what it does, as a case
+  pub data Hears : Type 0 where
+    same : stageOf after ≡ stageOf (claimAt x k) → heldNow after ≡ heldNow (claimAt x k) → Hears
+    yields : conflicts m (x .setup) k ≡ true → Unclaimed (stageOf after) → Hears
+    defers : (i u : ℕ) → defeats m (x .setup) k ≡ true → stageOf (claimAt x k) ≡ probing i u → Unclaimed (stageOf after) → Hears
+
+  is-conflict : isResponse (m .flags) ≡ true → conflicts m (x .setup) k ≡ inConflict (x .setup) (ownClaim k) m
+  unfolding conflicts
+  is-conflict e = rw e
+
+  put-off : (c : life.Claim) → claimAt x k ≡ c → defeats m (x .setup) k ≡ true → after ≡ afterProbe c (afterMs now 1000) → Hears
+  put-off (Waiting u) e d a = same (ap stageOf (a ∙ sym e)) (ap heldNow (a ∙ sym e))
+  put-off (Probing1 u) e d a = defers 1 u d (ap stageOf e) (subst (λ (c : life.Claim). Unclaimed (stageOf c)) (sym a) tt)
+  put-off (Probing2 u) e d a = defers 2 u d (ap stageOf e) (subst (λ (c : life.Claim). Unclaimed (stageOf c)) (sym a) tt)
+  put-off (Probing3 u) e d a = defers 3 u d (ap stageOf e) (subst (λ (c : life.Claim). Unclaimed (stageOf c)) (sym a) tt)
+  put-off (Deferred u) e d a = same (ap stageOf (a ∙ sym e)) (ap heldNow (a ∙ sym e))
+  put-off (Announced u) e d a = same (ap stageOf (a ∙ sym e)) (ap heldNow (a ∙ sym e))
+  put-off Held e d a = same (ap stageOf (a ∙ sym e)) (ap heldNow (a ∙ sym e))
+  put-off Lost e d a = same (ap stageOf (a ∙ sym e)) (ap heldNow (a ∙ sym e))
+
+  given-up : (c : life.Claim) (u : ℕ) → Unclaimed (stageOf (afterConflict c u))
+  given-up (Waiting v) u = tt
+  given-up (Probing1 v) u = tt
+  given-up (Probing2 v) u = tt
+  given-up (Probing3 v) u = tt
+  given-up (Deferred v) u = tt
+  given-up (Announced v) u = tt
+  given-up Held u = tt
+  given-up Lost u = tt
+
+  pub heard : Hears
+  heard = go (isResponse (m .flags)) refl
+    where
+      response : isResponse (m .flags) ≡ true → (b : Bool) → inConflict (x .setup) (ownClaim k) m ≡ b → after ≡ cond b (afterConflict (claimAt x k) again) (claimAt x k) → Hears
+      response e true c a = yields (is-conflict e ∙ c) (subst (λ (d : life.Claim). Unclaimed (stageOf d)) (sym a) (given-up (claimAt x k) again))
+      response e false c a = same (ap stageOf a) (ap heldNow a)
+
+      query : (b : Bool) → defeats m (x .setup) k ≡ b → after ≡ cond b (afterProbe (claimAt x k) (afterMs now 1000)) (claimAt x k) → Hears
+      query true d a = put-off (claimAt x k) refl d a
+      query false d a = same (ap stageOf a) (ap heldNow a)
+
+      go : (b : Bool) → isResponse (m .flags) ≡ b → Hears
+      go true e =
+          response e (inConflict (x .setup) (ownClaim k) m) refl (by-response e)
+      go false e = query (defeats m (x .setup) k) refl (by-query e)
+
+  -- "A held claim goes back to waiting ..; any other becomes lost for good."
+  pub yields-to : conflicts m (x .setup) k ≡ true → Unclaimed (stageOf after)
+  unfolding conflicts
+  yields-to h =
+      let e = and-left (isResponse (m .flags)) (inConflict (x .setup) (ownClaim k) m) h in
+      let c = and-right (isResponse (m .flags)) (inConflict (x .setup) (ownClaim k) m) h in
+      subst (λ (d : life.Claim). Unclaimed (stageOf d))
+      (sym (by-response e ∙ ap (λ (b : Bool). cond b (afterConflict (claimAt x k) again) (claimAt x k)) c))
+      (given-up (claimAt x k) again)
+
+  -- a probe is a query
+  pub probe-query : isProbe (name (x .setup) k) m ≡ true → isResponse (m .flags) ≡ false
+  unfolding isProbe
+  probe-query h = go (isResponse (m .flags)) h
+    where
+      go : (b : Bool) → (not b && (someOf (asksAll (name (x .setup) k)) (m .questions) && someOf (under (name (x .setup) k)) (m .authorities))) ≡ true → b ≡ false
+      go true e = never e
+      go false e = refl
+
+  deferred : (c : life.Claim) (i u v : ℕ) → stageOf c ≡ probing i u → Unclaimed (stageOf (afterProbe c v))
+  deferred (Waiting w) i u v e = tt
+  deferred (Probing1 w) i u v e = tt
+  deferred (Probing2 w) i u v e = tt
+  deferred (Probing3 w) i u v e = tt
+  deferred (Deferred w) i u v e = tt
+  deferred (Announced w) i u v e = clash (cc)
+  deferred Held i u v e = clash (cc)
+  deferred Lost i u v e = tt
+
+  defeated-is : defeats m (x .setup) k ≡ true → isResponse (m .flags) ≡ false
+  unfolding defeats
+  defeated-is h = probe-query (and-left (isProbe (name (x .setup) k) m) (theirsLater (x .setup) (ownClaim k) m) h)
+
+  -- "While probing, if theirs is later, the claim is deferred"
+  pub defers-to : defeats m (x .setup) k ≡ true → (i u : ℕ) → stageOf (claimAt x k) ≡ probing i u → Unclaimed (stageOf after)
+  defers-to h i u p =
+      subst (λ (d : life.Claim). Unclaimed (stageOf d))
+      (sym (by-query (defeated-is h) ∙ ap (λ (b : Bool). cond b (afterProbe (claimAt x k) (afterMs now 1000)) (claimAt x k)) h))
+      (deferred (claimAt x k) i u (afterMs now 1000) p)

@@ -1,0 +1,128 @@
+-- Our responder meets the laws of `link`, so demand 3 holds of it. Assumes nothing.
+use mathlib.Core.Path.{_≡_, refl, sym, ap, subst, _∙_}
+use mathlib.Core.Logic.{_⊎_, inl}
+use mathlib.Core.Bool.{Bool, true, false}
+use mathlib.Core.Option.{Option, none, some}
+use mathlib.Core.List.{List, [], _∷_, _++_}
+use Prim.Native.Nat.{ℕ, _+_, _≤_, _<_}
+use Rattle.fold.specs.Fold.{sameName}
+use Rattle.fold.proofs.Equal.{same-sym}
+use Rattle.wire.specs.Message.{Message}
+use Rattle.records.specs.declared.Setup.{Setup}
+use Rattle.records.specs.Setups.{validSetup}
+use Rattle.claims.specs.Time.{lastTime}
+use Rattle.claims.specs.Claims.{dueOf, replyDueOf}
+use Rattle.claims.specs.declared.Claim as life
+use Rattle.claims.specs.declared.Claim.the-variants.{Waiting, Probing1, Probing2, Probing3, Deferred, Announced, Held, Lost}
+use Rattle.responder.specs.declared.State.{State}
+use Rattle.link.specs.Responder.{Claim, instance, host}
+use Rattle.link.specs.Premises.{Among}
+use Rattle.link.specs.Laws as law
+use Rattle.link.proofs.Demand3 as link
+use Rattle.uniqueness.specs.Responder.{listed, due, rdata, name, conflicts, defeats, responder}
+use Rattle.uniqueness.specs.Statement.{Theorem}
+use Rattle.uniqueness.specs.Rules.{with, hears, stageOf, claimAt, Of, Ready, rules}
+use Rattle.uniqueness.proofs.Lists.{clash, in-append, in-tail}
+use Rattle.uniqueness.proofs.Owned.{owned, Has, has-data, one-claim}
+use Rattle.uniqueness.proofs.Data.{tie-law, conflict-law}
+use Rattle.uniqueness.proofs.Calls.{begun, ticked, received}
+use Rattle.uniqueness.proofs.Hearing.{yields-to, defers-to}
+use Rattle.uniqueness.proofs.Moves.{next-is, noted, said, move}
+use Rattle.uniqueness.proofs.Defence.{defends}
+
+-- ---- the due steps
+
+listed-in : (o : Option ℕ) (u : ℕ) → o ≡ some u → Among u (listed o)
+listed-in none u e = clash (cc)
+listed-in (some v) u e = subst (λ (o : Option ℕ). Among u (listed o)) (sym e) (inl refl)
+
+due-in : (x : State) (k : Claim) (u : ℕ) → dueOf (claimAt x k) ≡ some u → Among u (due x)
+unfolding due
+due-in x instance u e = in-append u (listed (dueOf (x .life .instance))) _ (listed-in (dueOf (x .life .instance)) u e)
+due-in x host u e =
+    in-tail u (listed (dueOf (x .life .instance))) (listed (dueOf (x .life .host)) ++ listed (replyDueOf (x .life .reply)))
+    (in-append u (listed (dueOf (x .life .host))) (listed (replyDueOf (x .life .reply))) (listed-in (dueOf (x .life .host)) u e))
+
+waiting-due : (c : life.Claim) (u : ℕ) → stageOf c ≡ law.waiting u → dueOf c ≡ some u
+waiting-due (Waiting v) u e = cc
+waiting-due (Probing1 v) u e = clash (cc)
+waiting-due (Probing2 v) u e = clash (cc)
+waiting-due (Probing3 v) u e = clash (cc)
+waiting-due (Deferred v) u e = clash (cc)
+waiting-due (Announced v) u e = clash (cc)
+waiting-due Held u e = clash (cc)
+waiting-due Lost u e = clash (cc)
+
+probing-due : (c : life.Claim) (i u : ℕ) → stageOf c ≡ law.probing i u → dueOf c ≡ some u
+probing-due (Waiting v) i u e = clash (cc)
+probing-due (Probing1 v) i u e = cc
+probing-due (Probing2 v) i u e = cc
+probing-due (Probing3 v) i u e = cc
+probing-due (Deferred v) i u e = clash (cc)
+probing-due (Announced v) i u e = clash (cc)
+probing-due Held i u e = clash (cc)
+probing-due Lost i u e = clash (cc)
+
+-- ---- a message heard
+
+hear-next : (x : State) (now draw : ℕ) (m : Message) → law.next responder rules x now (law.hears draw m) ≡ hears x now draw m .0
+unfolding law.step
+hear-next x now draw m = refl
+
+-- ---- the laws
+
+one-claim-law : (s t : Setup) (k l : Claim) (type : ℕ) (d e : List ℕ) → rdata s k type ≡ some d → rdata t l type ≡ some e → k ≡ l
+one-claim-law s t k l type d e p q =
+    let mine : Has s k type d = has-data s k type d p in
+    let yours : Has t l type e = has-data t l type e q in
+    one-claim k l type (mine .own) (yours .own) (owned k type (mine .own) (mine .is)) (owned l type (yours .own) (yours .is))
+
+kept : (s : Setup) (x : State) (now : ℕ) (c : law.Step Message) → Ready x s now → Of (law.next responder rules x now c) s
+kept s x now c r =
+    subst (λ (y : State). Of y s) (sym (next-is x (r .of .valid) now (r .time) c)) (record { setup = r .of .setup; valid = r .of .valid })
+
+-- what is proved for the state's own set-up holds for the set-up that it is of
+pub lawful : law.Lawful responder rules
+unfolding hears
+lawful =
+    record {
+      nameSym = same-sym;
+      oneClaim = one-claim-law;
+      tie = λ s t k type d e v w n p q g. tie-law s t k type d e n p q g;
+      conflict = λ m s t k type d e v w n p q g c. conflict-law m s t k type d e n p q g c;
+      begun = begun;
+      ticked = ticked;
+      received = received;
+      valid = λ x s of. subst (λ (t : Setup). validSetup t ≡ true) (of .setup) (of .valid);
+      kept = kept;
+      move = λ s x now c k r.
+          subst (λ (t : Setup). law.Move responder rules t x now c k) (r .of .setup) (move x (r .of .valid) now (r .time) k c);
+      noted = λ s x now c k type d r e.
+          subst
+          (λ (t : Setup). rdata t k type ≡ some d
+          → (rules .multicast (law.next responder rules x now c) k type ≡ rules .multicast x k type)
+          ⊎ ((rules .multicast (law.next responder rules x now c) k type ≡ some now) × law.Multicasts responder rules t x now c k type))
+          (r .of .setup) (noted x (r .of .valid) now (r .time) c k type d) e;
+      said = λ s x now c k m r h e.
+          subst (λ (t : Setup). responder .responds m (name t k) ≡ true → rules .stage (law.next responder rules x now c) k ≡ law.held) (r .of .setup)
+          (said x (r .of .valid) now (r .time) c k m h) e;
+      yields = λ s x now draw m k r h.
+          subst (λ (t : Setup). conflicts m t k ≡ true → law.Unclaimed (rules .stage (law.next responder rules x now (law.hears draw m)) k)) (r .of .setup)
+          (λ e. subst (λ (y : State). law.Unclaimed (stageOf (claimAt y k))) (sym (hear-next x now draw m)) (yields-to x now draw m k e)) h;
+      defers = λ s x now draw m k i u r h p.
+          subst (λ (t : Setup). defeats m t k ≡ true → law.Unclaimed (rules .stage (law.next responder rules x now (law.hears draw m)) k)) (r .of .setup)
+          (λ e. subst (λ (y : State). law.Unclaimed (stageOf (claimAt y k))) (sym (hear-next x now draw m)) (defers-to x now draw m k e i u p)) h;
+      defends = λ s x now draw t k type d r v n e h.
+          subst
+          (λ (q : Setup). sameName (name t k) (name q k) ≡ true
+          → rdata q k type ≡ some d
+          → law.Multicasts responder rules q x now (law.hears draw (rules .probe t k)) k type
+          ⊎ ((u : ℕ) × (rules .multicast x k type ≡ some u) × (now < u + 250)))
+          (r .of .setup) (λ f g. defends x (r .of .valid) now (r .time) draw t k type d f g h) n e;
+      dueWaiting = λ x k u e. due-in x k u (waiting-due (claimAt x k) u e);
+      dueProbing = λ x k i u e. due-in x k u (probing-due (claimAt x k) i u e);
+    }
+
+-- Demand 3: for every list of starts, ticks, packets received and power cuts of our responders that meets the premises, both conclusions hold.
+pub demand-3 : Theorem
+demand-3 = link.demand-3 responder rules lawful

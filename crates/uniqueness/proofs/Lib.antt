@@ -1,0 +1,14 @@
+-- Demand 3 for our responder. The theorem: Lawful. The laws: Data, Calls, Hearing, Moves, Defence. What keeps it from being empty: Example, Taken, Settled.
+pub mod Lists
+pub mod Owned
+pub mod Data
+pub mod Messages
+pub mod Calls
+pub mod Hearing
+pub mod Facts
+pub mod Moves
+pub mod Defence
+pub mod Lawful
+pub mod Taken
+pub mod Settled
+pub mod Example

@@ -1,0 +1,4 @@
+pub mod Responder
+pub mod Statement
+pub mod Rules
+pub mod Example

@@ -1,0 +1,109 @@
+-- What the proof of demand 3 reads of our responder: what an accepted call does, in messages; a claim's stage; when a record was last multicast. No part
+-- of the statement. Assumes nothing: these are definitions.
+use mathlib.Core.Path.{_≡_}
+use mathlib.Core.Bool.{Bool, true, false}
+use mathlib.Core.Option.{Option, none, some}
+use mathlib.Core.List.{List, [], _∷_}
+use Prim.Native.Nat.{ℕ, _≤_}
+use Rattle.wire.specs.Message.{Message, isResponse}
+use Rattle.records.specs.declared.Setup.{Setup}
+use Rattle.records.specs.Setups.{validSetup}
+use Rattle.records.specs.Records.{hasRecord}
+use Rattle.claims.specs.Time.{lastTime}
+use Rattle.claims.specs.Claims as claims
+use Rattle.claims.specs.Records.{Own, sentOf}
+use Rattle.claims.specs.declared.Claim as life
+use Rattle.claims.specs.declared.Claim.the-variants.{Waiting, Probing1, Probing2, Probing3, Deferred, Announced, Held, Lost}
+use Rattle.claims.specs.declared.Sent.{Sent}
+use Rattle.claims.specs.declared.Sent.the-variants.{Never, At}
+use Rattle.claims.specs.declared.Multicasts.{Multicasts}
+use Rattle.claims.specs.declared.Life.{Life}
+use Rattle.steps.specs.declared.Output.{Output}
+use Rattle.steps.specs.declared.Output.the-variants.{Nothing, Probe, Response}
+use Rattle.answers.specs.Answers as answers
+use Rattle.answers.specs.declared.Received as heard
+use Rattle.scan.specs.Facts.{factsOf}
+use Rattle.compose.specs.Own.{ownRecord, responseRecords, responseOf, probeOf}
+use Rattle.responder.specs.Calls.{claimFor, listed, walkedOf}
+use Rattle.responder.specs.declared.State.{State}
+use Rattle.link.specs.Responder.{Claim}
+use Rattle.link.specs.Laws.{Rules, Stage, waiting, probing, held, apart}
+use Rattle.link.specs.Premises.{Among}
+use Rattle.uniqueness.specs.Responder.{kindOf, ownClaim, indexOf, recordOf, responder}
+
+-- the messages of an output, at most one; none where it has no record
+abbrev pub unlessEmpty : List ℕ → Message → List Message
+unlessEmpty [] m = []
+unlessEmpty (i ∷ is) m = m ∷ []
+
+unfoldable pub messagesFor : Setup → Output → List Message
+messagesFor s Nothing = []
+messagesFor s (Probe k) = probeOf s (claimFor k) ∷ []
+messagesFor s (Response set) = unlessEmpty (responseRecords s (listed set)) (responseOf s (listed set))
+
+-- the state with the life that a call leaves
+abbrev pub with : State → Life → State
+with x life = record { setup = x .setup; life = life }
+
+-- what a message does to a state
+abbrev pub told : State → ℕ → ℕ → Message → heard.Received
+told x now draw m = answers.receiveOf (x .life) now draw (factsOf (x .setup) m) (x .setup .hasaaaa)
+
+unfoldable pub ticks : State → ℕ → State × List Message
+ticks x now = (with x (walkedOf x now .life), messagesFor (x .setup) (walkedOf x now .output))
+
+unfoldable pub hears : State → ℕ → ℕ → Message → State × List Message
+hears x now draw m = (with x (told x now draw m .life), messagesFor (x .setup) (Response (told x now draw m .answers)))
+
+-- a claim's stage
+abbrev pub stageOf : life.Claim → Stage
+stageOf (Waiting due) = waiting due
+stageOf (Probing1 due) = probing 1 due
+stageOf (Probing2 due) = probing 2 due
+stageOf (Probing3 due) = probing 3 due
+stageOf (Deferred due) = apart
+stageOf (Announced due) = held
+stageOf Held = held
+stageOf Lost = apart
+
+abbrev pub claimAt : State → Claim → life.Claim
+claimAt x k = claims.claimOf (kindOf k) (x .life)
+
+-- when a record was last multicast
+abbrev pub timeOf : Sent → Option ℕ
+timeOf Never = none
+timeOf (At time) = some time
+
+abbrev pub timeIn : Multicasts → Option Own → Option ℕ
+timeIn sent none = none
+timeIn sent (some r) = timeOf (sentOf r sent)
+
+-- the message is a response with the set-up's record of the claim and type
+pub record Carried (m : Message) (s : Setup) (k : Claim) (type : ℕ) : Type 0 where
+  pub own : Own
+  pub owned : recordOf k type ≡ some own
+  pub response : isResponse (m .flags) ≡ true
+  pub member : Among (ownRecord s false (indexOf own)) (m .answers)
+
+-- x is a state with the set-up s, which keeps the rules
+pub record Of (x : State) (s : Setup) : Type 0 where
+  pub setup : x .setup ≡ s
+  pub valid : validSetup (x .setup) ≡ true
+
+-- and a call at time `now` is not refused as 1
+pub record Ready (x : State) (s : Setup) (now : ℕ) : Type 0 where
+  pub of : Of x s
+  pub time : now ≤ lastTime
+
+abbrev pub rules : Rules responder
+rules = record {
+  tick = ticks;
+  hear = hears;
+  Of = Of;
+  Ready = Ready;
+  Valid = λ s. validSetup s ≡ true;
+  stage = λ x k. stageOf (claimAt x k);
+  multicast = λ x k type. timeIn (x .life .sent) (recordOf k type);
+  probe = λ s k. probeOf s (ownClaim k);
+  Carries = Carried;
+}

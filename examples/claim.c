@@ -1,0 +1,18 @@
+// A responder claims its names on an empty link, in simulated time. Built and run by tests/capi.sh.
+#include "kurgashel.h"
+#include <stdio.h>
+
+int main(void) {
+    struct kurgashel_setup setup = { .instance = "booth", .instance_length = 5, .service = "_voice", .service_length = 6, .protocol = "_tcp", .host = "dock",
+        .host_length = 4, .domain = "local", .port = { 4000 >> 8, 4000 & 255 }, .txt = "\6room=3", .txt_length = { 0, 7 }, .a = { 10, 0, 0, 7 } };
+    uint8_t state[KURGASHEL_STATE_BYTES], out[KURGASHEL_OUT_BYTES];
+    struct kurgashel_answer answer = kurgashel_start(state, sizeof state, (const uint8_t *)&setup, sizeof setup, 0, 120);
+    for (uint64_t now = 0; !answer.refusal && now <= 2000; now += answer.more ? 0 : 10) {
+        answer = kurgashel_tick(state, sizeof state, now, out, sizeof out);
+        if (answer.length) {
+            printf("%4d ms: %s of %zu bytes; instance %d, host %d\n", (int)now, out[2] ? "response" : "probe", answer.length,
+                kurgashel_claim(state, sizeof state, KURGASHEL_INSTANCE), kurgashel_claim(state, sizeof state, KURGASHEL_HOST));
+        }
+    }
+    return answer.refusal;
+}

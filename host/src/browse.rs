@@ -1,0 +1,11 @@
+//! The example browser.
+
+mod options;
+mod run;
+mod schedule;
+mod show;
+mod view;
+mod wants;
+
+pub use options::{Options, HELP};
+pub use run::run;

@@ -1,0 +1,97 @@
+//! The browser's command line.
+
+use std::net::Ipv4Addr;
+
+use crate::arguments::{unknown, Arguments};
+use crate::{name, strings};
+
+pub const HELP: &str = "\
+browser: finds the instances of a service by Multicast DNS and shows name, address, port and TXT pairs of each
+
+usage: browser --service TYPE [options]
+
+  --service TYPE       the service, such as '_voice._tcp'
+  --interface ADDRESS  the interface to use, by its IPv4 address; else the one that multicasts leave by
+  --factory STRING     a TXT string of the factory, such as 'volume=5', looked up where an instance has no such key; may be given several times
+  --count NUMBER       stop when this many instances are shown
+  --seconds NUMBER     stop after this many seconds; else on Ctrl-C
+  --verbose            also tell of each packet that the library refuses
+  --help               this text
+
+An instance is shown when its host, port, TXT and an address are known, again when they change, and when it is gone.
+It ends with status 0 when stopped, 1 on an error, and 3 when it showed fewer than --count.
+";
+
+#[derive(Clone, Debug, Default, PartialEq, Eq)]
+pub struct Options {
+    /// The service's name, uncompressed.
+    pub service: Vec<u8>,
+    pub interface: Option<Ipv4Addr>,
+    pub factory: Vec<u8>,
+    pub count: Option<usize>,
+    pub seconds: Option<u64>,
+    pub verbose: bool,
+}
+
+impl Options {
+    /// Reads a command line; nothing where help is asked for.
+    pub fn read(arguments: Vec<String>) -> Result<Option<Options>, String> {
+        let mut arguments = Arguments::new(arguments);
+        let mut options = Options::default();
+        let mut factory = Vec::new();
+        while let Some(option) = arguments.next_option() {
+            match option.as_str() {
+                "--help" | "-h" => return Ok(None),
+                "--service" => options.service = service_name(&arguments.text(&option)?)?,
+                "--interface" => options.interface = Some(arguments.value(&option)?),
+                "--factory" => factory.push(arguments.text(&option)?),
+                "--count" => options.count = Some(arguments.value(&option)?),
+                "--seconds" => options.seconds = Some(arguments.value(&option)?),
+                "--verbose" => options.verbose = true,
+                _ => return Err(unknown(&option)),
+            }
+        }
+        if options.service.is_empty() {
+            return Err("--service is missing; --help tells more".into());
+        }
+        options.factory = strings::encode(&factory).ok_or("a TXT string is over 255 bytes")?;
+        Ok(Some(options))
+    }
+}
+
+fn service_name(text: &str) -> Result<Vec<u8>, String> {
+    let wrong = format!("--service can't be '{text}'; it is such as '_voice._tcp'");
+    let (service, protocol) = name::service(text).ok_or(wrong)?;
+    Ok(name::from_labels(&[
+        service.as_bytes(),
+        protocol.as_bytes(),
+        b"local",
+    ]))
+}
+
+#[cfg(test)]
+mod tests {
+    use super::*;
+
+    fn read(line: &str) -> Result<Option<Options>, String> {
+        Options::read(line.split_whitespace().map(str::to_string).collect())
+    }
+
+    #[test]
+    fn a_command_line() {
+        let line = "--service _voice._tcp --interface 127.0.0.1 --factory a=1 --count 2";
+        let options = read(line).unwrap().unwrap();
+        assert_eq!(options.service, b"\x06_voice\x04_tcp\x05local\0");
+        assert_eq!(options.interface, Some(Ipv4Addr::LOCALHOST));
+        assert_eq!(options.factory, b"\x03a=1");
+        assert_eq!((options.count, options.seconds), (Some(2), None));
+    }
+
+    #[test]
+    fn what_is_wrong_is_said() {
+        assert_eq!(read("--help --dog"), Ok(None));
+        assert!(read("").unwrap_err().starts_with("--service is missing"));
+        assert!(read("--service _voice").unwrap_err().contains("such as"));
+        assert!(read("--interface lo").unwrap_err().contains("can't be"));
+    }
+}

@@ -1,0 +1,159 @@
+//! What the cache knows of the instances of a service.
+
+use std::net::{IpAddr, Ipv4Addr, Ipv6Addr};
+
+use kurgashel::{Cache, Refusal};
+
+use crate::rtype;
+
+#[derive(Clone, Debug, PartialEq, Eq)]
+pub struct Instance {
+    pub name: Vec<u8>,
+    pub server: Option<Server>,
+    pub txt: Option<Vec<u8>>,
+    pub addresses: Vec<IpAddr>,
+}
+
+/// Where an instance is served: its SRV.
+#[derive(Clone, Debug, PartialEq, Eq)]
+pub struct Server {
+    pub host: Vec<u8>,
+    pub port: u16,
+}
+
+impl Instance {
+    pub fn is_complete(&self) -> bool {
+        self.server.is_some() && self.txt.is_some() && !self.addresses.is_empty()
+    }
+}
+
+/// The instances that live PTR records point to, each name once with letters folded.
+pub fn instances(cache: &Cache, now: u64, service: &[u8]) -> Result<Vec<Instance>, Refusal> {
+    let mut instances: Vec<Instance> = Vec::new();
+    for pointer in cache.all(now, service, rtype::PTR)? {
+        let known = |known: &Instance| known.name.eq_ignore_ascii_case(pointer.rdata);
+        if !instances.iter().any(known) {
+            instances.push(instance(cache, now, pointer.rdata)?);
+        }
+    }
+    Ok(instances)
+}
+
+fn instance(cache: &Cache, now: u64, name: &[u8]) -> Result<Instance, Refusal> {
+    let server = cache
+        .all(now, name, rtype::SRV)?
+        .first()
+        .and_then(|entry| server(entry.rdata));
+    let txt = cache
+        .all(now, name, rtype::TXT)?
+        .first()
+        .map(|entry| entry.rdata.to_vec());
+    let addresses = match &server {
+        Some(server) => addresses(cache, now, &server.host)?,
+        None => Vec::new(),
+    };
+    Ok(Instance {
+        name: name.to_vec(),
+        server,
+        txt,
+        addresses,
+    })
+}
+
+/// SRV data: priority, weight, port, target.
+pub fn server(rdata: &[u8]) -> Option<Server> {
+    let port = rdata.get(4..6)?;
+    Some(Server {
+        port: u16::from_be_bytes([port[0], port[1]]),
+        host: rdata[6..].to_vec(),
+    })
+}
+
+/// A host's addresses in rising order.
+fn addresses(cache: &Cache, now: u64, host: &[u8]) -> Result<Vec<IpAddr>, Refusal> {
+    let mut addresses = Vec::new();
+    for entry in cache.all(now, host, rtype::A)? {
+        addresses.extend(<[u8; 4]>::try_from(entry.rdata).map(|a| IpAddr::V4(Ipv4Addr::from(a))));
+    }
+    for entry in cache.all(now, host, rtype::AAAA)? {
+        addresses.extend(<[u8; 16]>::try_from(entry.rdata).map(|a| IpAddr::V6(Ipv6Addr::from(a))));
+    }
+    addresses.sort();
+    Ok(addresses)
+}
+
+#[cfg(test)]
+pub mod tests {
+    use super::*;
+    use crate::name::from_labels;
+
+    pub fn service_name() -> Vec<u8> {
+        from_labels(&[b"_voice", b"_tcp", b"local"])
+    }
+
+    pub fn instance_name() -> Vec<u8> {
+        from_labels(&[b"booth", b"_voice", b"_tcp", b"local"])
+    }
+
+    pub fn host_name() -> Vec<u8> {
+        from_labels(&[b"dock", b"local"])
+    }
+
+    pub fn srv() -> Vec<u8> {
+        [&[0, 0, 0, 0, 0x0f, 0xa0][..], &host_name()].concat()
+    }
+
+    /// A cache that took a response with these records at time 0.
+    pub fn heard(records: &[(Vec<u8>, u16, u32, Vec<u8>)]) -> Cache {
+        let mut packet = vec![0, 0, 0x84, 0, 0, 0, 0, records.len() as u8, 0, 0, 0, 0];
+        for (owner, rtype, ttl, rdata) in records {
+            packet.extend(owner);
+            packet.extend(rtype.to_be_bytes());
+            packet.extend([0, 1]);
+            packet.extend(ttl.to_be_bytes());
+            packet.extend((rdata.len() as u16).to_be_bytes());
+            packet.extend(rdata);
+        }
+        let mut cache = Cache::default();
+        cache.take(0, 5353, &packet).unwrap();
+        cache
+    }
+
+    #[test]
+    fn an_instance_is_put_together() {
+        let cache = heard(&[
+            (service_name(), rtype::PTR, 4500, instance_name()),
+            (instance_name(), rtype::SRV, 120, srv()),
+            (instance_name(), rtype::TXT, 4500, vec![0]),
+            (host_name(), rtype::A, 120, vec![10, 0, 0, 8]),
+            (host_name(), rtype::A, 120, vec![10, 0, 0, 7]),
+        ]);
+        let found = instances(&cache, 1, &service_name()).unwrap();
+        assert_eq!(found.len(), 1);
+        assert!(found[0].is_complete());
+        let server = found[0].server.as_ref().unwrap();
+        assert_eq!((server.port, &server.host), (4000, &host_name()));
+        let expected: [IpAddr; 2] = [[10, 0, 0, 7].into(), [10, 0, 0, 8].into()];
+        assert_eq!(found[0].addresses, expected);
+        // SRV and A lapse after 120 s, the rest after 4,500 s
+        assert!(!instances(&cache, 120_000, &service_name()).unwrap()[0].is_complete());
+        assert!(instances(&cache, 4_500_000, &service_name())
+            .unwrap()
+            .is_empty());
+    }
+
+    #[test]
+    fn a_name_in_two_cases_is_one_instance() {
+        let capitals = from_labels(&[b"BOOTH", b"_voice", b"_tcp", b"local"]);
+        let cache = heard(&[
+            (service_name(), rtype::PTR, 4500, instance_name()),
+            (service_name(), rtype::PTR, 4500, capitals),
+        ]);
+        assert_eq!(instances(&cache, 1, &service_name()).unwrap().len(), 1);
+    }
+
+    #[test]
+    fn short_srv_data_is_no_server() {
+        assert_eq!(server(&[0; 5]), None);
+    }
+}

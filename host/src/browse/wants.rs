@@ -1,0 +1,137 @@
+//! What the browser wants to know: who there is, always; SRV, TXT, A and AAAA that are missing; and records about to lapse (RFC 6762 section 5.2).
+
+use kurgashel::{Cache, Found, Refusal};
+
+use super::view::server;
+
+use crate::query::{KnownAnswer, Question};
+use crate::rtype;
+
+#[derive(Clone, Copy, Debug, PartialEq, Eq, PartialOrd, Ord)]
+pub enum Reason {
+    Browse,
+    Missing,
+    Refresh,
+}
+
+/// A question with its reason, since each reason has a pace of its own.
+#[derive(Clone, Debug, PartialEq, Eq, PartialOrd, Ord)]
+pub struct Want {
+    pub question: Question,
+    pub reason: Reason,
+}
+
+pub fn wants(cache: &Cache, now: u64, service: &[u8]) -> Result<Vec<Want>, Refusal> {
+    let mut wants = vec![want(service, rtype::PTR, Reason::Browse)];
+    let pointers = cache.all(now, service, rtype::PTR)?;
+    if pointers.iter().any(|pointer| is_stale(pointer, now)) {
+        wants.push(want(service, rtype::PTR, Reason::Refresh));
+    }
+    for pointer in pointers {
+        let servers = need(cache, now, pointer.rdata, rtype::SRV, &mut wants)?;
+        need(cache, now, pointer.rdata, rtype::TXT, &mut wants)?;
+        for host in servers.iter().filter_map(|entry| server(entry.rdata)) {
+            need(cache, now, &host.host, rtype::A, &mut wants)?;
+            need(cache, now, &host.host, rtype::AAAA, &mut wants)?;
+        }
+    }
+    wants.sort();
+    wants.dedup();
+    Ok(wants)
+}
+
+/// Wants records that are missing or about to lapse; gives those there are.
+fn need<'a>(
+    cache: &'a Cache,
+    now: u64,
+    name: &[u8],
+    rtype: u16,
+    wants: &mut Vec<Want>,
+) -> Result<Vec<Found<'a>>, Refusal> {
+    let found = cache.all(now, name, rtype)?;
+    if found.is_empty() {
+        wants.push(want(name, rtype, Reason::Missing));
+    } else if found.iter().any(|entry| is_stale(entry, now)) {
+        wants.push(want(name, rtype, Reason::Refresh));
+    }
+    Ok(found)
+}
+
+fn want(name: &[u8], rtype: u16, reason: Reason) -> Want {
+    let name = name.to_vec();
+    let question = Question { name, rtype };
+    Want { question, reason }
+}
+
+/// Four fifths of its life are over.
+fn is_stale(entry: &Found, now: u64) -> bool {
+    5 * (entry.expiry - now) <= entry.expiry - entry.received
+}
+
+/// The PTR records that need not be sent: those with more than half of their life left.
+pub fn known_pointers(
+    cache: &Cache,
+    now: u64,
+    service: &[u8],
+) -> Result<Vec<KnownAnswer>, Refusal> {
+    let pointers = cache.all(now, service, rtype::PTR)?;
+    let known = pointers
+        .iter()
+        .filter(|entry| 2 * (entry.expiry - now) > entry.expiry - entry.received)
+        .map(|entry| KnownAnswer {
+            name: service.to_vec(),
+            rtype: rtype::PTR,
+            ttl: u32::try_from((entry.expiry - now) / 1000).unwrap_or(u32::MAX),
+            rdata: entry.rdata.to_vec(),
+        });
+    Ok(known.collect())
+}
+
+#[cfg(test)]
+mod tests {
+    use super::super::view::tests::{heard, host_name, instance_name, service_name, srv};
+    use super::*;
+
+    fn types(cache: &Cache, now: u64, reason: Reason) -> Vec<u16> {
+        let wants = wants(cache, now, &service_name()).unwrap();
+        let of_reason = wants.into_iter().filter(|want| want.reason == reason);
+        let mut types: Vec<_> = of_reason.map(|want| want.question.rtype).collect();
+        types.sort();
+        types
+    }
+
+    #[test]
+    fn what_is_missing_is_wanted() {
+        let nothing = Cache::default();
+        assert_eq!(types(&nothing, 0, Reason::Browse), [rtype::PTR]);
+        assert_eq!(types(&nothing, 0, Reason::Missing), []);
+        let pointer = (service_name(), rtype::PTR, 4500, instance_name());
+        let cache = heard(std::slice::from_ref(&pointer));
+        assert_eq!(types(&cache, 0, Reason::Missing), [rtype::TXT, rtype::SRV]);
+        let cache = heard(&[
+            pointer,
+            (instance_name(), rtype::SRV, 120, srv()),
+            (instance_name(), rtype::TXT, 4500, vec![0]),
+            (host_name(), rtype::A, 120, vec![10, 0, 0, 7]),
+        ]);
+        assert_eq!(types(&cache, 0, Reason::Missing), [rtype::AAAA]);
+        assert_eq!(types(&cache, 95_999, Reason::Refresh), []);
+        // at 80 percent of 120 s
+        let stale = [rtype::A, rtype::SRV];
+        assert_eq!(types(&cache, 96_000, Reason::Refresh), stale);
+        assert_eq!(
+            types(&cache, 3_600_000, Reason::Refresh),
+            [rtype::PTR, rtype::TXT]
+        );
+    }
+
+    #[test]
+    fn a_pointer_is_known_for_half_its_life() {
+        let cache = heard(&[(service_name(), rtype::PTR, 4500, instance_name())]);
+        let known = known_pointers(&cache, 1, &service_name()).unwrap();
+        assert_eq!(known[0].ttl, 4499);
+        assert_eq!(known[0].rdata, instance_name());
+        let half = known_pointers(&cache, 2_250_000, &service_name()).unwrap();
+        assert!(half.is_empty());
+    }
+}

@@ -1,0 +1,87 @@
+//! What the system said no to, and what to do about it.
+
+use std::fmt;
+use std::io;
+use std::net::Ipv4Addr;
+
+use super::{GROUP, PORT};
+
+// Linux's numbers.
+const ENODEV: i32 = 19;
+const EADDRINUSE: i32 = 98;
+const EADDRNOTAVAIL: i32 = 99;
+const ENETUNREACH: i32 = 101;
+
+/// What was tried.
+#[derive(Clone, Copy, Debug, PartialEq, Eq)]
+pub enum Step {
+    Open,
+    FindInterface,
+    Bind,
+    Join(Ipv4Addr),
+    Receive,
+    Send,
+}
+
+#[derive(Debug)]
+pub struct LinkError {
+    step: Step,
+    cause: io::Error,
+}
+
+impl LinkError {
+    pub fn at(step: Step) -> impl Fn(io::Error) -> LinkError {
+        move |cause| LinkError { step, cause }
+    }
+}
+
+impl fmt::Display for LinkError {
+    fn fmt(&self, f: &mut fmt::Formatter) -> fmt::Result {
+        let cause = &self.cause;
+        match (self.step, cause.raw_os_error()) {
+            (Step::Open, _) => write!(f, "can't open a UDP socket: {cause}"),
+            (Step::FindInterface, Some(ENETUNREACH)) => write!(
+                f,
+                "no multicast route: no interface leads to {GROUP}; name one by its address with --interface, or add a route"
+            ),
+            (Step::FindInterface, _) => write!(f, "can't find an interface for {GROUP}: {cause}"),
+            (Step::Bind, Some(EADDRINUSE)) => write!(
+                f,
+                "port {PORT} is taken by a program that doesn't share it (it was bound without SO_REUSEADDR)"
+            ),
+            (Step::Bind, _) => write!(f, "can't bind port {PORT}: {cause}"),
+            (Step::Join(interface), Some(ENODEV | EADDRNOTAVAIL)) => {
+                write!(f, "no interface of this machine has the address {interface}")
+            }
+            (Step::Join(interface), _) => {
+                write!(f, "can't join {GROUP} on {interface}: {cause}")
+            }
+            (Step::Receive, _) => write!(f, "receiving failed: {cause}"),
+            (Step::Send, Some(ENETUNREACH)) => write!(
+                f,
+                "sending failed: no multicast route on this interface, or it is down; start again when it is up, so that the names are claimed anew"
+            ),
+            (Step::Send, _) => write!(f, "sending failed: {cause}"),
+        }
+    }
+}
+
+impl std::error::Error for LinkError {}
+
+#[cfg(test)]
+mod tests {
+    use super::*;
+
+    fn said(step: Step, number: i32) -> String {
+        LinkError::at(step)(io::Error::from_raw_os_error(number)).to_string()
+    }
+
+    #[test]
+    fn errors_say_what_to_do() {
+        assert!(said(Step::FindInterface, ENETUNREACH).starts_with("no multicast route"));
+        assert!(said(Step::Bind, EADDRINUSE).starts_with("port 5353 is taken"));
+        assert!(said(Step::Join(Ipv4Addr::LOCALHOST), ENODEV).ends_with("address 127.0.0.1"));
+        assert!(said(Step::Send, ENETUNREACH).contains("route"));
+        assert!(said(Step::Bind, 13).starts_with("can't bind port 5353: Permission"));
+    }
+}

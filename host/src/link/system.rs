@@ -1,0 +1,84 @@
+//! The system's calls that the standard library does not have, by Linux's numbers: a socket whose port is shared, and multicast options.
+
+use std::io;
+use std::mem::size_of;
+use std::net::{Ipv4Addr, UdpSocket};
+use std::os::fd::{AsRawFd, FromRawFd, OwnedFd};
+
+use super::error::{LinkError, Step};
+use super::{GROUP, PORT};
+
+const AF_INET: i32 = 2;
+const SOCK_DGRAM: i32 = 2;
+const SOCK_CLOEXEC: i32 = 0o2000000;
+const SOL_SOCKET: i32 = 1;
+const SO_REUSEADDR: i32 = 2;
+const SO_REUSEPORT: i32 = 15;
+const IPPROTO_IP: i32 = 0;
+const IP_MULTICAST_IF: i32 = 32;
+const IP_MULTICAST_ALL: i32 = 49;
+
+#[repr(C)]
+struct SocketAddress {
+    family: u16,
+    port: [u8; 2],
+    address: [u8; 4],
+    zero: [u8; 8],
+}
+
+extern "C" {
+    fn socket(domain: i32, kind: i32, protocol: i32) -> i32;
+    fn setsockopt(socket: i32, level: i32, name: i32, value: *const u8, length: u32) -> i32;
+    fn bind(socket: i32, address: *const SocketAddress, length: u32) -> i32;
+}
+
+/// A socket bound to the group and port, which other sockets may be bound to as well.
+pub fn shared_socket() -> Result<UdpSocket, LinkError> {
+    let open = LinkError::at(Step::Open);
+    // SAFETY: plain numbers; a new descriptor or -1 comes back.
+    let descriptor = unsafe { socket(AF_INET, SOCK_DGRAM | SOCK_CLOEXEC, 0) };
+    check(descriptor).map_err(&open)?;
+    // SAFETY: the descriptor is new and owned by no one else.
+    let owned = unsafe { OwnedFd::from_raw_fd(descriptor) };
+    for option in [SO_REUSEADDR, SO_REUSEPORT] {
+        set(&owned, SOL_SOCKET, option, 1i32.to_ne_bytes()).map_err(&open)?;
+    }
+    let address = SocketAddress {
+        family: AF_INET as u16,
+        port: PORT.to_be_bytes(),
+        address: GROUP.octets(),
+        zero: [0; 8],
+    };
+    // SAFETY: the address outlives the call, and its true size is given.
+    let bound = unsafe {
+        bind(
+            owned.as_raw_fd(),
+            &address,
+            size_of::<SocketAddress>() as u32,
+        )
+    };
+    check(bound).map_err(LinkError::at(Step::Bind))?;
+    Ok(UdpSocket::from(owned))
+}
+
+/// Multicasts leave by the interface of this address.
+pub fn send_by(socket: &UdpSocket, interface: Ipv4Addr) -> io::Result<()> {
+    set(socket, IPPROTO_IP, IP_MULTICAST_IF, interface.octets())
+}
+
+/// Only what this socket joined is heard, whatever other programs joined.
+pub fn hear_own_groups_only(socket: &UdpSocket) -> io::Result<()> {
+    set(socket, IPPROTO_IP, IP_MULTICAST_ALL, 0i32.to_ne_bytes())
+}
+
+fn set(socket: &impl AsRawFd, level: i32, name: i32, value: [u8; 4]) -> io::Result<()> {
+    // SAFETY: the value outlives the call, and its true size is given.
+    check(unsafe { setsockopt(socket.as_raw_fd(), level, name, value.as_ptr(), 4) })
+}
+
+fn check(answer: i32) -> io::Result<()> {
+    if answer < 0 {
+        return Err(io::Error::last_os_error());
+    }
+    Ok(())
+}

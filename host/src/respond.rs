@@ -1,0 +1,8 @@
+//! The example responder.
+
+mod options;
+mod report;
+mod run;
+
+pub use options::{Options, HELP};
+pub use run::run;

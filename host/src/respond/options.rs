@@ -1,0 +1,157 @@
+//! The responder's command line.
+
+use std::net::{Ipv4Addr, Ipv6Addr};
+
+use kurgashel::Setup;
+
+use crate::arguments::{unknown, Arguments};
+use crate::{name, strings};
+
+pub const HELP: &str = "\
+responder: claims an instance name and a host name by Multicast DNS and answers for them
+
+usage: responder --instance LABEL --service TYPE --host LABEL --port NUMBER [options]
+
+  --instance LABEL     the instance's label, such as 'booth'
+  --service TYPE       the service, such as '_voice._tcp'
+  --host LABEL         the host's label, such as 'dock' for dock.local
+  --port NUMBER        the port that the service listens on (in SRV)
+  --txt STRING         a TXT string, such as 'room=3'; may be given several times
+  --address IPV4       the host's address (in A); else the interface's
+  --address6 IPV6      the host's IPv6 address (in AAAA); else there is no AAAA
+  --interface ADDRESS  the interface to use, by its IPv4 address; else the one that multicasts leave by
+  --draw NUMBER        wait this many milliseconds (0..250) before the first probe; else a random time
+  --at MILLISECONDS    begin at this time of the wall clock (since 1970), so that several begin together
+  --seconds NUMBER     stop after this many seconds; else on Ctrl-C
+  --verbose            also tell of each packet that the library refuses
+  --help               this text
+
+It prints one line for each change of a claim: waiting, probing, deferred, held or lost. A lost name is lost for good: start again with another.
+It ends with status 0 when stopped, 1 on an error, and 3 when both names are lost.
+";
+
+#[derive(Clone, Debug, Default, PartialEq, Eq)]
+pub struct Options {
+    pub instance: String,
+    pub service: String,
+    pub protocol: String,
+    pub host: String,
+    pub port: u16,
+    pub txt: Vec<u8>,
+    pub address: Option<Ipv4Addr>,
+    pub address6: Option<Ipv6Addr>,
+    pub interface: Option<Ipv4Addr>,
+    pub draw: Option<u64>,
+    pub at: Option<u64>,
+    pub seconds: Option<u64>,
+    pub verbose: bool,
+}
+
+impl Options {
+    /// Reads a command line; nothing where help is asked for.
+    pub fn read(arguments: Vec<String>) -> Result<Option<Options>, String> {
+        let mut arguments = Arguments::new(arguments);
+        let mut options = Options::default();
+        let mut txt = Vec::new();
+        let mut port = None;
+        while let Some(option) = arguments.next_option() {
+            match option.as_str() {
+                "--help" | "-h" => return Ok(None),
+                "--instance" => options.instance = arguments.text(&option)?,
+                "--service" => options.take_service(&arguments.text(&option)?)?,
+                "--host" => options.host = arguments.text(&option)?,
+                "--port" => port = Some(arguments.value(&option)?),
+                "--txt" => txt.push(arguments.text(&option)?),
+                "--address" => options.address = Some(arguments.value(&option)?),
+                "--address6" => options.address6 = Some(arguments.value(&option)?),
+                "--interface" => options.interface = Some(arguments.value(&option)?),
+                "--draw" => options.draw = Some(arguments.value(&option)?),
+                "--at" => options.at = Some(arguments.value(&option)?),
+                "--seconds" => options.seconds = Some(arguments.value(&option)?),
+                "--verbose" => options.verbose = true,
+                _ => return Err(unknown(&option)),
+            }
+        }
+        options.txt = strings::encode(&txt).ok_or("a TXT string is over 255 bytes")?;
+        options.port = port.ok_or("--port is missing")?;
+        options.check_given()?;
+        Ok(Some(options))
+    }
+
+    fn take_service(&mut self, text: &str) -> Result<(), String> {
+        let wrong = format!("--service can't be '{text}'; it is such as '_voice._tcp'");
+        let (service, protocol) = name::service(text).ok_or(wrong)?;
+        self.service = service.to_string();
+        self.protocol = protocol.to_string();
+        Ok(())
+    }
+
+    fn check_given(&self) -> Result<(), String> {
+        for (option, value) in [
+            ("--instance", &self.instance),
+            ("--service", &self.service),
+            ("--host", &self.host),
+        ] {
+            if value.is_empty() {
+                return Err(format!("{option} is missing; --help tells more"));
+            }
+        }
+        Ok(())
+    }
+
+    /// What the library is set up with, on an interface of this address.
+    pub fn setup(&self, interface: Ipv4Addr) -> Setup {
+        Setup::new(
+            &self.instance,
+            &self.service,
+            &self.protocol,
+            &self.host,
+            self.port,
+            &self.txt,
+            self.address.unwrap_or(interface).octets(),
+            self.address6.map(|address| address.octets()),
+        )
+    }
+}
+
+#[cfg(test)]
+mod tests {
+    use super::*;
+
+    const LEAST: &str = "--instance booth --service _voice._tcp --host dock --port 4000";
+
+    fn read(line: &str) -> Result<Option<Options>, String> {
+        Options::read(line.split_whitespace().map(str::to_string).collect())
+    }
+
+    #[test]
+    fn the_least_command_line() {
+        let options = read(LEAST).unwrap().unwrap();
+        assert_eq!(options.instance, "booth");
+        assert_eq!((&*options.service, &*options.protocol), ("_voice", "_tcp"));
+        assert_eq!((&*options.host, options.port), ("dock", 4000));
+        assert_eq!(options.txt, [0]);
+        assert_eq!((options.address, options.address6), (None, None));
+    }
+
+    #[test]
+    fn addresses_and_txt() {
+        let line = format!("{LEAST} --txt a=1 --txt b --address 10.0.0.8 --address6 fe80::1");
+        let options = read(&line).unwrap().unwrap();
+        assert_eq!(options.txt, b"\x03a=1\x01b");
+        assert_eq!(options.address, Some(Ipv4Addr::new(10, 0, 0, 8)));
+        assert_eq!(options.address6.unwrap().octets()[..2], [0xfe, 0x80]);
+    }
+
+    #[test]
+    fn what_is_wrong_is_said() {
+        assert_eq!(read("--help"), Ok(None));
+        assert_eq!(read(""), Err("--port is missing".into()));
+        assert!(read("--port 1").unwrap_err().starts_with("--instance"));
+        assert!(read("--dog").unwrap_err().contains("no option '--dog'"));
+        assert!(read("--service voice").unwrap_err().contains("_voice._tcp"));
+        assert!(read("--port 65536").unwrap_err().contains("can't be"));
+        let long = format!("{LEAST} --txt {}", "x".repeat(256));
+        assert!(read(&long).unwrap_err().contains("255"));
+    }
+}

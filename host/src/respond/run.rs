@@ -1,0 +1,127 @@
+//! Drives the library: packets in, due steps, packets out.
+
+use std::error::Error;
+use std::io::{self, Write};
+
+use kurgashel::{Responder, OUT_BYTES};
+
+use super::options::Options;
+use super::report::{all_lost, claims, Report};
+use crate::clock::{self, Clock};
+use crate::command::End;
+use crate::draw::{self, Draws};
+use crate::link::{self, Link};
+use crate::refusal::{text, Tally};
+use crate::stop;
+
+pub fn run(options: &Options) -> Result<End, Box<dyn Error>> {
+    let interface = match options.interface {
+        Some(interface) => interface,
+        None => link::default_interface()?,
+    };
+    let link = Link::open(interface)?;
+    let mut draws = Draws::open()?;
+    let draw = match options.draw {
+        Some(draw) => draw,
+        None => draws.within(&draw::START)?,
+    };
+    if let Some(moment) = options.at {
+        clock::wait_until(moment);
+    }
+    let clock = Clock::begin();
+    let begun = clock::wall();
+    let responder = Responder::start(&options.setup(interface), clock.now(), draw)
+        .map_err(|refusal| format!("the library does not start: {}", text(refusal)))?;
+    writeln!(
+        io::stdout(),
+        "begun on {interface} at {begun}, start draw {draw} ms"
+    )?;
+    let mut session = Session {
+        link,
+        draws,
+        clock,
+        responder,
+        report: Report::new(options),
+        refused: Tally::default(),
+        verbose: options.verbose,
+    };
+    session.until_stopped(options.seconds)
+}
+
+struct Session {
+    link: Link,
+    draws: Draws,
+    clock: Clock,
+    responder: Responder,
+    report: Report,
+    refused: Tally,
+    verbose: bool,
+}
+
+impl Session {
+    fn until_stopped(&mut self, seconds: Option<u64>) -> Result<End, Box<dyn Error>> {
+        let end = seconds.map_or(u64::MAX, |seconds| seconds.saturating_mul(1000));
+        self.tell(self.clock.now())?;
+        while !stop::asked() && self.clock.now() < end {
+            self.hear()?;
+            self.take_due_steps()?;
+            if all_lost(claims(&self.responder)) {
+                let advice = "both names are lost to others on this link: choose other names";
+                writeln!(io::stdout(), "{advice}")?;
+                return Ok(End::Unmet);
+            }
+        }
+        write!(io::stdout(), "stopped\n{}", self.refused)?;
+        Ok(End::Stopped)
+    }
+
+    /// Waits a little for a packet and has the library take it.
+    fn hear(&mut self) -> Result<(), Box<dyn Error>> {
+        let mut out = [0; OUT_BYTES];
+        let Some(packet) = self.link.receive()? else {
+            return Ok(());
+        };
+        let draw = self.draws.within(&draw::REPLY)?;
+        let (now, source) = (self.clock.now(), packet.source);
+        match self
+            .responder
+            .receive(now, source.port(), draw, packet.bytes, &mut out)
+        {
+            Ok(0) => (),
+            Ok(length) => self.link.send(&out[..length])?,
+            Err(refusal) => {
+                self.refused.add(refusal);
+                if self.verbose {
+                    eprintln!("{now:6} ms  packet from {source}: {}", text(refusal));
+                }
+            }
+        }
+        self.tell(now)?;
+        Ok(())
+    }
+
+    /// Ticks until nothing more is due.
+    fn take_due_steps(&mut self) -> Result<(), Box<dyn Error>> {
+        let mut out = [0; OUT_BYTES];
+        loop {
+            let now = self.clock.now();
+            let ticked = self.responder.tick(now, &mut out);
+            let ticked =
+                ticked.map_err(|refusal| format!("a tick was refused: {}", text(refusal)))?;
+            if ticked.length > 0 {
+                self.link.send(&out[..ticked.length])?;
+            }
+            self.tell(now)?;
+            if !ticked.more {
+                return Ok(());
+            }
+        }
+    }
+
+    fn tell(&mut self, now: u64) -> io::Result<()> {
+        for line in self.report.changes(now, claims(&self.responder)) {
+            writeln!(io::stdout(), "{line}")?;
+        }
+        Ok(())
+    }
+}

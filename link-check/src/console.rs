@@ -1,0 +1,153 @@
+//! A console process, talked to line by line through pipes.
+
+use std::io::{self, BufRead, BufReader, Write};
+use std::process::{Child, ChildStdin, ChildStdout, Command, Stdio};
+
+pub struct Console {
+    process: Child,
+    /// Taken when the console is closed: it ends at the end of its input.
+    input: Option<ChildStdin>,
+    output: BufReader<ChildStdout>,
+}
+
+#[derive(Clone, Debug, PartialEq, Eq)]
+pub enum Answer {
+    Started,
+    Quiet,
+    Sent(Vec<u8>),
+    Refused(u8),
+}
+
+/// What `claims` shows. Only the due times are used to play a list; the states are only counted.
+#[derive(Clone, Debug, PartialEq, Eq)]
+pub struct Claims {
+    /// Instance, host.
+    pub states: [State; 2],
+    /// Instance, host, PTR reply: when the next step is due, on the responder's clock.
+    pub due: [Option<u64>; 3],
+}
+
+#[derive(Clone, Copy, Debug, PartialEq, Eq)]
+pub enum State {
+    Waiting,
+    Probing,
+    Deferred,
+    Held,
+    Lost,
+}
+
+impl Console {
+    pub fn open(path: &str) -> io::Result<Console> {
+        let mut process = Command::new(path)
+            .stdin(Stdio::piped())
+            .stdout(Stdio::piped())
+            .spawn()?;
+        let input = process.stdin.take();
+        let output = BufReader::new(process.stdout.take().expect("a piped output"));
+        Ok(Console {
+            process,
+            input,
+            output,
+        })
+    }
+
+    /// Makes the call and then asks for the claims.
+    pub fn call(&mut self, line: &str) -> io::Result<(Answer, Claims)> {
+        let input = self.input.as_mut().expect("an open console");
+        input.write_all(format!("{line}\nclaims\n").as_bytes())?;
+        let answer = self.read(line, answer_of)?;
+        let claims = self.read("claims", claims_of)?;
+        Ok((answer, claims))
+    }
+
+    /// Reads the answer to a line.
+    fn read<T>(&mut self, line: &str, parse: fn(&str) -> Option<T>) -> io::Result<T> {
+        let mut answer = String::new();
+        self.output.read_line(&mut answer)?;
+        parse(answer.trim_end_matches('\n')).ok_or_else(|| {
+            let text = format!("the console's answer to '{line}' is '{answer}'");
+            io::Error::new(io::ErrorKind::InvalidData, text)
+        })
+    }
+}
+
+impl Drop for Console {
+    fn drop(&mut self) {
+        self.input = None;
+        // nothing can be done about a console that does not end well
+        let _ = self.process.wait();
+    }
+}
+
+fn answer_of(line: &str) -> Option<Answer> {
+    let words: Vec<&str> = line.split(' ').collect();
+    match words[..] {
+        ["started"] => Some(Answer::Started),
+        ["quiet"] => Some(Answer::Quiet),
+        ["refused", number] => Some(Answer::Refused(number.parse().ok()?)),
+        ["sent", packet] | ["sent", packet, "more"] => Some(Answer::Sent(bytes_of(packet)?)),
+        _ => None,
+    }
+}
+
+fn claims_of(line: &str) -> Option<Claims> {
+    let words: Vec<&str> = line.split(' ').collect();
+    match words[..] {
+        [_, "instance", instance, instance_due, "host", host, host_due, "reply", reply] => {
+            Some(Claims {
+                states: [state_of(instance)?, state_of(host)?],
+                due: [due_of(instance_due)?, due_of(host_due)?, due_of(reply)?],
+            })
+        }
+        _ => None,
+    }
+}
+
+fn state_of(word: &str) -> Option<State> {
+    match word {
+        "waiting" => Some(State::Waiting),
+        "probing" => Some(State::Probing),
+        "deferred" => Some(State::Deferred),
+        "held" => Some(State::Held),
+        "lost" => Some(State::Lost),
+        _ => None,
+    }
+}
+
+fn due_of(word: &str) -> Option<Option<u64>> {
+    match word {
+        "-" => Some(None),
+        number => number.parse().ok().map(Some),
+    }
+}
+
+fn bytes_of(hex: &str) -> Option<Vec<u8>> {
+    let pairs = hex.as_bytes().chunks(2);
+    let byte = |pair| u8::from_str_radix(std::str::from_utf8(pair).ok()?, 16).ok();
+    pairs.map(byte).collect()
+}
+
+#[cfg(test)]
+mod tests {
+    use super::*;
+
+    #[test]
+    fn answers() {
+        assert_eq!(answer_of("started"), Some(Answer::Started));
+        assert_eq!(answer_of("refused 7"), Some(Answer::Refused(7)));
+        let sent = Some(Answer::Sent(vec![0, 0xff]));
+        assert_eq!(answer_of("sent 00ff"), sent);
+        assert_eq!(answer_of("sent 00ff more"), sent);
+        for wrong in ["", "bad line", "sent", "sent 0g", "refused"] {
+            assert_eq!(answer_of(wrong), None);
+        }
+    }
+
+    #[test]
+    fn claims() {
+        let claims = claims_of("5 instance waiting 7 host lost - reply -").unwrap();
+        assert_eq!(claims.states, [State::Waiting, State::Lost]);
+        assert_eq!(claims.due, [Some(7), None, None]);
+        assert_eq!(claims_of("quiet"), None);
+    }
+}

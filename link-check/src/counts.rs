@@ -1,0 +1,87 @@
+//! What the lists came to, so that a run in which nothing happens would show.
+
+use std::fmt;
+
+use crate::console::State;
+
+#[derive(Clone, Debug, Default)]
+pub struct Counts {
+    pub lists: u64,
+    pub entries: u64,
+    /// Entries of the longest list.
+    pub longest: u64,
+    pub starts: u64,
+    pub cuts: u64,
+    pub refused: u64,
+    pub sent: u64,
+    pub heard: u64,
+    /// Holdings that began: a response written under a name that was not held.
+    pub held: u64,
+    /// Held claims that went back to waiting.
+    pub given_up: u64,
+    pub lost: u64,
+    pub deferred: u64,
+    /// Claims of which the 1,200 ms were asked.
+    pub asked: u64,
+}
+
+impl Counts {
+    /// Adds the counts of one list.
+    pub fn add(&mut self, other: &Counts) {
+        self.lists += other.lists;
+        self.entries += other.entries;
+        self.longest = self.longest.max(other.entries);
+        self.starts += other.starts;
+        self.cuts += other.cuts;
+        self.refused += other.refused;
+        self.sent += other.sent;
+        self.heard += other.heard;
+        self.held += other.held;
+        self.given_up += other.given_up;
+        self.lost += other.lost;
+        self.deferred += other.deferred;
+        self.asked += other.asked;
+    }
+
+    pub fn turn(&mut self, before: State, after: State) {
+        match (before, after) {
+            (State::Held, State::Waiting) => self.given_up += 1,
+            (State::Lost, _) | (State::Deferred, State::Deferred) => (),
+            (_, State::Lost) => self.lost += 1,
+            (_, State::Deferred) => self.deferred += 1,
+            _ => (),
+        }
+    }
+}
+
+impl fmt::Display for Counts {
+    fn fmt(&self, f: &mut fmt::Formatter) -> fmt::Result {
+        let Counts {
+            lists,
+            entries,
+            longest,
+            starts,
+            cuts,
+            refused,
+            sent,
+            heard,
+            held,
+            given_up,
+            lost,
+            deferred,
+            asked,
+        } = self;
+        writeln!(
+            f,
+            "{lists} lists of {entries} entries, the longest of {longest}"
+        )?;
+        writeln!(
+            f,
+            "{starts} responders started, {cuts} cut; {refused} calls refused; {sent} packets sent, {heard} heard"
+        )?;
+        write!(
+            f,
+            "{held} times a name came to be held, {given_up} given up; {lost} claims lost, {deferred} deferred; the 1,200 ms asked of {asked} claims"
+        )
+    }
+}

@@ -1,0 +1,56 @@
+//! How one list draws its times, and how hostile it is. Each list has its own style, so that limits meet limits often.
+
+use crate::random::Random;
+
+pub struct Style {
+    pub delays: Spread,
+    pub lateness: Spread,
+    /// In percent: how often a packet comes twice, a tick early, a call refused.
+    pub extras: u64,
+    /// In percent: how often a call brings a hostile packet soon after.
+    pub hostility: u64,
+    /// In percent: how many responders are cut.
+    pub cuts: u64,
+}
+
+#[derive(Clone, Copy)]
+pub enum Spread {
+    Least,
+    Most,
+    Ends,
+    Any,
+}
+
+impl Style {
+    pub fn draw(random: &mut Random) -> Style {
+        Style {
+            delays: Spread::draw(random),
+            lateness: Spread::draw(random),
+            extras: random.pick(&[0, 5, 20]),
+            hostility: random.pick(&[0, 0, 0, 3, 10, 20]),
+            cuts: random.pick(&[0, 0, 20, 60]),
+        }
+    }
+}
+
+impl Spread {
+    fn draw(random: &mut Random) -> Spread {
+        random.pick(&[
+            Spread::Least,
+            Spread::Most,
+            Spread::Ends,
+            Spread::Any,
+            Spread::Any,
+        ])
+    }
+
+    /// A time from 0 to `most`.
+    pub fn time(self, random: &mut Random, most: u64) -> u64 {
+        match self {
+            Spread::Least => 0,
+            Spread::Most => most,
+            Spread::Ends => random.pick(&[0, most]),
+            Spread::Any => random.up_to(most),
+        }
+    }
+}

@@ -1,0 +1,42 @@
+#!/usr/bin/env bash
+# Interoperability: our responder and our browser against Avahi and python-zeroconf, in network namespaces that this script makes and removes.
+#   tests/interop.sh             runs where the peers are installed and namespaces can be made; else says 'skipped: ...' and succeeds
+#   tests/interop.sh --install   installs the peers first (Debian packages, as root)
+# Every wait has an end, so that it never hangs. Its last line is 'interop: N passed, M failed'.
+set -uo pipefail
+root=$(cd "$(dirname "$0")/.." && pwd)
+peers="avahi-daemon avahi-utils dbus python3-zeroconf iproute2 util-linux"
+
+skip() { echo "skipped: $*"; exit 0; }
+
+case ${1:-} in
+--install)
+    # shellcheck disable=SC2086
+    timeout 300 apt-get install -y --no-install-recommends $peers >/dev/null || { echo "the peers can't be installed: $peers" >&2; exit 1; }
+    ;;
+'') ;;
+*) sed -n 2,5p "$0" >&2; exit 2 ;;
+esac
+
+. "$root/tests/interop/link.sh"
+. "$root/tests/interop/peers.sh"
+. "$root/tests/interop/cases.sh"
+
+find_peers
+"$root/library" && cargo build --release --quiet --manifest-path "$root/host/Cargo.toml" || exit 1
+responder=$root/host/target/release/responder
+browser=$root/host/target/release/browser
+
+work=$(mktemp -d)
+trap 'stop_all; remove_link; rm -rf "$work"' EXIT
+make_link
+start_bus
+peer_versions
+
+passed=0
+failed=0
+for case in $cases; do
+    run_case "$case"
+done
+echo "interop: $passed passed, $failed failed"
+[ "$failed" = 0 ]

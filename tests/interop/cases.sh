@@ -1,0 +1,203 @@
+# The cases. Each prints what was seen and answers 0 where it is as it should be.
+
+cases="avahi_finds_us zeroconf_finds_us we_find_avahi we_find_zeroconf
+    yields_the_instance_to_avahi yields_the_host_to_avahi yields_the_instance_to_zeroconf
+    keeps_the_instance_against_avahi keeps_the_host_against_avahi keeps_the_instance_against_zeroconf
+    two_of_ours_by_chance two_of_ours_in_step"
+
+service=_voice._tcp
+booth=booth._voice._tcp.local
+begun_apart=
+
+# Runs a case; one with a peer is run once more where it fails, since on a busy machine a peer may be late.
+run_case() { # NAME
+    local begun=$SECONDS tries=2
+    case $1 in two_of_ours_*) tries=1 ;; esac
+    printf '\n-- %s\n' "${1//_/ }"
+    while ! "$1"; do
+        tries=$((tries - 1))
+        echo "FAILED"
+        tail -n 12 "$work"/*.log "$work"/ours* 2>/dev/null | sed 's/^/    | /'
+        clear_case
+        if [ "$tries" = 0 ]; then
+            failed=$((failed + 1))
+            return
+        fi
+        echo "    once more:"
+    done
+    passed=$((passed + 1))
+    echo "ok ($((SECONDS - begun)) s)"
+    clear_case
+}
+
+clear_case() {
+    stop_started
+    rm -f "$work"/*.log "$work"/ours* "$work"/peer*
+}
+
+# Shows lines, indented; answers whether one of them matches.
+has() { # TEXT PATTERN
+    grep -E -- "$2" <<<"$1" | head -n 1 | sed 's/^/    /'
+    grep -qE -- "$2" <<<"$1" && return 0
+    echo "    no line '$2' in:"
+    sed 's/^/    | /' <<<"$1"
+    return 1
+}
+
+# Our responder on machine a, with both names held. Its two announcements are over, so that a peer which starts now has to ask.
+we_hold() {
+    start_responder a ours --instance booth --service $service --host dock --port 4000 --txt room=3 --txt PassReq --address6 fd77::1
+    wait_for 5 ours "held +$booth" && wait_for 5 ours 'held +dock.local' && sleep 1.2
+}
+
+avahi_finds_us() {
+    local seen
+    we_hold && avahi_is_up other || return 1
+    seen=$(on b avahi-browse -rpt $service 2>&1)
+    has "$seen" '^=;wire;IPv4;booth;_voice._tcp;local;dock\.local;10\.77\.0\.1;4000;("PassReq" "room=3"|"room=3" "PassReq")' || return 1
+    seen=$(on b avahi-resolve -4 -n dock.local 2>&1)
+    has "$seen" '^dock\.local\s+10\.77\.0\.1$' || return 1
+    seen=$(on b avahi-resolve -6 -n dock.local 2>&1)
+    has "$seen" '^dock\.local\s+fd77::1$'
+}
+
+zeroconf_finds_us() {
+    local seen
+    we_hold || return 1
+    seen=$(on c "$python" "$root/tests/interop/zeroconf_browse.py" 10.77.0.3 $service.local. 3 2>&1)
+    has "$seen" '^added booth\._voice\._tcp\.local\.$' || return 1
+    seen=$(on c "$python" "$root/tests/interop/zeroconf_find.py" 10.77.0.3 $service.local. booth 2>&1)
+    has "$seen" '^host dock\.local\.$' && has "$seen" '^port 4000$' && has "$seen" '^address 10\.77\.0\.1$' &&
+        has "$seen" '^address fd77::1$' && has "$seen" '^txt room=3$' && has "$seen" '^txt PassReq$'
+}
+
+# Finds a service of Avahi, and sees it go when its publisher ends.
+we_find_avahi() {
+    local seen publisher
+    avahi_is_up other || return 1
+    start_on b peer avahi-publish -s parlour $service 4001 room=7 PassReq
+    publisher=$last
+    # Avahi announces for some three seconds; after that we have to ask
+    wait_for 5 peer Established && sleep 3.5 || return 1
+    start_browser a ours --service $service --factory volume=5
+    wait_for 8 ours 'volume=5' || return 1
+    seen=$(cat "$work/ours")
+    has "$seen" '^found +parlour$' && has "$seen" '^  host +other\.local$' && has "$seen" '^  port +4001$' &&
+        has "$seen" '^  address +10\.77\.0\.2$' && has "$seen" '^  txt +room=7$' && has "$seen" '^  txt +PassReq$' &&
+        has "$seen" '^  txt +volume=5 \(factory\)$' || return 1
+    kill "$publisher"
+    wait_for 5 ours '^gone +parlour$' && has "$(cat "$work/ours")" '^gone +parlour$'
+}
+
+we_find_zeroconf() {
+    local seen
+    start_on c peer "$python" "$root/tests/interop/zeroconf_publish.py" 10.77.0.3 $service.local. 'Hall, west' hall.local. 4002 room=9
+    wait_for 8 peer published || return 1
+    start_browser a ours --service $service
+    wait_for 8 ours 'room=9' || return 1
+    seen=$(cat "$work/ours")
+    has "$seen" '^found +Hall, west$' && has "$seen" '^  host +hall\.local$' && has "$seen" '^  port +4002$' &&
+        has "$seen" '^  address +10\.77\.0\.3$' && has "$seen" '^  txt +room=9$'
+}
+
+yields_the_instance_to_avahi() {
+    avahi_is_up other || return 1
+    start_on b peer avahi-publish -s booth $service 4001
+    wait_for 5 peer Established || return 1
+    start_responder a ours --instance booth --service $service --host dock --port 4000
+    wait_for 5 ours "lost +$booth" && wait_for 5 ours 'held +dock.local' || return 1
+    has "$(cat "$work/ours")" "lost +$booth" && ! grep -E "held +$booth" "$work/ours"
+}
+
+yields_the_host_to_avahi() {
+    avahi_is_up dock || return 1
+    start_responder a ours --instance booth --service $service --host dock --port 4000
+    wait_for 5 ours 'lost +dock.local' && wait_for 5 ours "held +$booth" || return 1
+    has "$(cat "$work/ours")" 'lost +dock.local' && ! grep -E 'held +dock.local' "$work/ours"
+}
+
+yields_the_instance_to_zeroconf() {
+    start_on c peer "$python" "$root/tests/interop/zeroconf_publish.py" 10.77.0.3 $service.local. booth hall.local. 4002
+    wait_for 8 peer published || return 1
+    start_responder a ours --instance booth --service $service --host dock --port 4000
+    wait_for 5 ours "lost +$booth" && wait_for 5 ours 'held +dock.local' || return 1
+    has "$(cat "$work/ours")" "lost +$booth" && ! grep -E "held +$booth" "$work/ours"
+}
+
+# Our claim was held and is held now.
+still_held() { # NAME
+    [ "$(grep -E " $1\$" "$work/ours" | tail -n 1 | awk '{print $3}')" = held ] && echo "    ours: held  $1"
+}
+
+keeps_the_instance_against_avahi() {
+    we_hold && avahi_is_up other || return 1
+    start_on b peer avahi-publish -s booth $service 4001
+    wait_for 8 peer 'ollision' || return 1
+    has "$(cat "$work/peer")" 'ollision' || return 1
+    wait_for 8 peer 'Established' && has "$(cat "$work/peer")" 'Established' && still_held "$booth"
+}
+
+keeps_the_host_against_avahi() {
+    we_hold && start_avahi dock || return 1
+    wait_for 10 avahi.log 'Host name is dock-2\.local|startup complete. Host name is dock-2' || return 1
+    has "$(cat "$work/avahi.log")" 'conflict' && has "$(cat "$work/avahi.log")" 'startup complete. Host name is dock-2' && still_held dock.local
+}
+
+# python-zeroconf looks for a name by asking for the service's PTR, which is no probe for the name; in the second after an announcement no PTR may be
+# sent again, so it comes later than that.
+keeps_the_instance_against_zeroconf() {
+    we_hold && sleep 1 || return 1
+    start_on c peer "$python" "$root/tests/interop/zeroconf_publish.py" 10.77.0.3 $service.local. booth hall.local. 4002
+    wait_for 8 peer NonUniqueNameException || return 1
+    has "$(cat "$work/peer")" NonUniqueNameException && still_held "$booth"
+}
+
+# Two of our responders that want the same two names with other data, begun in the same millisecond.
+begin_together() { # OPTIONS...
+    local at=$(($(date +%s%3N) + 400))
+    stop_started
+    start_responder a ours-a --instance booth --service $service --host dock --port 4000 --at $at "$@"
+    start_responder b ours-b --instance booth --service $service --host dock --port 4001 --at $at "$@"
+    wait_for 5 ours-a begun && wait_for 5 ours-b begun || return 1
+    begun_apart=$(($(begun_at ours-a) - $(begun_at ours-b)))
+}
+
+begun_at() { # FILE
+    sed -nE 's/^begun on .* at ([0-9]+),.*/\1/p' "$work/$1"
+}
+
+# A busy machine may begin one of them late; then they begin anew.
+begin_in_one_millisecond() {
+    local try
+    for try in 1 2 3 4 5 6 7 8; do
+        begin_together "$@" || return 1
+        [ "$begun_apart" = 0 ] && return 0
+    done
+    echo "    begun $begun_apart ms apart in try $try"
+    return 1
+}
+
+# One of the two holds the name, the other has lost it, in under 3 s.
+settled() { # NAME
+    local times
+    times=$(grep -hE " (held|lost) +$1\$" "$work/ours-a" "$work/ours-b")
+    [ "$(grep -c held <<<"$times")" = 1 ] && [ "$(grep -c lost <<<"$times")" = 1 ] && [ "$(awk '{print $1}' <<<"$times" | sort -n | tail -n 1)" -lt 3000 ] || {
+        sed 's/^/    | /' "$work/ours-a" "$work/ours-b"
+        return 1
+    }
+    echo "    $1: one holds it at $(awk '$3 == "held" {print $1}' <<<"$times") ms, the other has lost it at $(awk '$3 == "lost" {print $1}' <<<"$times") ms"
+}
+
+settle() { # OPTIONS...
+    begin_in_one_millisecond "$@" || return 1
+    sleep 3
+    settled "$booth" && settled dock.local
+}
+
+two_of_ours_by_chance() {
+    settle && settle
+}
+
+two_of_ours_in_step() {
+    settle --draw 0
+}
