@@ -414,7 +414,7 @@ fn class_in(probing: bool, i: usize) -> u16
     if probing {
         return 1;
     }
-    records::own_class(i)
+    own_fields::own_class(i)
 }
 
 // Writes the own record of an index behind the packet `out[..at]`.
@@ -444,9 +444,9 @@ fn write_own(
         places,
         count,
         &name[..len],
-        records::own_type(i),
+        own_fields::own_type(i),
         class,
-        records::own_ttl(i),
+        own_fields::own_ttl(i),
         &d[..n],
     )
 }
@@ -463,7 +463,7 @@ fn pick(s: Setup, chosen: [bool; 5]) -> Picked
             i += 1;
             continue;
         }
-        if !records::has_record(s, i) {
+        if !own_fields::has_record(s, i) {
             i += 1;
             continue;
         }

@@ -1,4 +1,5 @@
-// Own records (paper 01, 'Own records'): the set-up, the own names, and the five records by index. Whether a set-up keeps the rules is in `setups`.
+// Own records (paper 01, 'Own records'): the set-up, and the names and the rdata of the five records by index. Their types, classes and TTLs are in
+// `own_fields`, and whether a set-up keeps the rules in `setups`.
 ghost use mathlib.Core.Path.{_≡_};
 ghost use mathlib.Core.Bool.{true};
 ghost use mathlib.Core.List.{_∷_, []};
@@ -7,7 +8,7 @@ ghost use lib.ListN.{length, take};
 ghost use lib.Seq.{sets};
 ghost use Rattle.labels.specs.Labels.{encode};
 ghost use Rattle.records.specs.Setups.{local, labelHeld, serviceHeld, protocolLabel, serviceLabels, instanceLabels, hostLabels};
-ghost use Rattle.records.specs.Records.{labelBytes, Laid, ownOf, ownName, ownType, ownClass, ownTtl, ownRdata, hasRecord, srvRdata};
+ghost use Rattle.records.specs.Records.{labelBytes, Laid, ownOf, ownName, ownRdata, srvRdata};
 
 // The most bytes of a label, of a service label with its "_", and of a TXT record.
 pub const MOST_LABEL: usize = 63;
@@ -248,59 +249,4 @@ pub fn own_rdata(s: Setup, i: usize) -> Own
     let aaaa = s.aaaa;
     put(&mut bytes, 0, &aaaa);
     Own { bytes, len: 16 }
-}
-
-// The type of the own record of an index.
-pub fn own_type(i: usize) -> u16
-    ensures { λ r. ⌜ r ≡ ownType i ⌝ }
-{
-    if i == PTR {
-        return rdata::PTR;
-    }
-    if i == SRV {
-        return rdata::SRV;
-    }
-    if i == TXT {
-        return rdata::TXT;
-    }
-    if i == A {
-        return rdata::A;
-    }
-    rdata::AAAA
-}
-
-// The class on the wire of the own record of an index: with the cache flush bit, but for PTR, which is shared.
-pub fn own_class(i: usize) -> u16
-    ensures { λ r. ⌜ r ≡ ownClass i ⌝ }
-{
-    if i == PTR {
-        return 1;
-    }
-    0x8001
-}
-
-// The TTL of the own record of an index, in seconds.
-pub fn own_ttl(i: usize) -> u32
-    ensures { λ r. ⌜ r ≡ ownTtl i ⌝ }
-{
-    if i == PTR {
-        return 4500;
-    }
-    if i == TXT {
-        return 4500;
-    }
-    120
-}
-
-// Whether a set-up has the record of an index.
-pub fn has_record(s: Setup, i: usize) -> bool
-    ensures { λ r. ⌜ r ≡ hasRecord s i ⌝ }
-{
-    if i < AAAA {
-        return true;
-    }
-    if i == AAAA {
-        return s.hasaaaa;
-    }
-    false
 }

@@ -103,13 +103,13 @@ pub fn start(setup: Setup, time: u64, draw: u64) -> Started
     ensures answer { λ r. ⌜ r ≡ startOf setup time draw ⌝ }
     ensures number { λ r. ⌜ refusalOf (r .answer) ≡ startRefusal setup time draw ⌝ }
 {
-    if claims::start_time_refused(time) {
+    if limits::start_time_refused(time) {
         return Started {
             answer: Answer::Refused(1),
             state: blank_state(),
         };
     }
-    if claims::start_draw_refused(draw) {
+    if limits::start_draw_refused(draw) {
         return Started {
             answer: Answer::Refused(2),
             state: blank_state(),
@@ -137,7 +137,7 @@ fn state_refused(state: State) -> bool
     let setup = state.setup;
     let life = state.life;
     if setups::check_setup(setup) {
-        return claims::start_draw_refused(life.draw);
+        return limits::start_draw_refused(life.draw);
     }
     true
 }
@@ -211,13 +211,13 @@ pub fn receive(
 {
     let setup = state.setup;
     let life = state.life;
-    if claims::time_refused(life, time) {
+    if limits::time_refused(life, time) {
         return Received {
             answer: Answer::Refused(1),
             state,
         };
     }
-    if claims::reply_draw_refused(draw) {
+    if limits::reply_draw_refused(draw) {
         return Received {
             answer: Answer::Refused(2),
             state,
@@ -267,7 +267,7 @@ pub fn tick(state: State, time: u64, out: &mut [u8]) -> Ticked
 {
     let setup = state.setup;
     let life = state.life;
-    if claims::time_refused(life, time) {
+    if limits::time_refused(life, time) {
         return Ticked {
             answer: Answer::Refused(1),
             more: false,

@@ -148,7 +148,7 @@ fn is_asked(p: &[u8], s: wire::Section, setup: Setup, i: usize) -> bool
     let own = records::own_name(setup, i);
     let bytes = own.bytes;
     let len = own.len;
-    some_asks(p, s, rdata::part(&bytes, 0, len), records::own_type(i))
+    some_asks(p, s, rdata::part(&bytes, 0, len), own_fields::own_type(i))
 }
 
 // The own records that a section of questions asks for.
@@ -177,8 +177,8 @@ fn known_in(p: &[u8], s: wire::Section, setup: Setup) -> Records
         let data = records::own_rdata(setup, i);
         let databytes = data.bytes;
         let datalen = data.len;
-        let rtype = records::own_type(i);
-        let ttl = records::own_ttl(i);
+        let rtype = own_fields::own_type(i);
+        let ttl = own_fields::own_ttl(i);
         let mut here = s.at;
         let mut left = s.count;
         while 0 < left {
@@ -238,7 +238,7 @@ fn conflicts_in(p: &[u8], l: wire::Layout, name: &[u8], rtype: u16, own: &[u8]) 
 fn has_conflict(p: &[u8], l: wire::Layout, setup: Setup, i: usize) -> bool
     ensures { λ r. ⌜ ((m : Message) → messageAt (now (p .entry)) ≡ read l m → r ≡ conflicted setup i m) ⌝ }
 {
-    if !records::has_record(setup, i) {
+    if !own_fields::has_record(setup, i) {
         return false;
     }
     let name = records::own_name(setup, i);
@@ -251,7 +251,7 @@ fn has_conflict(p: &[u8], l: wire::Layout, setup: Setup, i: usize) -> bool
         p,
         l,
         rdata::part(&namebytes, 0, namelen),
-        records::own_type(i),
+        own_fields::own_type(i),
         rdata::part(&databytes, 0, datalen),
     )
 }
@@ -299,9 +299,9 @@ fn theirs_later(p: &[u8], l: wire::Layout, setup: Setup, first: usize, second: u
     let twobytes = two.bytes;
     let twolen = two.len;
     let own = order::OwnTypes {
-        first: records::own_type(first),
-        second: records::own_type(second),
-        both: records::has_record(setup, second),
+        first: own_fields::own_type(first),
+        second: own_fields::own_type(second),
+        both: own_fields::has_record(setup, second),
     };
     is_later(order::tiebreak(
         p,

@@ -6,7 +6,7 @@ use Rattle.compose.proofs.class_in.Statement.{statement}
 use Rattle.compose.proofs.class_in.Tie as tie
 use Rattle.compose.proofs.class_in.Reads as reads
 use Rattle.compose.proofs.class_in.Lts as lts
-use Rattle.records.proofs.own_class.Reads as own-class-reads
+use Rattle.own_fields.proofs.own_class.Reads as own-class-reads
 
 returns : tie.Need-returns
 returns c = search needs

@@ -7,7 +7,7 @@ use Rattle.compose.proofs.pick.Statement.{statement}
 use Rattle.compose.proofs.pick.Tie as tie
 use Rattle.compose.proofs.pick.Reads as reads
 use Rattle.compose.proofs.pick.Lts as lts
-use Rattle.records.proofs.has_record.Reads as has-record-reads
+use Rattle.own_fields.proofs.has_record.Reads as has-record-reads
 
 abbrev Inv-loop : tie.InvT-loop
 Inv-loop s chosen order₀ n₀ i₀ order n i = Picking s chosen order n i

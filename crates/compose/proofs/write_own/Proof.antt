@@ -10,8 +10,8 @@ use Rattle.compose.proofs.class_in.Reads as class-in-reads
 use Rattle.compose.proofs.write_record.Reads as write-record-reads
 use Rattle.records.proofs.own_name.Reads as own-name-reads
 use Rattle.records.proofs.own_rdata.Reads as own-rdata-reads
-use Rattle.records.proofs.own_ttl.Reads as own-ttl-reads
-use Rattle.records.proofs.own_type.Reads as own-type-reads
+use Rattle.own_fields.proofs.own_ttl.Reads as own-ttl-reads
+use Rattle.own_fields.proofs.own_type.Reads as own-type-reads
 
 own-name-requires : tie.Need-own-name-requires
 own-name-requires c κs = search needs

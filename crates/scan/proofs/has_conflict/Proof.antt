@@ -7,10 +7,10 @@ use Rattle.scan.proofs.has_conflict.Tie as tie
 use Rattle.scan.proofs.has_conflict.Reads as reads
 use Rattle.scan.proofs.has_conflict.Lts as lts
 use Rattle.rdata.proofs.part.Reads as part-reads
-use Rattle.records.proofs.has_record.Reads as has-record-reads
+use Rattle.own_fields.proofs.has_record.Reads as has-record-reads
 use Rattle.records.proofs.own_name.Reads as own-name-reads
 use Rattle.records.proofs.own_rdata.Reads as own-rdata-reads
-use Rattle.records.proofs.own_type.Reads as own-type-reads
+use Rattle.own_fields.proofs.own_type.Reads as own-type-reads
 use Rattle.scan.proofs.conflicts_in.Reads as conflicts-in-reads
 
 has-record-requires : tie.Need-has-record-requires

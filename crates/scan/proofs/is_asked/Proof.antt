@@ -8,7 +8,7 @@ use Rattle.scan.proofs.is_asked.Reads as reads
 use Rattle.scan.proofs.is_asked.Lts as lts
 use Rattle.rdata.proofs.part.Reads as part-reads
 use Rattle.records.proofs.own_name.Reads as own-name-reads
-use Rattle.records.proofs.own_type.Reads as own-type-reads
+use Rattle.own_fields.proofs.own_type.Reads as own-type-reads
 use Rattle.scan.proofs.some_asks.Reads as some-asks-reads
 
 own-name-requires : tie.Need-own-name-requires

@@ -21,8 +21,8 @@ use Rattle.scan.proofs.known_in.Lts as lts
 use Rattle.rdata.proofs.part.Reads as part-reads
 use Rattle.records.proofs.own_name.Reads as own-name-reads
 use Rattle.records.proofs.own_rdata.Reads as own-rdata-reads
-use Rattle.records.proofs.own_ttl.Reads as own-ttl-reads
-use Rattle.records.proofs.own_type.Reads as own-type-reads
+use Rattle.own_fields.proofs.own_ttl.Reads as own-ttl-reads
+use Rattle.own_fields.proofs.own_type.Reads as own-type-reads
 use Rattle.scan.proofs.suppresses_here.Reads as suppresses-here-reads
 use Rattle.wire.proofs.record_at.Reads as record-at-reads
 

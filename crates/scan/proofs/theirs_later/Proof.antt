@@ -14,10 +14,10 @@ use Rattle.scan.proofs.theirs_later.Reads as reads
 use Rattle.scan.proofs.theirs_later.Lts as lts
 use Rattle.order.proofs.tiebreak.Reads as tiebreak-reads
 use Rattle.rdata.proofs.part.Reads as part-reads
-use Rattle.records.proofs.has_record.Reads as has-record-reads
+use Rattle.own_fields.proofs.has_record.Reads as has-record-reads
 use Rattle.records.proofs.own_name.Reads as own-name-reads
 use Rattle.records.proofs.own_rdata.Reads as own-rdata-reads
-use Rattle.records.proofs.own_type.Reads as own-type-reads
+use Rattle.own_fields.proofs.own_type.Reads as own-type-reads
 use Rattle.scan.proofs.is_later.Reads as is-later-reads
 
 own-name-requires : tie.Need-own-name-requires

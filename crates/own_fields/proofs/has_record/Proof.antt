@@ -1,11 +1,7 @@
-use borrow.Author.Tests.{eq-eqb, ne-eqb, le-leb, lt-leb, lt-ltb, le-ltb}
-use Rattle.records.specs.Records.{ownType, ownClass, ownTtl, hasRecord}
-use native.Mathlib.Omega.{arith}
-use Prim.Native.Nat.{_<_, _≤_}
-use Rattle.records.proofs.has_record.Statement.{statement}
-use Rattle.records.proofs.has_record.Tie as tie
-use Rattle.records.proofs.has_record.Reads as reads
-use Rattle.records.proofs.has_record.Lts as lts
+use borrow.Author.Tests.{eq-eqb, ne-eqb, lt-ltb, le-ltb}
+use Rattle.records.specs.Records.{hasRecord}
+use Rattle.own_fields.proofs.has_record.Statement.{statement}
+use Rattle.own_fields.proofs.has_record.Tie as tie
 
 returns : tie.Need-returns
 unfolding hasRecord

@@ -1,6 +1,6 @@
 use borrow.Author.Needs.{needs}
-use Rattle.claims.proofs.reply_kept.Statement.{statement}
-use Rattle.claims.proofs.reply_kept.Tie as tie
+use Rattle.limits.proofs.reply_kept.Statement.{statement}
+use Rattle.limits.proofs.reply_kept.Tie as tie
 
 enum-told : tie.Need-enum-told
 enum-told c = search needs

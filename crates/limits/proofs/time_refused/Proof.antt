@@ -1,8 +1,8 @@
 use borrow.Author.Tests.{lt-ltb, le-ltb}
 use Rattle.claims.specs.Refusals.{wrongTime}
 use borrow.Author.Needs.{needs}
-use Rattle.claims.proofs.time_refused.Statement.{statement}
-use Rattle.claims.proofs.time_refused.Tie as tie
+use Rattle.limits.proofs.time_refused.Statement.{statement}
+use Rattle.limits.proofs.time_refused.Tie as tie
 
 returns : tie.Need-returns
 unfolding wrongTime

@@ -1,6 +1,6 @@
 use borrow.Author.Needs.{needs}
-use Rattle.claims.proofs.claim_kept.Statement.{statement}
-use Rattle.claims.proofs.claim_kept.Tie as tie
+use Rattle.limits.proofs.claim_kept.Statement.{statement}
+use Rattle.limits.proofs.claim_kept.Tie as tie
 
 enum-known-c : tie.Need-enum-known-c
 enum-known-c c = search needs

@@ -1,7 +1,7 @@
 use Rattle.claims.specs.Refusals.{kept}
 use borrow.Author.Needs.{needs}
-use Rattle.claims.proofs.is_kept.Statement.{statement}
-use Rattle.claims.proofs.is_kept.Tie as tie
+use Rattle.limits.proofs.is_kept.Statement.{statement}
+use Rattle.limits.proofs.is_kept.Tie as tie
 
 claim-kept-requires : tie.Need-claim-kept-requires
 claim-kept-requires c κs = search needs

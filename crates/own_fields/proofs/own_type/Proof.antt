@@ -1,9 +1,7 @@
-use borrow.Author.Tests.{eq-eqb, ne-eqb, le-leb, lt-leb, lt-ltb, le-ltb}
-use Rattle.records.specs.Records.{ownType, ownClass, ownTtl, hasRecord}
-use Rattle.records.proofs.own_type.Statement.{statement}
-use Rattle.records.proofs.own_type.Tie as tie
-use Rattle.records.proofs.own_type.Reads as reads
-use Rattle.records.proofs.own_type.Lts as lts
+use borrow.Author.Tests.{eq-eqb, ne-eqb}
+use Rattle.records.specs.Records.{ownType}
+use Rattle.own_fields.proofs.own_type.Statement.{statement}
+use Rattle.own_fields.proofs.own_type.Tie as tie
 
 returns : tie.Need-returns
 unfolding ownType

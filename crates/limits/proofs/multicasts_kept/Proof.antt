@@ -1,7 +1,7 @@
 use Rattle.claims.specs.Refusals.{multicastsKept}
 use borrow.Author.Needs.{needs}
-use Rattle.claims.proofs.multicasts_kept.Statement.{statement}
-use Rattle.claims.proofs.multicasts_kept.Tie as tie
+use Rattle.limits.proofs.multicasts_kept.Statement.{statement}
+use Rattle.limits.proofs.multicasts_kept.Tie as tie
 
 sent-kept-requires : tie.Need-sent-kept-requires
 sent-kept-requires c κs = search needs

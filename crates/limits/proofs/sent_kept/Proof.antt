@@ -1,6 +1,6 @@
 use borrow.Author.Needs.{needs}
-use Rattle.claims.proofs.sent_kept.Statement.{statement}
-use Rattle.claims.proofs.sent_kept.Tie as tie
+use Rattle.limits.proofs.sent_kept.Statement.{statement}
+use Rattle.limits.proofs.sent_kept.Tie as tie
 
 enum-told : tie.Need-enum-told
 enum-told c = search needs

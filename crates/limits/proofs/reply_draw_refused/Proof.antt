@@ -1,6 +1,6 @@
 use borrow.Author.Tests.{lt-ltb, le-ltb}
-use Rattle.claims.proofs.reply_draw_refused.Statement.{statement}
-use Rattle.claims.proofs.reply_draw_refused.Tie as tie
+use Rattle.limits.proofs.reply_draw_refused.Statement.{statement}
+use Rattle.limits.proofs.reply_draw_refused.Tie as tie
 
 returns : tie.Need-returns
 returns c = simp (lt-ltb _ _ (c .if1 .taken))

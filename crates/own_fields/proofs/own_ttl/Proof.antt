@@ -1,9 +1,7 @@
-use borrow.Author.Tests.{eq-eqb, ne-eqb, le-leb, lt-leb, lt-ltb, le-ltb}
-use Rattle.records.specs.Records.{ownType, ownClass, ownTtl, hasRecord}
-use Rattle.records.proofs.own_ttl.Statement.{statement}
-use Rattle.records.proofs.own_ttl.Tie as tie
-use Rattle.records.proofs.own_ttl.Reads as reads
-use Rattle.records.proofs.own_ttl.Lts as lts
+use borrow.Author.Tests.{eq-eqb, ne-eqb}
+use Rattle.records.specs.Records.{ownTtl}
+use Rattle.own_fields.proofs.own_ttl.Statement.{statement}
+use Rattle.own_fields.proofs.own_ttl.Tie as tie
 
 returns : tie.Need-returns
 unfolding ownTtl
