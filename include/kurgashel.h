@@ -72,14 +72,22 @@ struct kurgashel_answer kurgashel_start(uint8_t *state, size_t state_bytes, cons
 struct kurgashel_answer kurgashel_receive(uint8_t *state, size_t state_bytes, uint64_t now, uint16_t port, uint64_t draw, const uint8_t *packet, size_t packet_bytes,
                                           uint8_t *out, size_t out_bytes);
 
-/* Takes the steps that are due, up to the first that sends: its packet is written to `out`. Call it some times every 50 ms, again at once where `more`.
- * Refusals 1, 3, 7. */
+/* Takes the steps that are due, up to the first that sends: its packet is written to `out`. Call it when a step is due (kurgashel_due), at most 50 ms late,
+ * and again at once where `more`; calls between do no harm. Refusals 1, 3, 7. */
 struct kurgashel_answer kurgashel_tick(uint8_t *state, size_t state_bytes, uint64_t now, uint8_t *out, size_t out_bytes);
 
 /* How a claim stands: of the instance's name (0) or the host's name (any other number). A buffer that is no state says lost. */
 enum { KURGASHEL_INSTANCE = 0, KURGASHEL_HOST = 1 };
 enum { KURGASHEL_WAITING = 0, KURGASHEL_PROBING = 1, KURGASHEL_DEFERRED = 2, KURGASHEL_HELD = 3, KURGASHEL_LOST = 4 };
 uint8_t kurgashel_claim(const uint8_t *state, size_t state_bytes, uint8_t claim);
+
+/* When the next step is due, if one is to come: before `time` a tick sends nothing. A packet received may bring it forward. A buffer that is no state has
+ * none to come. */
+struct kurgashel_due {
+    bool due;
+    uint64_t time;
+};
+struct kurgashel_due kurgashel_due(const uint8_t *state, size_t state_bytes);
 
 /* ---- the cache: 64 entries and a store, lent; zeros are an empty cache */
 

@@ -15,8 +15,8 @@ use error::Step;
 pub const GROUP: Ipv4Addr = Ipv4Addr::new(224, 0, 0, 251);
 pub use kurgashel::PORT;
 
-/// How long a program sleeps for want of packets before it looks at the clock.
-const TURN: Duration = Duration::from_millis(5);
+/// The longest wait for a packet, so that a program that is asked to stop does.
+const LONGEST_WAIT: u64 = 200;
 /// More than the longest UDP message, so that its true length is known.
 const MOST_DATAGRAM: usize = 65536;
 /// Multicast DNS packets are sent with an IP TTL of 255 (RFC 6762 section 11).
@@ -44,13 +44,16 @@ impl Link {
         system::hear_own_groups_only(&socket).map_err(&join)?;
         socket.set_multicast_ttl_v4(TTL).map_err(&join)?;
         socket.set_multicast_loop_v4(true).map_err(&join)?;
-        socket.set_read_timeout(Some(TURN)).map_err(&join)?;
         let buffer = vec![0; MOST_DATAGRAM];
         Ok(Link { socket, buffer })
     }
 
-    /// The next packet, or nothing after a short wait.
-    pub fn receive(&mut self) -> Result<Option<Packet<'_>>, LinkError> {
+    /// The next packet, or nothing after a wait of so many milliseconds, at least 1.
+    pub fn receive(&mut self, wait: u64) -> Result<Option<Packet<'_>>, LinkError> {
+        let wait = Duration::from_millis(wait.clamp(1, LONGEST_WAIT));
+        self.socket
+            .set_read_timeout(Some(wait))
+            .map_err(LinkError::at(Step::Receive))?;
         match self.socket.recv_from(&mut self.buffer) {
             Ok((length, source)) => Ok(Some(Packet {
                 source,
@@ -99,7 +102,7 @@ mod tests {
         second.send(mark).unwrap();
         for link in [&mut first, &mut second] {
             let heard = (0..200).any(|_| {
-                let packet = link.receive().unwrap();
+                let packet = link.receive(5).unwrap();
                 packet.is_some_and(|packet| packet.bytes == mark && packet.source.port() == PORT)
             });
             assert!(heard);

@@ -7,13 +7,13 @@ fn main() -> Result<(), Refusal> {
     let mut responder = Responder::start(&setup, 0, 120)?;
     let mut out = [0; OUT_BYTES];
     let mut now = 0;
-    while now <= 2000 {
+    while let Some(due) = responder.due() {
+        now = due.max(now); // where a caller waits, or takes a packet
         let sent = responder.tick(now, &mut out)?;
         if sent.length > 0 {
             let kind = if out[2] == 0 { "probe" } else { "response" };
             println!("{now:4} ms: {kind} of {} bytes; instance {:?}, host {:?}", sent.length, responder.instance(), responder.host());
         }
-        now += if sent.more { 0 } else { 10 };
     }
     Ok(())
 }

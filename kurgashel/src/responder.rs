@@ -19,6 +19,12 @@ struct Answer {
     length: usize,
 }
 
+#[repr(C)]
+struct Due {
+    due: bool,
+    time: u64,
+}
+
 extern "C" {
     fn kurgashel_start(state: *mut u8, state_bytes: usize, setup: *const u8, setup_bytes: usize, now: u64, draw: u64) -> Answer;
     #[allow(clippy::too_many_arguments)]
@@ -35,6 +41,7 @@ extern "C" {
     ) -> Answer;
     fn kurgashel_tick(state: *mut u8, state_bytes: usize, now: u64, out: *mut u8, out_bytes: usize) -> Answer;
     fn kurgashel_claim(state: *const u8, state_bytes: usize, claim: u8) -> u8;
+    fn kurgashel_due(state: *const u8, state_bytes: usize) -> Due;
 }
 
 /// How a claim to a name stands.
@@ -120,12 +127,20 @@ impl Responder {
         Refusal::check(answer.refusal).map(|()| answer.length)
     }
 
-    /// Takes the steps that are due, up to the first that sends; its packet is in `out`.
+    /// Takes the steps that are due, up to the first that sends; its packet is in `out`. Call it when a step is due ([`Responder::due`]), at most 50 ms
+    /// late, and again at once where more is due.
     pub fn tick(&mut self, now: u64, out: &mut [u8]) -> Result<Ticked, Refusal> {
         let state = &mut self.state;
         // SAFETY: as for `receive`.
         let answer = unsafe { kurgashel_tick(state.as_mut_ptr(), state.len(), now, out.as_mut_ptr(), out.len()) };
         Refusal::check(answer.refusal).map(|()| Ticked { length: answer.length, more: answer.more })
+    }
+
+    /// When the next step is due, if one is to come: before then a tick sends nothing. A packet received may bring it forward.
+    pub fn due(&self) -> Option<u64> {
+        // SAFETY: the pointer and the length are those of one array, which is only read.
+        let next = unsafe { kurgashel_due(self.state.as_ptr(), self.state.len()) };
+        next.due.then_some(next.time)
     }
 
     /// How the claim to the instance's name stands.

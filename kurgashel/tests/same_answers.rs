@@ -152,6 +152,12 @@ impl Exported {
     }
 }
 
+/// The earliest due time of a `claims` answer: of the instance's claim, the host's and the reply.
+fn earliest(claims: &str) -> Option<u64> {
+    let fields: Vec<&str> = claims.split(' ').collect();
+    [3, 6, 8].iter().filter_map(|&index| fields[index].parse().ok()).min()
+}
+
 #[test]
 fn the_second_program_answers_alike() {
     let mut kinds: BTreeMap<String, u64> = BTreeMap::new();
@@ -170,6 +176,9 @@ fn the_second_program_answers_alike() {
             }
             let answer = answer.unwrap_or_else(|refusal| format!("refused {}", refusal.number()));
             assert_eq!(answer, expected, "seed {seed}: {line}");
+            if line == "claims" {
+                assert_eq!(exported.responder.due(), earliest(&expected), "the next due time: seed {seed}: {expected}");
+            }
             let kind = line.split(' ').next().unwrap_or_default().to_string() + " " + answer.split(' ').next().unwrap_or_default();
             *kinds.entry(kind).or_default() += 1;
         }

@@ -21,6 +21,7 @@ static struct kurgashel_answer tick(uint64_t now) { return kurgashel_tick(state,
 static void keep(void) { memcpy(kept, state, sizeof state); memcpy(was, out, sizeof out); }
 static int same(void) { return !memcmp(kept, state, sizeof state) && !memcmp(was, out, sizeof out); }
 static int is(struct kurgashel_answer a, uint8_t refusal) { return a.refusal == refusal && !a.more && !a.length && same(); }
+static int due(uint64_t time) { struct kurgashel_due d = kurgashel_due(state, KURGASHEL_STATE_BYTES); return d.due && d.time == time; }
 static uint8_t claim(uint8_t which) { return kurgashel_claim(state, KURGASHEL_STATE_BYTES, which); }
 
 static void sizes(void) {
@@ -38,6 +39,7 @@ static void sizes(void) {
     expect(is(kurgashel_tick(NULL, 0, 0, out, KURGASHEL_OUT_BYTES), 7), "tick: no state is 7");
     expect(is(kurgashel_receive(NULL, 0, 0, 5353, 20, NULL, 0, out, KURGASHEL_OUT_BYTES), 4), "receive: 4 comes before 7");
     expect(kurgashel_claim(NULL, 0, 0) == KURGASHEL_LOST, "no state is lost");
+    expect(!kurgashel_due(NULL, 0).due && !kurgashel_due(NULL, 0).time, "no state has a step to come");
     expect(kurgashel_cache_take(NULL, 0, NULL, 0, 0, 5353, NULL, 0).refusal == 8, "cache: no table is 8, before 4");
     expect(kurgashel_cache_look_up(NULL, 0, NULL, 0, 0, NULL, 0, 1, 0).refusal == 8, "cache: no table is 8, before 6");
     expect(kurgashel_message_refusal(NULL, 0) == 4 && !kurgashel_name_end(NULL, 0, 0) && !kurgashel_name_length(NULL, 0, 0), "reader: no message");
@@ -62,18 +64,22 @@ static void life(void) {
     expect(!memcmp(state, &good, sizeof good), "the set-up stands in the state as it was");
     static const uint8_t probe[44] = "\0\0\0\0\0\1\0\0\0\1\0\0\4dock\5local\0\0\xff\0\1\xc0\x0c\0\1\0\1\0\0\0\x78\0\4\n\0\0\7";
     static const uint8_t announcement[38] = "\0\0\x84\0\0\0\0\1\0\0\0\0\4dock\5local\0\0\1\x80\1\0\0\0\x78\0\4\n\0\0\7";
+    expect(due(0), "both first probes are due at once");
     struct kurgashel_answer a = tick(0);
-    expect(!a.refusal && a.length && a.more, "the instance's first probe, and more");
+    expect(!a.refusal && a.length && a.more && due(0), "the instance's first probe, and more: the host's is due");
     memset(out, 0xEE, sizeof out);
     a = tick(0);
     expect(a.length == 44 && !a.more && !memcmp(out, probe, 44) && out[44] == 0xEE, "the host's probe of 44 bytes; bytes beyond it stay");
+    expect(due(250), "the second probes 250 ms later");
     for (int round = 1; round < 3; round++) { tick(250 * round); tick(250 * round); }
     keep();
+    expect(due(750), "the announcements 250 ms after the third");
     expect(is(tick(499), 1), "a time before the last");
     expect(is(kurgashel_tick(state, KURGASHEL_STATE_BYTES, 750, out, KURGASHEL_OUT_BYTES - 1), 3), "an out buffer of 1,451 bytes");
     tick(750);
     a = tick(750);
     expect(a.length == 38 && !memcmp(out, announcement, 38) && claim(KURGASHEL_HOST) == KURGASHEL_HELD, "the announcement of 38 bytes; held");
+    expect(due(1750), "the second announcements 1,000 ms later");
     keep();
     uint8_t query[29] = "\0\0\0\0\0\1\0\0\0\0\0\0\4dock\5local\0\0\1\0\1";
     expect(is(kurgashel_receive(state, KURGASHEL_STATE_BYTES, 800, 5354, 20, query, 28, out, KURGASHEL_OUT_BYTES), 5), "another port");
@@ -86,6 +92,11 @@ static void life(void) {
     a = kurgashel_receive(state, KURGASHEL_STATE_BYTES, 1800, 5353, 20, theirs, 38, out, KURGASHEL_OUT_BYTES);
     expect(!a.refusal && !a.length && claim(KURGASHEL_HOST) == KURGASHEL_WAITING, "a conflict: back to waiting");
     expect(claim(KURGASHEL_INSTANCE) == KURGASHEL_HELD && claim(255) == KURGASHEL_WAITING, "the instance is held; any number but 0 is the host");
+    expect(due(1750), "the instance's second step is overdue");
+    a = tick(1800);
+    expect(a.length && a.more && due(1800), "it sends, and the host's first probe is due");
+    state[579] = 6; state[588] = 7; state[642] = 0;
+    expect(!kurgashel_due(state, KURGASHEL_STATE_BYTES).due, "held for good and lost: no step to come");
 }
 
 // the times and the draw below 256

@@ -6,8 +6,6 @@ use mathlib.Core.List.{List}
 use lib.ListN.{length}
 use lib.Dec.{eqb}
 use Rattle.records.specs.declared.Setup.{Setup}
-use Rattle.claims.specs.declared.Claim.{Claim}
-use Rattle.claims.specs.Claims.{stateNumber}
 use Rattle.responder.specs.declared.State.{State}
 use Rattle.responder.specs.declared.Answer.{Answer}
 use Rattle.responder.specs.declared.Started.{Started}
@@ -59,13 +57,3 @@ ticked b now room = tickOf (decode b) now room
 
 unfoldable pub tickedBytes : List ℕ → ℕ → ℕ → List ℕ
 tickedBytes b now room = unlessRefused (ticked b now room .answer) (withLife b (ticked b now room .state .life)) b
-
--- ---- a claim's state
-
--- 0 is the instance claim, any other number the host claim
-abbrev pub claimOf : State → ℕ → Claim
-claimOf s claim = cond (eqb claim 0) (s .life .instance) (s .life .host)
-
--- 0 waiting, 1 probing, 2 deferred, 3 held, 4 lost
-abbrev pub claimNumber : List ℕ → ℕ → ℕ
-claimNumber b claim = stateNumber (claimOf (decode b) claim)

@@ -1,12 +1,12 @@
 // The responder for C and Rust: start, packet received and tick on a state that the caller lends as 667 bytes (crate `codec`), with the answer in
-// numbers. include/kurgashel.h declares these functions.
+// numbers. What a state says is in `capi_state`. include/kurgashel.h declares these functions.
 ghost use mathlib.Core.Path.{_≡_};
 ghost use mathlib.Core.Bool.{false};
 ghost use lib.ListN.{length};
 ghost use Rattle.compose.specs.Own.{laidOver};
 ghost use Rattle.responder.specs.Calls.{refusalOf, lengthOf, receivedPacket, tickedPacket};
 ghost use Rattle.codec.specs.Codec.{decode};
-ghost use Rattle.capi.specs.Exported.{calledWith, setupFor, started, startedBytes, startedState, received, receivedBytes, ticked, tickedBytes, claimNumber};
+ghost use Rattle.capi.specs.Exported.{calledWith, setupFor, started, startedBytes, startedState, received, receivedBytes, ticked, tickedBytes};
 use records::Setup;
 use responder::Answer;
 
@@ -122,19 +122,4 @@ pub extern "C" fn kurgashel_tick(state: &mut [u8], time: u64, out: &mut [u8]) ->
     let life = after.life;
     codec::put_life(state, life);
     answered(answer, more)
-}
-
-// The state of a claim: 0 waiting, 1 probing, 2 deferred, 3 held, 4 lost; of the instance's where `claim` is 0, else of the host's.
-#[no_mangle]
-pub extern "C" fn kurgashel_claim(state: &[u8], claim: u8) -> u8
-    ensures { λ r. ⌜ r ≡ claimNumber (now (state .entry)) claim ⌝ }
-{
-    let read = codec::read_state(state);
-    let life = read.life;
-    if claim == 0 {
-        let instance = life.instance;
-        return claims::state_number(instance);
-    }
-    let host = life.host;
-    claims::state_number(host)
 }

@@ -18,6 +18,9 @@ use crate::query::{compose, Question};
 use crate::refusal::{text, Tally};
 use crate::stop;
 
+/// How long the browser waits for a packet before it looks at its schedule, in milliseconds.
+const TURN: u64 = 5;
+
 pub fn run(options: &Options) -> Result<End, Box<dyn Error>> {
     let interface = match options.interface {
         Some(interface) => interface,
@@ -65,7 +68,7 @@ impl Session<'_> {
 
     /// Waits a little for a packet and has the cache take it.
     fn hear(&mut self) -> Result<(), Box<dyn Error>> {
-        let Some(packet) = self.link.receive()? else {
+        let Some(packet) = self.link.receive(TURN)? else {
             return Ok(());
         };
         let (now, source) = (self.clock.now(), packet.source);

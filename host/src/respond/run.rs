@@ -75,10 +75,12 @@ impl Session {
         Ok(End::Stopped)
     }
 
-    /// Waits a little for a packet and has the library take it.
+    /// Waits for a packet, until a step is due, and has the library take it.
     fn hear(&mut self) -> Result<(), Box<dyn Error>> {
         let mut out = [0; OUT_BYTES];
-        let Some(packet) = self.link.receive()? else {
+        let due = self.responder.due().unwrap_or(u64::MAX);
+        let wait = due.saturating_sub(self.clock.now());
+        let Some(packet) = self.link.receive(wait)? else {
             return Ok(());
         };
         let draw = self.draws.within(&draw::REPLY)?;

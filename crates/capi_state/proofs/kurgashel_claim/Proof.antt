@@ -3,8 +3,8 @@ use Rattle.claims.specs.Claims.{stateNumber}
 use mathlib.Core.Path.{ap, _∙_}
 use borrow.Author.Tests.{eq-eqb, ne-eqb}
 use borrow.Author.Needs.{needs}
-use Rattle.capi.proofs.kurgashel_claim.Statement.{statement}
-use Rattle.capi.proofs.kurgashel_claim.Tie as tie
+use Rattle.capi_state.proofs.kurgashel_claim.Statement.{statement}
+use Rattle.capi_state.proofs.kurgashel_claim.Tie as tie
 
 read-state-requires : tie.Need-read-state-requires
 read-state-requires c κs = search needs

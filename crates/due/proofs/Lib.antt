@@ -1,0 +1,2 @@
+-- Waiting: what `next_due` promises a caller that waits.
+pub mod Waiting
