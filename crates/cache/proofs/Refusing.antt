@@ -1,58 +1,24 @@
--- The refusals, from what the code has tested. Assumes nothing.
-use mathlib.Core.Path.{_≡_, refl, sym, ap, subst, _∙_}
+-- The refusals of `take`, from what the code has tested. Assumes nothing.
+use mathlib.Core.Path.{_≡_, sym, ap, subst, _∙_}
 use mathlib.Core.List.{List, []}
-use mathlib.Core.Bool.{Bool, true, false, cond, not, _||_}
-use Prim.Native.Nat.{ℕ, _<_, _≤_, _^_}
+use mathlib.Core.Bool.{Bool, true, false, cond, _||_}
+use Prim.Native.Nat.{ℕ, _<_, _≤_}
 use native.Mathlib.Omega.{arith}
 use lib.ListN.{length}
 use lib.Dec.{ltb, eqb}
-use borrow.Author.Tests.{lt-ltb, le-ltb, eq-eqb, ne-eqb, ltb-false}
+use borrow.Author.Tests.{lt-ltb, le-ltb, eq-eqb, ne-eqb}
 use Rattle.octets.specs.Octets.{word16}
-use Rattle.names.specs.Names.{isName}
 use Rattle.wire.specs.Message.{Question, Record}
 use Rattle.wire.specs.Layout.{Listing, listing, cut, listFrom, questionAt, recordAt, Reads, read, refused, plainHeader, additionalsOf, authoritiesOf, answersOf, questionsOf, messageAt}
 use Rattle.wire.specs.declared.Layout.{Layout}
-use Rattle.entries.specs.Entries.{heardAhead, tooLong}
-use Rattle.entries.specs.Tables.{some}
-use Rattle.entries.specs.Cache.{Cache, atStart, entriesRefusal, storeRefusal, nameRefusal, readRefusal, messageRefusal, firstOf, takeRefusal, lookRefusal, takeRead, takeIn, lookIn}
+use Rattle.entries.specs.Cache.{Cache, atStart, entriesRefusal, storeRefusal, readRefusal, messageRefusal, firstOf, takeRefusal, takeRead, takeIn}
 use Rattle.entries.specs.declared.Entry.{Entry}
-use Rattle.entries.specs.declared.Slot.{Slot}
-use Rattle.entries.specs.declared.Slot.the-variants as s
+use Rattle.lookup.proofs.Refusing.{not-late, first-of, next-of, store-good, store-bad}
 use Rattle.cache.specs.Kept.{Read, Room, cacheOf}
-use Rattle.cache.specs.Answers.{takenOf, refusedWith, afterTake, lookedWith, lookedOf, lookedRefusal}
+use Rattle.cache.specs.Answers.{takenOf, refusedWith, afterTake}
 use Rattle.cache.specs.declared.AfterTake.{AfterTake}
 use Rattle.cache.specs.declared.Kept.{Kept}
 use Rattle.cache.specs.declared.Taken.the-variants as t
-use Rattle.cache.specs.declared.Looked.{Looked}
-use Rattle.cache.specs.declared.Looked.the-variants as l
-
--- the entries of a table
-module _ (now : ℕ) (es : List Entry) where
-  pub late : 2 ^ 62 < now → 1 ≡ entriesRefusal now es
-  unfolding entriesRefusal
-  late h = sym (simp (lt-ltb _ _ h))
-
-  pub ahead : now ≤ 2 ^ 62 → some (heardAhead now) es ≡ true → 1 ≡ entriesRefusal now es
-  unfolding entriesRefusal
-  ahead h a = sym (simp (le-ltb _ _ h, a))
-
-  module _ (h : now ≤ 2 ^ 62) (a : some (heardAhead now) es ≡ false) (n : length es ≡ 64) where
-    pub long : some tooLong es ≡ true → 8 ≡ entriesRefusal now es
-    unfolding entriesRefusal
-    long l = sym (simp (le-ltb _ _ h, a, eq-eqb _ _ n, l))
-
-    pub passes : some tooLong es ≡ false → 0 ≡ entriesRefusal now es
-    unfolding entriesRefusal
-    passes l = sym (simp (le-ltb _ _ h, a, eq-eqb _ _ n, l))
-
-  -- a time that was not refused
-  pub not-late : entriesRefusal now es ≡ 0 → now ≤ 2 ^ 62
-  unfolding entriesRefusal
-  not-late e = go (ltb (2 ^ 62) now) refl e
-    where
-      go : (b : Bool) → ltb (2 ^ 62) now ≡ b → _≡_ {A = ℕ} (cond (b || some (heardAhead now) es) 1 (cond (not (eqb (length es) 64) || some tooLong es) 8 0)) 0 → now ≤ 2 ^ 62
-      go true h k = absurd (omega arith)
-      go false h k = ltb-false (2 ^ 62) now h
 
 -- a message that is refused has a number
 Numbered : Reads → Type 0
@@ -93,21 +59,6 @@ module _ (p : List ℕ) where
   pub not-zero : (n : ℕ) → messageAt p ≡ refused n → n ≡ 0 → ⊥
   unfolding Numbered
   not-zero n h = subst Numbered h numbered
-
--- the first of two numbers that is not 0
-first-of : (a b : ℕ) → (a ≡ 0 → ⊥) → firstOf a b ≡ a
-first-of a b z = simp (ne-eqb a 0 z)
-
-next-of : (a b : ℕ) → a ≡ 0 → firstOf a b ≡ b
-next-of a b z = simp (eq-eqb a 0 z)
-
-store-good : (store : List ℕ) → length store ≡ 65536 → storeRefusal store ≡ 0
-unfolding storeRefusal
-store-good store h = simp (eq-eqb _ _ h)
-
-store-bad : (store : List ℕ) → (length store ≡ 65536 → ⊥) → storeRefusal store ≡ 8
-unfolding storeRefusal
-store-bad store h = simp (ne-eqb _ _ h)
 
 -- the message
 module _ (port : ℕ) (p : List ℕ) where
@@ -193,37 +144,3 @@ module _ (now : ℕ) (es : List Entry) (store : List ℕ) (port : ℕ) (p : List
 -- what the rules rest on holds where nothing is refused
 pub has-room : (now : ℕ) (es : List Entry) (store : List ℕ) → 0 ≡ entriesRefusal now es → length store ≡ 65536 → Room now store [] 0 0
 has-room now es store h n = record { early = not-late now es (sym h); slots = n; short = omega arith; away = omega arith; over = omega arith }
-
--- the refusals of a lookup
-module _ (n : ℕ) (store name : List ℕ) where
-  pub look-entries : (n ≡ 0 → ⊥) → n ≡ lookedRefusal n store name
-  look-entries z = sym (first-of n (firstOf (storeRefusal store) (nameRefusal name)) z)
-
-  pub look-store : n ≡ 0 → (length store ≡ 65536 → ⊥) → 8 ≡ lookedRefusal n store name
-  look-store z h = sym (next-of n (firstOf (storeRefusal store) (nameRefusal name)) z ∙ ap (λ (k : ℕ). firstOf k (nameRefusal name)) (store-bad store h))
-
-  pub look-name : n ≡ 0 → length store ≡ 65536 → isName name ≡ false → 6 ≡ lookedRefusal n store name
-  unfolding nameRefusal
-  look-name z h k = sym (next-of n (firstOf (storeRefusal store) (nameRefusal name)) z ∙ ap (λ (k : ℕ). firstOf k (nameRefusal name)) (store-good store h) ∙ simp k)
-
-  pub look-passes : n ≡ 0 → length store ≡ 65536 → isName name ≡ true → 0 ≡ lookedRefusal n store name
-  unfolding nameRefusal
-  look-passes z h k = sym (next-of n (firstOf (storeRefusal store) (nameRefusal name)) z ∙ ap (λ (k : ℕ). firstOf k (nameRefusal name)) (store-good store h) ∙ simp k)
-
--- the answer of a lookup
-module _ (now : ℕ) (es : List Entry) (store name : List ℕ) (rtype from m : ℕ) (early : m ≡ entriesRefusal now es) (n : ℕ) (is : n ≡ lookedRefusal m store name) where
-  number : n ≡ lookRefusal now es store name
-  unfolding lookRefusal
-  number = is ∙ ap (λ (k : ℕ). lookedRefusal k store name) early
-
-  pub look-refused : (n ≡ 0 → ⊥) → l.Refused n ≡ lookedOf now es store name rtype from
-  unfolding lookedOf
-  look-refused z = go (lookIn now es store name rtype from) ∙ ap (λ (k : ℕ). lookedWith k (lookIn now es store name rtype from)) number
-    where
-      go : (x : Slot) → l.Refused n ≡ lookedWith n x
-      go (s.At i) = sym (simp (ne-eqb n 0 z))
-      go s.Nowhere = sym (simp (ne-eqb n 0 z))
-
-  pub look-slot : n ≡ 0 → (x : Slot) → x ≡ lookIn now es store name rtype from → (r : Looked) → r ≡ lookedWith 0 x → r ≡ lookedOf now es store name rtype from
-  unfolding lookedOf
-  look-slot z x h r k = k ∙ ap (λ (m : ℕ). lookedWith m x) (sym z ∙ number) ∙ ap (lookedWith (lookRefusal now es store name)) h

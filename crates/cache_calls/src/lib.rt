@@ -1,12 +1,12 @@
 // The console's calls on the cache: `put NOW PORT PACKET`, `look NOW NAME TYPE FROM`, `slot K` and `clear`. The table goes by value, its byte store
 // is lent. What is written no contract can say: these functions are proved safe and ending.
 use cache::Counts;
-use cache::Looked;
 use cache::Taken;
 use entries::Entry;
 use fields::is_number;
 use fields::number;
 use fields::number_of_16;
+use lookup::Looked;
 use output::bad_line;
 use output::bytes;
 use output::finish;
@@ -145,7 +145,7 @@ fn look(line: &[u8], es: [Entry; 64], store: &[u8], text: &mut [u8; 4096]) {
     let mut name = [0u8; 20000];
     let n = hex::fill(lines::field(line, 2), &mut name);
     let rtype = number_of_16(line, 3);
-    let answer = cache::look_by_value(es, store, time, lines::front(&name, n), rtype, from(line));
+    let answer = lookup::look_by_value(es, store, time, lines::front(&name, n), rtype, from(line));
     looked(answer, es, store, text)
 }
 

@@ -42,12 +42,12 @@ use Rattle.entries.specs.Entries.{liveOf}
 use Rattle.entries.specs.Cache.{entriesRefusal}
 use Rattle.entries.proofs.Entry as T
 use Rattle.entries.proofs.Entry.Laws as T′
-use Rattle.cache.specs.Answers.{lookedRefusal}
+use Rattle.lookup.specs.Answers.{lookedRefusal}
 use Rattle.table.proofs.Calls.{R, at, shr-part}
 use Rattle.table.proofs.table_refusal as table-refusal
 use Rattle.table.proofs.table_refusal.Symbol.{name as #table-refusal}
-use Rattle.cache.proofs.look_refusal as look-refusal
-use Rattle.cache.proofs.look_refusal.Symbol.{name as #look-refusal}
+use Rattle.lookup.proofs.look_refusal as look-refusal
+use Rattle.lookup.proofs.look_refusal.Symbol.{name as #look-refusal}
 use Rattle.entries.proofs.is_live_of as is-live-of
 use Rattle.entries.proofs.is_live_of.Symbol.{name as #is-live-of}
 

@@ -24,16 +24,15 @@ use denote.Triple.Spec.{tripleOf}
 use Rattle.entries.specs.declared.Entry.{Entry}
 use Rattle.entries.proofs.Entry as T
 use Rattle.entries.proofs.Entry.Laws as T′
-use Rattle.cache.specs.Answers.{takenNumbers}
+use Rattle.lookup.specs.declared.LookedNumbers.{LookedNumbers}
+use Rattle.lookup.proofs.LookedNumbers as LN
 use Rattle.cache.specs.declared.AfterTake.{AfterTake}
-use Rattle.cache.specs.declared.LookedNumbers.{LookedNumbers}
-use Rattle.cache.specs.declared.TakenNumbers.{TakenNumbers}
 use Rattle.cache.proofs.AfterTake as AT
 use Rattle.cache.proofs.AfterTake.Laws as AT′
-use Rattle.cache.proofs.LookedNumbers as LN
-use Rattle.cache.proofs.TakenNumbers as TN
 use Rattle.table.specs.Refusals.{lateness, worse, ended}
-use Rattle.table.specs.Numbers.{refusedLook, foundLook, nothingLook, refusedTake}
+use Rattle.table.specs.Numbers.{refusedLook, foundLook, nothingLook, refusedTake, takenNumbers}
+use Rattle.table.specs.declared.TakenNumbers.{TakenNumbers}
+use Rattle.table.proofs.TakenNumbers as TN
 use Rattle.table.proofs.Calls.{R}
 use Rattle.table.proofs.ByValue.{Es}
 use Rattle.table.proofs.late as late

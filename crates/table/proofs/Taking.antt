@@ -11,8 +11,8 @@ use Rattle.wire.specs.Layout.{Reads, read, refused, messageAt}
 use Rattle.entries.specs.Cache.{Cache, atStart, entriesRefusal, takeRecords, takeMessage, takeRead, takeRefusal, takeIn}
 use Rattle.entries.specs.declared.Entry.{Entry}
 use Rattle.entries.proofs.Shape.{records-shape}
-use Rattle.cache.specs.Answers.{takenWith, takenOf, afterTake, takenNumbers}
-use Rattle.table.specs.Numbers.{refusedTake}
+use Rattle.cache.specs.Answers.{takenWith, takenOf, afterTake}
+use Rattle.table.specs.Numbers.{refusedTake, takenNumbers}
 
 module _ (now : ℕ) (es : List Entry) (store : List ℕ) (port : ℕ) (p : List ℕ) where
   pub lengths : (length (takeIn now es store port p .entries) ≡ length es) × (length (takeIn now es store port p .store) ≡ length store)

@@ -5,11 +5,13 @@ use mathlib.Core.List.{List}
 use Prim.Native.Nat.{ℕ}
 use Rattle.entries.specs.Cache.{takeIn}
 use Rattle.entries.specs.declared.Entry.{Entry}
-use Rattle.cache.specs.Answers.{takenOf, afterTake, takenNumbers, lookedOf, lookedNumbers}
+use Rattle.lookup.specs.Answers.{lookedOf, lookedNumbers}
+use Rattle.lookup.specs.declared.Looked.{Looked}
+use Rattle.lookup.specs.declared.LookedNumbers.{LookedNumbers}
+use Rattle.cache.specs.Answers.{takenOf, afterTake}
 use Rattle.cache.specs.declared.AfterTake.{AfterTake}
-use Rattle.cache.specs.declared.Looked.{Looked}
-use Rattle.cache.specs.declared.LookedNumbers.{LookedNumbers}
-use Rattle.cache.specs.declared.TakenNumbers.{TakenNumbers}
+use Rattle.table.specs.Numbers.{takenNumbers}
+use Rattle.table.specs.declared.TakenNumbers.{TakenNumbers}
 
 -- what `cache::take_by_value` ensures of its result and of the store at exit, and `table::kurgashel_cache_take` of its result, the table and the store at exit
 abbrev pub ByValue : ℕ → List Entry → List ℕ → ℕ → List ℕ → AfterTake → List ℕ → Type 0
@@ -27,7 +29,7 @@ takes-agree now es store port p r bytes lent table last v l = (
   (l .1 .0 ∙ sym (ap (λ (x : AfterTake). x .entries) (v .0)), l .1 .1 ∙ sym (v .1)),
 )
 
--- the same for `cache::look_by_value` and `table::kurgashel_cache_look_up`
+-- the same for `lookup::look_by_value` and `table::kurgashel_cache_look_up`
 pub looks-agree : (now : ℕ) (es : List Entry) (store name : List ℕ) (rtype from : ℕ) (r : Looked) (lent : LookedNumbers)
     → r ≡ lookedOf now es store name rtype from → lent ≡ lookedNumbers (lookedOf now es store name rtype from) → lent ≡ lookedNumbers r
 looks-agree now es store name rtype from r lent v l = l ∙ sym (ap lookedNumbers v)

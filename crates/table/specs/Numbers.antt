@@ -1,9 +1,30 @@
--- The answers in numbers, case by case. Assumes nothing: these are definitions.
+-- The answers in numbers: paper 01's number and values for each case ('The cache'). Assumes nothing: these are definitions.
 use Prim.Native.Nat.{ℕ}
 use mathlib.Core.Bool.{true, false}
-use Rattle.cache.specs.declared.TakenNumbers.{TakenNumbers}
-use Rattle.cache.specs.declared.LookedNumbers.{LookedNumbers}
+use Rattle.lookup.specs.declared.LookedNumbers.{LookedNumbers}
+use Rattle.cache.specs.declared.Taken.{Taken}
+use Rattle.cache.specs.declared.Taken.the-variants as t
+use Rattle.table.specs.declared.TakenNumbers.{TakenNumbers}
 
+-- 01's number for each answer of `take`: 0 where nothing is refused
+abbrev pub takenNumber : Taken → ℕ
+takenNumber (t.Refused number) = number
+takenNumber (t.Accepted c) = 0
+
+-- 01's values: the two counts, of an answer without them 0
+abbrev pub turnedAway : Taken → ℕ
+turnedAway (t.Refused number) = 0
+turnedAway (t.Accepted c) = c .turned
+
+abbrev pub passedOver : Taken → ℕ
+passedOver (t.Refused number) = 0
+passedOver (t.Accepted c) = c .passed
+
+-- the number and the values of an answer together
+abbrev pub takenNumbers : Taken → TakenNumbers
+takenNumbers answer = record { refusal = takenNumber answer; turned = turnedAway answer; passed = passedOver answer }
+
+-- the answers of `take` and of a lookup, case by case
 abbrev pub refusedTake : ℕ → TakenNumbers
 refusedTake number = record { refusal = number; turned = 0; passed = 0 }
 

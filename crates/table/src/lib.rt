@@ -5,13 +5,22 @@ ghost use Prim.Native.Nat.{_<_};
 ghost use lib.ListN.{length, replicate, set, getD};
 ghost use Rattle.entries.specs.Entries.{blank};
 ghost use Rattle.entries.specs.Cache.{entriesRefusal, takeIn};
-ghost use Rattle.cache.specs.Answers.{takenOf, lookedOf, takenNumbers, lookedNumbers};
+ghost use Rattle.lookup.specs.Answers.{lookedOf, lookedNumbers};
+ghost use Rattle.cache.specs.Answers.{takenOf};
 ghost use Rattle.table.specs.Refusals.{lateness, worse, ended};
-ghost use Rattle.table.specs.Numbers.{refusedLook, foundLook, nothingLook, refusedTake};
+ghost use Rattle.table.specs.Numbers.{refusedLook, foundLook, nothingLook, refusedTake, takenNumbers};
 use cache::AfterTake;
-use cache::LookedNumbers;
-use cache::TakenNumbers;
+use cache::Taken;
 use entries::Entry;
+use lookup::LookedNumbers;
+
+// What taking a message answers in numbers, for callers in other languages.
+#[repr(C)]
+pub struct TakenNumbers {
+    pub refusal: u8,
+    pub turned: u32,
+    pub passed: u32,
+}
 
 // How many entries the table has.
 fn entry_count(table: &[Entry]) -> usize
@@ -98,7 +107,7 @@ fn store_all(table: &mut [Entry], es: [Entry; 64])
 fn late(time: u64) -> u8
     ensures { λ r. ⌜ r ≡ lateness time ⌝ }
 {
-    if cache::LATEST < time {
+    if lookup::LATEST < time {
         return 1;
     }
     0
@@ -194,6 +203,24 @@ fn refused_take(refusal: u8) -> TakenNumbers
     }
 }
 
+// An answer of `take` in numbers: paper 01's refusal number, or 0, and the counts.
+fn taken_numbers(answer: Taken) -> TakenNumbers
+    ensures { λ r. ⌜ r ≡ takenNumbers answer ⌝ }
+{
+    match answer {
+        Taken::Refused(refusal) => TakenNumbers {
+            refusal,
+            turned: 0,
+            passed: 0,
+        },
+        Taken::Accepted(counts) => TakenNumbers {
+            refusal: 0,
+            turned: counts.turned,
+            passed: counts.passed,
+        },
+    }
+}
+
 // The table of what taking a message gave, and its answer in numbers.
 fn entries_of(after: AfterTake) -> [Entry; 64]
     ensures { λ r. ⌜ r ≡ after .entries ⌝ }
@@ -205,7 +232,7 @@ fn numbers_of(after: AfterTake) -> TakenNumbers
     ensures { λ r. ⌜ r ≡ takenNumbers (after .answer) ⌝ }
 {
     let answer = after.answer;
-    cache::taken_numbers(answer)
+    taken_numbers(answer)
 }
 
 // Looks a name and a type up in a lent table, in place: the lowest live match from a slot on. Nothing is written.
@@ -220,7 +247,7 @@ pub extern "C" fn kurgashel_cache_look_up(
 ) -> LookedNumbers
     ensures { λ r. ⌜ r ≡ lookedNumbers (lookedOf time (now (table .entry)) (now (store .entry)) (now (name .entry)) rtype from) ⌝ }
 {
-    let refusal = cache::look_refusal(table_refusal(table, time), store, name);
+    let refusal = lookup::look_refusal(table_refusal(table, time), store, name);
     if refusal != 0 {
         return refused_look(refusal);
     }

@@ -48,10 +48,10 @@ use Rattle.entries.specs.Entries.{blank, liveOf}
 use Rattle.entries.specs.Cache.{entriesRefusal}
 use Rattle.entries.proofs.Entry as E
 use Rattle.entries.proofs.Entry.Laws as E′
-use Rattle.cache.specs.Answers.{lookedOf, lookedRefusal, lookedNumbers}
-use Rattle.cache.specs.declared.LookedNumbers.{LookedNumbers}
-use Rattle.cache.proofs.LookedNumbers as LN
-use Rattle.cache.proofs.LookedNumbers.Laws as LN′
+use Rattle.lookup.specs.Answers.{lookedOf, lookedRefusal, lookedNumbers}
+use Rattle.lookup.specs.declared.LookedNumbers.{LookedNumbers}
+use Rattle.lookup.proofs.LookedNumbers as LN
+use Rattle.lookup.proofs.LookedNumbers.Laws as LN′
 use Rattle.table.specs.Numbers.{refusedLook, foundLook, nothingLook}
 use Rattle.table.proofs.Scan.{entries-fits}
 use Rattle.table.proofs.Looking.{refusal-fits, is-refused, is-found, is-nothing, Searched, search-start, search-here, search-on, search-end}
@@ -67,9 +67,9 @@ use Rattle.table.proofs.entry_at.Met as entry-at-thm
 use Rattle.table.proofs.table_refusal.Symbol as table-refusal-def
 use Rattle.table.proofs.table_refusal.Symbol.{name as #table-refusal}
 use Rattle.table.proofs.table_refusal.Met as table-refusal-thm
-use Rattle.cache.proofs.look_refusal.Symbol as look-refusal-def
-use Rattle.cache.proofs.look_refusal.Symbol.{name as #look-refusal}
-use Rattle.cache.proofs.look_refusal.Met as look-refusal-thm
+use Rattle.lookup.proofs.look_refusal.Symbol as look-refusal-def
+use Rattle.lookup.proofs.look_refusal.Symbol.{name as #look-refusal}
+use Rattle.lookup.proofs.look_refusal.Met as look-refusal-thm
 use Rattle.entries.proofs.is_live_of.Symbol as is-live-of-def
 use Rattle.entries.proofs.is_live_of.Symbol.{name as #is-live-of}
 use Rattle.entries.proofs.is_live_of.Met as is-live-of-thm
@@ -331,7 +331,7 @@ kurgashel-cache-look-up-spec 𝓤 H 𝓜 𝓖 𝓡 =
     (cited 𝓤 H (EntryCount 𝓤 H (𝓖 .A) (𝓜 .mem) (𝓡 .run)) 𝓜 𝓡 code.env #entry-count entry-count-def.routine code.calls-table·entry-count (entry-count-thm.met 𝓤 H 𝓜 𝓖 𝓡))
     (cited 𝓤 H (EntryAt 𝓤 H (𝓖 .A) (𝓜 .mem) (𝓡 .run)) 𝓜 𝓡 code.env #entry-at entry-at-def.routine code.calls-table·entry-at (entry-at-thm.met 𝓤 H 𝓜 𝓖 𝓡))
     (cited 𝓤 H (TableRefusal 𝓤 H (𝓖 .A) (𝓜 .mem) (𝓡 .run)) 𝓜 𝓡 code.env #table-refusal table-refusal-def.routine code.calls-table·table-refusal (table-refusal-thm.met 𝓤 H 𝓜 𝓖 𝓡))
-    (cited 𝓤 H (LookRefusal 𝓤 H (𝓖 .A) (𝓜 .mem) (𝓡 .run)) 𝓜 𝓡 code.env #look-refusal look-refusal-def.routine code.calls-cache·look-refusal (look-refusal-thm.met 𝓤 H 𝓜 𝓖 𝓡))
+    (cited 𝓤 H (LookRefusal 𝓤 H (𝓖 .A) (𝓜 .mem) (𝓡 .run)) 𝓜 𝓡 code.env #look-refusal look-refusal-def.routine code.calls-lookup·look-refusal (look-refusal-thm.met 𝓤 H 𝓜 𝓖 𝓡))
     (cited 𝓤 H (IsLiveOf 𝓤 H (𝓖 .A) (𝓜 .mem) (𝓡 .run)) 𝓜 𝓡 code.env #is-live-of is-live-of-def.routine code.calls-entries·is-live-of (is-live-of-thm.met 𝓤 H 𝓜 𝓖 𝓡))
     (cited 𝓤 H (RefusedLook 𝓤 H (𝓖 .A) (givenOf 𝓤 H 𝓜 𝓖) (𝓜 .mem) (𝓡 .run)) 𝓜 𝓡 code.env #refused-look refused-look-def.routine code.calls-table·refused-look (refused-look-thm.met 𝓤 H 𝓜 𝓖 𝓡))
     (cited 𝓤 H (FoundLook 𝓤 H (𝓖 .A) (givenOf 𝓤 H 𝓜 𝓖) (𝓜 .mem) (𝓡 .run)) 𝓜 𝓡 code.env #found-look found-look-def.routine code.calls-table·found-look (found-look-thm.met 𝓤 H 𝓜 𝓖 𝓡))

@@ -51,14 +51,14 @@ use Rattle.entries.specs.declared.Entry.{Entry}
 use Rattle.entries.specs.Cache.{entriesRefusal, takeIn}
 use Rattle.entries.proofs.Entry as E
 use Rattle.entries.proofs.Entry.Laws as E′
-use Rattle.cache.specs.Answers.{takenOf, afterTake, takenNumbers}
+use Rattle.cache.specs.Answers.{takenOf, afterTake}
 use Rattle.cache.specs.declared.AfterTake.{AfterTake}
-use Rattle.cache.specs.declared.TakenNumbers.{TakenNumbers}
 use Rattle.cache.proofs.AfterTake as AT
 use Rattle.cache.proofs.AfterTake.Laws as AT′
-use Rattle.cache.proofs.TakenNumbers as TN
-use Rattle.cache.proofs.TakenNumbers.Laws as TN′
-use Rattle.table.specs.Numbers.{refusedTake}
+use Rattle.table.specs.Numbers.{refusedTake, takenNumbers}
+use Rattle.table.specs.declared.TakenNumbers.{TakenNumbers}
+use Rattle.table.proofs.TakenNumbers as TN
+use Rattle.table.proofs.TakenNumbers.Laws as TN′
 use Rattle.table.proofs.Scan.{entries-fits, has-64}
 use Rattle.table.proofs.Taking.{lengths, after-entries, after-answer, is-refused}
 use Rattle.table.proofs.Calls.{R, at, calls-plain}

@@ -1,10 +1,10 @@
--- `cache::entries_refusal` meets its contract. Assumes nothing.
+-- `lookup::entries_refusal` meets its contract. Assumes nothing.
 use mathlib.Core.Path.{sym, _∙_}
 use native.Mathlib.Omega.{arith}
-use Rattle.cache.proofs.Refusing.{late, ahead, long, passes}
+use Rattle.lookup.proofs.Refusing.{late, ahead, long, passes}
 use borrow.Author.Needs.{needs}
-use Rattle.cache.proofs.entries_refusal.Statement.{statement}
-use Rattle.cache.proofs.entries_refusal.Tie as tie
+use Rattle.lookup.proofs.entries_refusal.Statement.{statement}
+use Rattle.lookup.proofs.entries_refusal.Tie as tie
 
 returns : tie.Need-returns
 returns c = late _ _ (omega arith)

@@ -1,9 +1,9 @@
--- `cache::taken_numbers` meets its contract. Assumes nothing.
+-- `table::taken_numbers` meets its contract. Assumes nothing.
 use mathlib.Core.Path.{sym, ap}
-use Rattle.cache.specs.Answers.{takenNumbers}
+use Rattle.table.specs.Numbers.{takenNumbers}
 use borrow.Author.Needs.{needs}
-use Rattle.cache.proofs.taken_numbers.Statement.{statement}
-use Rattle.cache.proofs.taken_numbers.Tie as tie
+use Rattle.table.proofs.taken_numbers.Statement.{statement}
+use Rattle.table.proofs.taken_numbers.Tie as tie
 
 enum-known-answer : tie.Need-enum-known-answer
 enum-known-answer c = search needs

@@ -1,11 +1,11 @@
--- `cache::look_refusal` meets its contract. Assumes nothing.
+-- `lookup::look_refusal` meets its contract. Assumes nothing.
 use mathlib.Core.Path.{sym, _∙_}
 use native.Mathlib.Omega.{arith}
 use borrow.Author.Tests.{not-true, not-false}
-use Rattle.cache.proofs.Refusing.{look-entries, look-store, look-name, look-passes}
+use Rattle.lookup.proofs.Looking.{look-entries, look-store, look-name, look-passes}
 use borrow.Author.Needs.{needs}
-use Rattle.cache.proofs.look_refusal.Statement.{statement}
-use Rattle.cache.proofs.look_refusal.Tie as tie
+use Rattle.lookup.proofs.look_refusal.Statement.{statement}
+use Rattle.lookup.proofs.look_refusal.Tie as tie
 
 returns : tie.Need-returns
 returns c = look-entries (c .before .before .before .args .entries) (c .before .before .before .args .store .now) (c .before .before .before .args .name .now) (omega arith)

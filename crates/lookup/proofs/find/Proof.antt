@@ -1,4 +1,4 @@
--- `cache::find` meets its contract. Assumes nothing.
+-- `lookup::find` meets its contract. Assumes nothing.
 use Rattle.entries.proofs.Searches.{from-slot}
 use borrow.Author.Needs.{needs}
 use mathlib.Core.Path.{_≡_, sym, _∙_}
@@ -9,8 +9,8 @@ use Rattle.entries.specs.Entries.{matches}
 use Rattle.entries.specs.Tables.{lowest}
 use Rattle.entries.proofs.Searches.{lowest-here, lowest-on, lowest-end}
 use Rattle.entries.proofs.Single.{match-from}
-use Rattle.cache.proofs.find.Statement.{statement}
-use Rattle.cache.proofs.find.Tie as tie
+use Rattle.lookup.proofs.find.Statement.{statement}
+use Rattle.lookup.proofs.find.Tie as tie
 
 abbrev Inv-loop : tie.InvT-loop
 Inv-loop store time name rtype from es i₀ i = (length es ≡ 64) × (from ≤ i) × (lowest (matches time store name rtype from) 0 es ≡ lowest (matches time store name rtype from) i (drop i es))

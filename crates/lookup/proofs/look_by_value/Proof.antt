@@ -1,12 +1,12 @@
--- `cache::look_by_value` meets its contract. Assumes nothing.
+-- `lookup::look_by_value` meets its contract. Assumes nothing.
 use mathlib.Core.Path.{sym, ap}
 use native.Mathlib.Omega.{arith}
 use Rattle.entries.specs.Cache.{lookIn}
-use Rattle.cache.specs.Answers.{lookedWith}
-use Rattle.cache.proofs.Refusing.{look-refused, look-slot}
+use Rattle.lookup.specs.Answers.{lookedWith}
+use Rattle.lookup.proofs.Looking.{look-refused, look-slot}
 use borrow.Author.Needs.{needs}
-use Rattle.cache.proofs.look_by_value.Statement.{statement}
-use Rattle.cache.proofs.look_by_value.Tie as tie
+use Rattle.lookup.proofs.look_by_value.Statement.{statement}
+use Rattle.lookup.proofs.look_by_value.Tie as tie
 
 entries-refusal-requires : tie.Need-entries-refusal-requires
 entries-refusal-requires c κs = search needs

@@ -1,9 +1,9 @@
--- `cache::looked_numbers` meets its contract. Assumes nothing.
+-- `lookup::looked_numbers` meets its contract. Assumes nothing.
 use mathlib.Core.Path.{sym, ap}
-use Rattle.cache.specs.Answers.{lookedNumbers}
+use Rattle.lookup.specs.Answers.{lookedNumbers}
 use borrow.Author.Needs.{needs}
-use Rattle.cache.proofs.looked_numbers.Statement.{statement}
-use Rattle.cache.proofs.looked_numbers.Tie as tie
+use Rattle.lookup.proofs.looked_numbers.Statement.{statement}
+use Rattle.lookup.proofs.looked_numbers.Tie as tie
 
 enum-known-answer : tie.Need-enum-known-answer
 enum-known-answer c = search needs

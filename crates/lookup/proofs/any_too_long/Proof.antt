@@ -1,4 +1,4 @@
--- `cache::any_too_long` meets its contract. Assumes nothing.
+-- `lookup::any_too_long` meets its contract. Assumes nothing.
 use borrow.Author.Needs.{needs}
 use mathlib.Core.Path.{_≡_, sym, _∙_}
 use Prim.Native.Nat.{_≤_, _-_}
@@ -7,8 +7,8 @@ use lib.ListN.{length, drop}
 use Rattle.entries.specs.Entries.{tooLong}
 use Rattle.entries.specs.Tables.{some}
 use Rattle.entries.proofs.Searches.{some-here, some-on, some-end}
-use Rattle.cache.proofs.any_too_long.Statement.{statement}
-use Rattle.cache.proofs.any_too_long.Tie as tie
+use Rattle.lookup.proofs.any_too_long.Statement.{statement}
+use Rattle.lookup.proofs.any_too_long.Tie as tie
 
 abbrev Inv-loop : tie.InvT-loop
 Inv-loop es i₀ i = (length es ≡ 64) × (i ≤ 64) × (some (tooLong) es ≡ some (tooLong) (drop i es))
