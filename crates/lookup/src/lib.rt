@@ -4,7 +4,7 @@ ghost use lib.ListN.{length};
 ghost use Rattle.entries.specs.Entries.{matches, heardAhead, tooLong};
 ghost use Rattle.entries.specs.Tables.{lowest, some};
 ghost use Rattle.entries.specs.Cache.{entriesRefusal};
-ghost use Rattle.lookup.specs.Answers.{lookedRefusal, lookedOf, lookedNumbers};
+ghost use Rattle.lookup.specs.Answers.{lookedRefusal, lookedOf};
 use entries::Entry;
 use entries::Slot;
 
@@ -19,14 +19,6 @@ pub enum Looked {
     Refused(u8),
     Found(usize),
     Nothing,
-}
-
-// The answer in numbers, for callers in other languages.
-#[repr(C)]
-pub struct LookedNumbers {
-    pub refusal: u8,
-    pub found: bool,
-    pub slot: usize,
 }
 
 // Whether an entry was received after now.
@@ -124,28 +116,5 @@ pub fn look_by_value(
     match find(es, store, time, name, rtype, from) {
         Slot::At(i) => Looked::Found(i),
         Slot::Nowhere => Looked::Nothing,
-    }
-}
-
-// An answer of a lookup in numbers: paper 01's refusal number, or 0, and the slot, if one was found.
-pub fn looked_numbers(answer: Looked) -> LookedNumbers
-    ensures { λ r. ⌜ r ≡ lookedNumbers answer ⌝ }
-{
-    match answer {
-        Looked::Refused(refusal) => LookedNumbers {
-            refusal,
-            found: false,
-            slot: 0,
-        },
-        Looked::Found(slot) => LookedNumbers {
-            refusal: 0,
-            found: true,
-            slot,
-        },
-        Looked::Nothing => LookedNumbers {
-            refusal: 0,
-            found: false,
-            slot: 0,
-        },
     }
 }

@@ -16,8 +16,8 @@ use Rattle.entries.specs.declared.Slot.{Slot}
 use Rattle.entries.specs.declared.Slot.the-variants.{At, Nowhere}
 use Rattle.entries.proofs.Searches.{lowest-here, lowest-on, lowest-end, from-slot}
 use Rattle.entries.proofs.Single.{match-from}
-use Rattle.lookup.specs.Answers.{lookedWith, lookedOf, lookedRefusal, lookedNumbers}
-use Rattle.table.specs.Numbers.{refusedLook, foundLook, nothingLook}
+use Rattle.lookup.specs.Answers.{lookedWith, lookedOf, lookedRefusal}
+use Rattle.table.specs.Numbers.{lookedNumbers, refusedLook, foundLook, nothingLook}
 use Rattle.table.proofs.Scan.{entries-fits}
 
 -- the number fits a byte

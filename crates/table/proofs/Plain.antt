@@ -24,8 +24,8 @@ use denote.Triple.Spec.{tripleOf}
 use Rattle.entries.specs.declared.Entry.{Entry}
 use Rattle.entries.proofs.Entry as T
 use Rattle.entries.proofs.Entry.Laws as T′
-use Rattle.lookup.specs.declared.LookedNumbers.{LookedNumbers}
-use Rattle.lookup.proofs.LookedNumbers as LN
+use Rattle.table.specs.declared.LookedNumbers.{LookedNumbers}
+use Rattle.table.proofs.LookedNumbers as LN
 use Rattle.cache.specs.declared.AfterTake.{AfterTake}
 use Rattle.cache.proofs.AfterTake as AT
 use Rattle.cache.proofs.AfterTake.Laws as AT′

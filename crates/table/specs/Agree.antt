@@ -5,12 +5,12 @@ use mathlib.Core.List.{List}
 use Prim.Native.Nat.{ℕ}
 use Rattle.entries.specs.Cache.{takeIn}
 use Rattle.entries.specs.declared.Entry.{Entry}
-use Rattle.lookup.specs.Answers.{lookedOf, lookedNumbers}
+use Rattle.lookup.specs.Answers.{lookedOf}
 use Rattle.lookup.specs.declared.Looked.{Looked}
-use Rattle.lookup.specs.declared.LookedNumbers.{LookedNumbers}
+use Rattle.table.specs.declared.LookedNumbers.{LookedNumbers}
 use Rattle.cache.specs.Answers.{takenOf, afterTake}
 use Rattle.cache.specs.declared.AfterTake.{AfterTake}
-use Rattle.table.specs.Numbers.{takenNumbers}
+use Rattle.table.specs.Numbers.{takenNumbers, lookedNumbers}
 use Rattle.table.specs.declared.TakenNumbers.{TakenNumbers}
 
 -- what `cache::take_by_value` ensures of its result and of the store at exit, and `table::kurgashel_cache_take` of its result, the table and the store at exit

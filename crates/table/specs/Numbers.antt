@@ -1,10 +1,12 @@
 -- The answers in numbers: paper 01's number and values for each case ('The cache'). Assumes nothing: these are definitions.
 use Prim.Native.Nat.{ℕ}
-use mathlib.Core.Bool.{true, false}
-use Rattle.lookup.specs.declared.LookedNumbers.{LookedNumbers}
+use mathlib.Core.Bool.{Bool, true, false}
+use Rattle.lookup.specs.declared.Looked.{Looked}
+use Rattle.lookup.specs.declared.Looked.the-variants as l
 use Rattle.cache.specs.declared.Taken.{Taken}
 use Rattle.cache.specs.declared.Taken.the-variants as t
 use Rattle.table.specs.declared.TakenNumbers.{TakenNumbers}
+use Rattle.table.specs.declared.LookedNumbers.{LookedNumbers}
 
 -- 01's number for each answer of `take`: 0 where nothing is refused
 abbrev pub takenNumber : Taken → ℕ
@@ -23,6 +25,27 @@ passedOver (t.Accepted c) = c .passed
 -- the number and the values of an answer together
 abbrev pub takenNumbers : Taken → TakenNumbers
 takenNumbers answer = record { refusal = takenNumber answer; turned = turnedAway answer; passed = passedOver answer }
+
+-- 01's number for each answer of a lookup: 0 where nothing is refused
+abbrev pub lookedNumber : Looked → ℕ
+lookedNumber (l.Refused number) = number
+lookedNumber (l.Found i) = 0
+lookedNumber l.Nothing = 0
+
+-- 01's values: whether a slot was found, and the slot, of an answer without it 0
+abbrev pub isFound : Looked → Bool
+isFound (l.Refused number) = false
+isFound (l.Found i) = true
+isFound l.Nothing = false
+
+abbrev pub foundSlot : Looked → ℕ
+foundSlot (l.Refused number) = 0
+foundSlot (l.Found i) = i
+foundSlot l.Nothing = 0
+
+-- the number and the values of an answer together
+abbrev pub lookedNumbers : Looked → LookedNumbers
+lookedNumbers answer = record { refusal = lookedNumber answer; found = isFound answer; slot = foundSlot answer }
 
 -- the answers of `take` and of a lookup, case by case
 abbrev pub refusedTake : ℕ → TakenNumbers

@@ -5,14 +5,13 @@ ghost use Prim.Native.Nat.{_<_};
 ghost use lib.ListN.{length, replicate, set, getD};
 ghost use Rattle.entries.specs.Entries.{blank};
 ghost use Rattle.entries.specs.Cache.{entriesRefusal, takeIn};
-ghost use Rattle.lookup.specs.Answers.{lookedOf, lookedNumbers};
+ghost use Rattle.lookup.specs.Answers.{lookedOf};
 ghost use Rattle.cache.specs.Answers.{takenOf};
 ghost use Rattle.table.specs.Refusals.{lateness, worse, ended};
-ghost use Rattle.table.specs.Numbers.{refusedLook, foundLook, nothingLook, refusedTake, takenNumbers};
+ghost use Rattle.table.specs.Numbers.{refusedLook, foundLook, nothingLook, refusedTake, takenNumbers, lookedNumbers};
 use cache::AfterTake;
 use cache::Taken;
 use entries::Entry;
-use lookup::LookedNumbers;
 
 // What taking a message answers in numbers, for callers in other languages.
 #[repr(C)]
@@ -20,6 +19,14 @@ pub struct TakenNumbers {
     pub refusal: u8,
     pub turned: u32,
     pub passed: u32,
+}
+
+// What a lookup answers in numbers.
+#[repr(C)]
+pub struct LookedNumbers {
+    pub refusal: u8,
+    pub found: bool,
+    pub slot: usize,
 }
 
 // How many entries the table has.

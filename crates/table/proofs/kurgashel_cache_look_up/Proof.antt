@@ -48,11 +48,11 @@ use Rattle.entries.specs.Entries.{blank, liveOf}
 use Rattle.entries.specs.Cache.{entriesRefusal}
 use Rattle.entries.proofs.Entry as E
 use Rattle.entries.proofs.Entry.Laws as E′
-use Rattle.lookup.specs.Answers.{lookedOf, lookedRefusal, lookedNumbers}
-use Rattle.lookup.specs.declared.LookedNumbers.{LookedNumbers}
-use Rattle.lookup.proofs.LookedNumbers as LN
-use Rattle.lookup.proofs.LookedNumbers.Laws as LN′
-use Rattle.table.specs.Numbers.{refusedLook, foundLook, nothingLook}
+use Rattle.lookup.specs.Answers.{lookedOf, lookedRefusal}
+use Rattle.table.specs.declared.LookedNumbers.{LookedNumbers}
+use Rattle.table.proofs.LookedNumbers as LN
+use Rattle.table.proofs.LookedNumbers.Laws as LN′
+use Rattle.table.specs.Numbers.{lookedNumbers, refusedLook, foundLook, nothingLook}
 use Rattle.table.proofs.Scan.{entries-fits}
 use Rattle.table.proofs.Looking.{refusal-fits, is-refused, is-found, is-nothing, Searched, search-start, search-here, search-on, search-end}
 use Rattle.table.proofs.Calls.{R, at, EntryCount, EntryAt, asks-entry-count, asks-entry-at, calls-plain}
