@@ -9,7 +9,8 @@ use Prim.Native.Nat.{ℕ, _+_, _*_}
 use mathlib.Core.Path.{_≡_, refl}
 use mathlib.Core.Bool.{Bool, true, false}
 use mathlib.Core.List.{List, [], _∷_}
-use Rattle.names.specs.Names.{pieceAt, readFrom, fromRun, nameAt}
+use Rattle.pieces.specs.Pieces.{pieceAt}
+use Rattle.names.specs.Names.{readFrom, fromRun, nameAt}
 use Rattle.expansion.specs.Equal.{sameBytes}
 use Rattle.records.specs.declared.Setup.{Setup}
 use Rattle.records.specs.Setups.{serviceLabels, instanceLabels, hostLabels}

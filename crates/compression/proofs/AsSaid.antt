@@ -5,10 +5,11 @@ use mathlib.Core.List.{List, [], _∷_, _++_, append-assoc}
 use mathlib.Core.Bool.{Bool, true, false, cond}
 use native.Mathlib.Omega.{arith}
 use lib.ListN.{length, take, drop, length-append}
-use Rattle.names.specs.declared.Piece.the-variants.{Pointer}
-use Rattle.names.specs.Names.{pieceAt, Reading, name, malformed, ending, readPiece, fromRun, nameAt}
+use Rattle.pieces.specs.declared.Piece.the-variants.{Pointer}
+use Rattle.pieces.specs.Pieces.{pieceAt}
+use Rattle.names.specs.Names.{Reading, name, malformed, ending, readPiece, fromRun, nameAt}
 use Rattle.names.proofs.Rest.{unroll}
-use Rattle.names.proofs.Pieces.{is-pointer}
+use Rattle.pieces.proofs.Pieces.{is-pointer}
 use Rattle.labels.specs.Labels.{encode, Labels}
 use Rattle.compression.specs.declared.Place.{Place}
 use Rattle.compression.specs.declared.Place.the-variants.{At, Nowhere}

@@ -10,10 +10,11 @@ use borrow.Author.Tests.{eqb-true}
 use lib.ListN.{length, getD, take, drop, length-append, length-drop}
 use lib.Seq.{take-at, drop-at, drop-drop}
 use lib.Dec.{eqb}
-use Rattle.names.specs.declared.Piece.the-variants.{Root, Label, Pointer}
-use Rattle.names.specs.Names.{pieceAt, target, Reading, name, malformed, before, ending, readPiece, fromRun, nameAt}
+use Rattle.pieces.specs.declared.Piece.the-variants.{Root, Label, Pointer}
+use Rattle.pieces.specs.Pieces.{pieceAt, target}
+use Rattle.names.specs.Names.{Reading, name, malformed, before, ending, readPiece, fromRun, nameAt}
 use Rattle.names.proofs.Rest.{unroll}
-use Rattle.names.proofs.Pieces.{piece-root, piece-label, piece-pointer}
+use Rattle.pieces.proofs.Pieces.{piece-root, piece-label, piece-pointer}
 use Rattle.compression.specs.declared.Place.{Place}
 use Rattle.compression.specs.declared.Place.the-variants.{At, Nowhere}
 use Rattle.labels.specs.Labels.{encode, Labels, none, one, IsName}

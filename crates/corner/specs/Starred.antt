@@ -7,7 +7,8 @@ use Prim.Native.Nat.{ℕ}
 use lib.IntN.{pos, negsuc}
 use lib.ListN.{length, replicate}
 use Rattle.fold.specs.Fold.{sameName}
-use Rattle.names.specs.Names.{pieceAt, readFrom, fromRun, nameAt}
+use Rattle.pieces.specs.Pieces.{pieceAt}
+use Rattle.names.specs.Names.{readFrom, fromRun, nameAt}
 use Rattle.rdata.specs.Rdata.{stringsFill, rdataIn, rdataAt}
 use Rattle.expansion.specs.Equal.{sameBytes}
 use Rattle.wire.specs.Layout.{questionRead, questionAt, recordRead, recordAt, listFrom, refused, messageAt}

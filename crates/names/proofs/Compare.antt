@@ -9,12 +9,13 @@ use lib.Seq.{take-all, drop-cons, drop-drop}
 use lib.Dec.{eqb}
 use Rattle.fold.specs.Fold.{lower, sameName}
 use Rattle.fold.proofs.Equal.{same-lengths}
-use Rattle.names.specs.Names.{pieceAt, Reading, name, malformed, before, ending, fromRun, nameAt}
+use Rattle.pieces.specs.Pieces.{pieceAt}
+use Rattle.names.specs.Names.{Reading, name, malformed, before, ending, fromRun, nameAt}
 use Rattle.names.specs.Answers.{sameAs, nameIs}
-use Rattle.names.specs.declared.Piece.{Piece}
-use Rattle.names.specs.declared.Piece.the-variants.{Root, Label, Pointer, Bad}
+use Rattle.pieces.specs.declared.Piece.{Piece}
+use Rattle.pieces.specs.declared.Piece.the-variants.{Root, Label, Pointer, Bad}
 use Rattle.names.proofs.Rest.{read-at}
-use Rattle.names.proofs.Pieces.{is-root, label-in}
+use Rattle.pieces.proofs.Pieces.{is-root, label-in}
 use Rattle.names.proofs.Walked.{label-long}
 
 -- two lists one after the other are compared one after the other

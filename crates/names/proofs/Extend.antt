@@ -10,11 +10,12 @@ use borrow.Author.Tests.{ltb-true, ltb-false, leb-true, eqb-true, eqb-false}
 use lib.ListN.{length, getD, take, drop, length-append, length-drop, length-take, List·getD-append}
 use lib.Seq.{take-append-le, drop-append-le, length-take-le}
 use lib.Dec.{ltb, leb, eqb}
-use Rattle.names.specs.declared.Piece.{Piece}
-use Rattle.names.specs.declared.Piece.the-variants.{Root, Label, Pointer, Bad}
-use Rattle.names.specs.Names.{pieceAt, target, labelFits, pointerFits, Reading, name, malformed, before, ending, readPiece, readFrom, fromRun, nameAt}
+use Rattle.pieces.specs.declared.Piece.{Piece}
+use Rattle.pieces.specs.declared.Piece.the-variants.{Root, Label, Pointer, Bad}
+use Rattle.pieces.specs.Pieces.{pieceAt, target, labelFits, pointerFits}
+use Rattle.names.specs.Names.{Reading, name, malformed, before, ending, readPiece, readFrom, fromRun, nameAt}
 use Rattle.names.proofs.Rest.{unroll}
-use Rattle.names.proofs.Pieces.{is-root, is-label, is-pointer, piece-past, piece-root, piece-label, piece-pointer}
+use Rattle.pieces.proofs.Pieces.{is-root, is-label, is-pointer, piece-past, piece-root, piece-label, piece-pointer}
 
 -- a name has at least the zero byte
 abbrev NonEmpty : Reading → Type 0

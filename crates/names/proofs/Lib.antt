@@ -1,5 +1,4 @@
--- Laws that belong to no one function. For callers: Rest (a name piece by piece), Pieces, Use, Extend, Plain.
-pub mod Pieces
+-- Laws that belong to no one function. For callers: Rest (a name piece by piece), Use, Extend, Plain.
 pub mod Rest
 mod Walked
 pub mod Compare

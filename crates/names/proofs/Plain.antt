@@ -9,10 +9,11 @@ use borrow.Author.Tests.{lt-ltb, le-ltb, le-leb, lt-leb, eq-eqb, ne-eqb}
 use lib.ListN.{length, getD, take, drop, length-drop, drop-of-length-le}
 use lib.Seq.{drop-cons, drop-drop, length-take-le}
 use lib.Dec.{ltb, leb, eqb}
-use Rattle.names.specs.Names.{pieceAt, Reading, name, malformed, before, ending, readPiece, readFrom, fromRun, nameAt, labelsFill, isName}
-use Rattle.names.specs.declared.Piece.{Piece}
-use Rattle.names.specs.declared.Piece.the-variants.{Root, Label, Pointer, Bad}
-use Rattle.names.proofs.Pieces.{is-label}
+use Rattle.pieces.specs.Pieces.{pieceAt}
+use Rattle.names.specs.Names.{Reading, name, malformed, before, ending, readPiece, readFrom, fromRun, nameAt, labelsFill, isName}
+use Rattle.pieces.specs.declared.Piece.{Piece}
+use Rattle.pieces.specs.declared.Piece.the-variants.{Root, Label, Pointer, Bad}
+use Rattle.pieces.proofs.Pieces.{is-label}
 use Rattle.names.proofs.Use.{at-most-255}
 
 -- the bytes of a label are passed over

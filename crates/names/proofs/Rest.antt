@@ -5,10 +5,11 @@ use mathlib.Core.List.{List}
 use Prim.Native.Nat.{ℕ, zero, suc, _+_, _-_, _<_}
 use native.Mathlib.Omega.{arith}
 use lib.ListN.{take, drop}
-use Rattle.names.specs.Names.{pieceAt, Reading, name, malformed, before, ending, readPiece, readFrom, fromRun}
-use Rattle.names.specs.declared.Piece.{Piece}
-use Rattle.names.specs.declared.Piece.the-variants.{Root, Label, Pointer, Bad}
-use Rattle.names.proofs.Pieces.{label-room, pointer-back}
+use Rattle.pieces.specs.Pieces.{pieceAt}
+use Rattle.names.specs.Names.{Reading, name, malformed, before, ending, readPiece, readFrom, fromRun}
+use Rattle.pieces.specs.declared.Piece.{Piece}
+use Rattle.pieces.specs.declared.Piece.the-variants.{Root, Label, Pointer, Bad}
+use Rattle.pieces.proofs.Pieces.{label-room, pointer-back}
 
 -- the reading of a piece asks for what follows only below the number
 step-agree : (r s : ℕ → ℕ → ℕ → Reading) (p : List ℕ) (start at used : ℕ) (x : Piece) → pieceAt p start at used ≡ x

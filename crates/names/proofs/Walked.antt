@@ -10,15 +10,16 @@ use lib.Dec.{eqb}
 use lib.ListN.{length, take, drop, getD, set, length-append, length-drop}
 use lib.Seq.{sets, length-take-le}
 use Rattle.octets.proofs.Sets.{sets-append}
-use Rattle.names.specs.Names.{pieceAt, Reading, name, malformed, before, ending, fromRun, nameAt}
+use Rattle.pieces.specs.Pieces.{pieceAt}
+use Rattle.names.specs.Names.{Reading, name, malformed, before, ending, fromRun, nameAt}
 use Rattle.names.specs.Answers.{spanOf, answerOf, Filled, Wrote, Chased, foundOf}
-use Rattle.names.specs.declared.Piece.{Piece}
-use Rattle.names.specs.declared.Piece.the-variants.{Root, Label, Pointer, Bad}
+use Rattle.pieces.specs.declared.Piece.{Piece}
+use Rattle.pieces.specs.declared.Piece.the-variants.{Root, Label, Pointer, Bad}
 use Rattle.names.specs.declared.Span.{Span}
 use Rattle.names.specs.declared.Name.{Name}
 use Rattle.names.specs.declared.Name.the-variants.{Found, Malformed}
 use Rattle.names.proofs.Rest.{read-at}
-use Rattle.names.proofs.Pieces.{label-in, pointer-back}
+use Rattle.pieces.proofs.Pieces.{label-in, pointer-back}
 
 -- the bytes of a label, its length byte with them
 pub label-long : (p : List ℕ) (at n : ℕ) → at + 1 + n ≤ length p → length (take (n + 1) (drop at p)) ≡ 1 + n

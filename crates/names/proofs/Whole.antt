@@ -7,15 +7,16 @@ use native.Mathlib.Nat.{zero-add}
 use native.Mathlib.Omega.{arith}
 use lib.ListN.{length, take, drop, replicate, length-append, length-take, length-replicate}
 use lib.Seq.{sets, sets-eq}
-use Rattle.names.specs.declared.Piece.{Piece}
-use Rattle.names.specs.declared.Piece.the-variants.{Root, Label, Pointer, Bad}
-use Rattle.names.specs.Names.{pieceAt, Reading, name, malformed, before, ending, readPiece, readFrom, fromRun, nameAt}
+use Rattle.pieces.specs.declared.Piece.{Piece}
+use Rattle.pieces.specs.declared.Piece.the-variants.{Root, Label, Pointer, Bad}
+use Rattle.pieces.specs.Pieces.{pieceAt}
+use Rattle.names.specs.Names.{Reading, name, malformed, before, ending, readPiece, readFrom, fromRun, nameAt}
 use Rattle.names.specs.Answers.{spanOf, answerOf, Filled, Wrote, expanded, foundOf}
 use Rattle.names.specs.declared.Span.{Span}
 use Rattle.names.specs.declared.Name.{Name}
 use Rattle.names.specs.declared.Name.the-variants.{Found, Malformed}
 use Rattle.names.specs.declared.Expanded.{Expanded}
-use Rattle.names.proofs.Pieces.{label-room}
+use Rattle.pieces.proofs.Pieces.{label-room}
 use Rattle.octets.proofs.Sets.{drop-replicate}
 
 -- a name of which `used` bytes were read before has at most 255 in all

@@ -4,11 +4,9 @@ ghost use mathlib.Core.Path.{_≡_};
 ghost use Prim.Native.Nat.{_+_, _≤_, _<_};
 ghost use lib.ListN.{length};
 ghost use lib.Seq.{sets};
-ghost use Rattle.names.specs.Names.{nameAt, fromRun, pieceAt, ending, isName};
+ghost use Rattle.names.specs.Names.{nameAt, fromRun, ending, isName};
 ghost use Rattle.names.specs.Answers.{Wrote, Chased, expanded, foundOf, nameIs};
-
-// The most bytes that a name has uncompressed, its zero byte with them.
-pub const MOST_NAME: usize = 255;
+use pieces::Piece;
 
 // Where a name ends in place, and its uncompressed length.
 pub struct Span {
@@ -26,52 +24,6 @@ pub enum Name {
 pub struct Expanded {
     pub name: Name,
     pub bytes: [u8; 255],
-}
-
-// What stands at one place of a name: the zero byte, a label of so many bytes, a pointer to an offset, or what no name has there.
-pub enum Piece {
-    Root,
-    Label(usize),
-    Pointer(usize),
-    Bad,
-}
-
-// The piece at an offset, in the run of labels that begins at `start`, of a name of which `used` bytes have been read.
-fn piece_at(p: &[u8], start: usize, at: usize, used: usize) -> Piece
-    requires { ⌜ used < 255 ⌝ }
-    ensures { λ r. ⌜ r ≡ pieceAt (now (p .entry)) start at used ⌝ }
-{
-    if p.len() <= at {
-        return Piece::Bad;
-    }
-    let n = p[at] as usize;
-    if n == 0 {
-        return Piece::Root;
-    }
-    if n < 64 {
-        if p.len() - at <= n {
-            return Piece::Bad;
-        }
-        if MOST_NAME <= used + 1 + n {
-            return Piece::Bad;
-        }
-        return Piece::Label(n);
-    }
-    if n < 192 {
-        return Piece::Bad;
-    }
-    let next = at + 1;
-    if p.len() <= next {
-        return Piece::Bad;
-    }
-    let target = n % 64 * 256 + p[next] as usize;
-    if target < 12 {
-        return Piece::Bad;
-    }
-    if start <= target {
-        return Piece::Bad;
-    }
-    Piece::Pointer(target)
 }
 
 // Writes `s` into `out` from index `at` on.
@@ -93,7 +45,7 @@ fn chase(p: &[u8], target: usize, used: usize) -> usize
 {
     let mut run = target;
     loop {
-        match piece_at(p, run, run, used) {
+        match pieces::piece_at(p, run, run, used) {
             Piece::Pointer(t) => {
                 run = t;
             }
@@ -115,7 +67,7 @@ fn walk(p: &[u8], start: usize, at: usize, out: &mut [u8; 255], used: usize) -> 
     requires { ⌜ used < 255 ⌝ }
     ensures { λ r. ⌜ Wrote (fromRun (now (p .entry)) start at used) used (now (out .entry)) r (now (out .exit)) ⌝ }
 {
-    match piece_at(p, start, at, used) {
+    match pieces::piece_at(p, start, at, used) {
         Piece::Root => {
             out[used] = 0;
             Name::Found(Span {
@@ -176,7 +128,7 @@ pub fn name_at(p: &[u8], at: usize) -> Name
     // past the first pointer, and 0 until one has been followed
     let mut end = 0;
     loop {
-        match piece_at(p, start, here, used) {
+        match pieces::piece_at(p, start, here, used) {
             Piece::Root => {
                 if end == 0 {
                     return Name::Found(Span {
@@ -213,7 +165,7 @@ pub fn name_is(p: &[u8], at: usize, other: &[u8]) -> bool
     let mut here = at;
     let mut used = 0;
     loop {
-        match piece_at(p, start, here, used) {
+        match pieces::piece_at(p, start, here, used) {
             Piece::Root => {
                 let end = here + 1;
                 return fold::same_name(&p[here..end], &other[used..]);
@@ -245,7 +197,7 @@ pub fn name_is(p: &[u8], at: usize, other: &[u8]) -> bool
 pub fn is_name(s: &[u8]) -> bool
     ensures { λ r. ⌜ r ≡ isName (now (s .entry)) ⌝ }
 {
-    if MOST_NAME < s.len() {
+    if pieces::MOST_NAME < s.len() {
         return false;
     }
     let mut at = 0;

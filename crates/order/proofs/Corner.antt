@@ -6,7 +6,8 @@ use mathlib.Core.Bool.{true, false}
 use Prim.Native.Nat.{ℕ}
 use lib.IntN.{pos, negsuc}
 use Rattle.fold.specs.Fold.{sameName}
-use Rattle.names.specs.Names.{pieceAt, readFrom, fromRun, nameAt}
+use Rattle.pieces.specs.Pieces.{pieceAt}
+use Rattle.names.specs.Names.{readFrom, fromRun, nameAt}
 use Rattle.rdata.specs.Rdata.{rdataIn, rdataAt}
 use Rattle.wire.specs.Layout.{questionRead, questionAt, recordRead, recordAt}
 use Rattle.wire.specs.declared.Layout.{Layout}

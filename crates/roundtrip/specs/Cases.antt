@@ -5,7 +5,8 @@ use mathlib.Core.Path.{_≡_, refl}
 use mathlib.Core.List.{List, [], _∷_, _++_}
 use mathlib.Core.Bool.{Bool, true, false}
 use lib.ListN.{replicate}
-use Rattle.names.specs.Names.{nameAt, fromRun, readFrom, pieceAt}
+use Rattle.pieces.specs.Pieces.{pieceAt}
+use Rattle.names.specs.Names.{nameAt, fromRun, readFrom}
 use Rattle.rdata.specs.Rdata.{stringsFill}
 use Rattle.expansion.specs.Equal.{sameBytes}
 use Rattle.compression.specs.Compression.{standsAt, placeOf, cutFrom, nameBytes, starts, namePlaces}

@@ -9,7 +9,8 @@ use lib.ListN.{length}
 use lib.Dec.{leb, ltb}
 use borrow.Author.Tests.{leb-true, ltb-true}
 use Rattle.fold.specs.Fold.{sameName}
-use Rattle.names.specs.Names.{nameAt, fromRun, readFrom, pieceAt}
+use Rattle.pieces.specs.Pieces.{pieceAt}
+use Rattle.names.specs.Names.{nameAt, fromRun, readFrom}
 use Rattle.rdata.specs.Rdata.{stringsFill, rdataIn, rdataAt}
 use Rattle.expansion.specs.Equal.{sameBytes}
 use Rattle.wire.specs.Layout.{questionRead, recordRead, questionAt, recordAt, listFrom, messageAt}

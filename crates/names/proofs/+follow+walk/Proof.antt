@@ -2,7 +2,7 @@ use mathlib.Core.Path.{_≡_, sym, _∙_}
 use native.Mathlib.Omega.{arith}
 use borrow.Author.Needs.{needs}
 use lib.ListN.{length-take, length-drop}
-use Rattle.names.proofs.Pieces.{is-root, label-in, label-room, pointer-in, pointer-back}
+use Rattle.pieces.proofs.Pieces.{is-root, label-in, label-room, pointer-in, pointer-back}
 use Rattle.names.proofs.Walked.{wrote-bad, wrote-root, wrote-label, wrote-pointer, followed, followed-bad}
 use Prim.Native.Nat.{ℕ, _+_, _*_, _-_, _<_}
 use borrow.Fn.Kinds.{In}
@@ -14,7 +14,7 @@ use Rattle.names.proofs.walk.Reads as walk
 use Rattle.names.proofs.walk.Kinds as walk-kinds
 use Rattle.names.proofs.+follow+walk.Lts-walk as walk-lts
 use Rattle.names.proofs.chase.Reads as chase-reads
-use Rattle.names.proofs.piece_at.Reads as piece-at-reads
+use Rattle.pieces.proofs.piece_at.Reads as piece-at-reads
 use Rattle.names.proofs.put.Reads as put-reads
 use Rattle.names.proofs.+follow+walk.{statement}
 use Rattle.names.proofs.+follow+walk.Tie.{close}

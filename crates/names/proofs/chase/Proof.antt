@@ -3,13 +3,13 @@ use borrow.Author.Needs.{needs}
 use Prim.Native.Nat.{_<_}
 use native.Mathlib.Omega.{arith}
 use Rattle.names.specs.Answers.{Chased}
-use Rattle.names.proofs.Pieces.{pointer-back}
+use Rattle.pieces.proofs.Pieces.{pointer-back}
 use Rattle.names.proofs.Walked.{chased-on, chased-none}
 use Rattle.names.proofs.chase.Statement.{statement}
 use Rattle.names.proofs.chase.Tie as tie
 use Rattle.names.proofs.chase.Reads as reads
 use Rattle.names.proofs.chase.Lts as lts
-use Rattle.names.proofs.piece_at.Reads as piece-at-reads
+use Rattle.pieces.proofs.piece_at.Reads as piece-at-reads
 
 abbrev Inv-loop : tie.InvT-loop
 Inv-loop p target used run₀ run = Chased p used target run

@@ -5,13 +5,13 @@ use Prim.Native.Nat.{_<_, _+_, _-_}
 use native.Mathlib.Omega.{arith}
 use Rattle.names.specs.Names.{nameAt, fromRun}
 use Rattle.names.specs.Answers.{foundOf}
-use Rattle.names.proofs.Pieces.{is-root, label-in, label-room, pointer-in, pointer-back}
+use Rattle.pieces.proofs.Pieces.{is-root, label-in, label-room, pointer-in, pointer-back}
 use Rattle.names.proofs.Walked.{seenOf, seen-start, seen-root, seen-root-after, seen-label, seen-pointer-first, seen-pointer, seen-bad}
 use Rattle.names.proofs.name_at.Statement.{statement}
 use Rattle.names.proofs.name_at.Tie as tie
 use Rattle.names.proofs.name_at.Reads as reads
 use Rattle.names.proofs.name_at.Lts as lts
-use Rattle.names.proofs.piece_at.Reads as piece-at-reads
+use Rattle.pieces.proofs.piece_at.Reads as piece-at-reads
 
 abbrev Inv-loop : tie.InvT-loop
 Inv-loop p at start₀ here₀ used₀ end₀ start here used end = (used < 255) × (foundOf (nameAt p at) ≡ seenOf used end (fromRun p start here used))

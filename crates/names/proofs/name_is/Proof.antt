@@ -6,14 +6,14 @@ use native.Mathlib.Omega.{arith}
 use lib.ListN.{length, drop, length-take, length-drop}
 use Rattle.names.specs.Names.{fromRun}
 use Rattle.names.specs.Answers.{sameAs, nameIs}
-use Rattle.names.proofs.Pieces.{is-root, label-in, label-room, pointer-in, pointer-back}
+use Rattle.pieces.proofs.Pieces.{is-root, label-in, label-room, pointer-in, pointer-back}
 use Rattle.names.proofs.Compare.{is-start, is-root-then, is-label-over, is-label-differs, is-label-on, is-pointer-on, is-bad}
 use Rattle.names.proofs.name_is.Statement.{statement}
 use Rattle.names.proofs.name_is.Tie as tie
 use Rattle.names.proofs.name_is.Reads as reads
 use Rattle.names.proofs.name_is.Lts as lts
 use Rattle.fold.proofs.same_name.Reads as same-name-reads
-use Rattle.names.proofs.piece_at.Reads as piece-at-reads
+use Rattle.pieces.proofs.piece_at.Reads as piece-at-reads
 
 abbrev Inv-loop : tie.InvT-loop
 Inv-loop p at other start₀ here₀ used₀ start here used = (used < 255) × (used ≤ length other) × (nameIs p at other ≡ sameAs (drop used other) (fromRun p start here used))

@@ -7,9 +7,9 @@ use native.Mathlib.Omega.{arith}
 use borrow.Author.Tests.{lt-ltb, le-ltb, le-leb, lt-leb, eq-eqb, ne-eqb, ltb-true, ltb-false, leb-true, eqb-true, eqb-false}
 use lib.ListN.{length, getD}
 use lib.Dec.{ltb, leb, eqb}
-use Rattle.names.specs.Names.{pieceAt, target, labelFits, pointerFits}
-use Rattle.names.specs.declared.Piece.{Piece}
-use Rattle.names.specs.declared.Piece.the-variants.{Root, Label, Pointer, Bad}
+use Rattle.pieces.specs.Pieces.{pieceAt, target, labelFits, pointerFits}
+use Rattle.pieces.specs.declared.Piece.{Piece}
+use Rattle.pieces.specs.declared.Piece.the-variants.{Root, Label, Pointer, Bad}
 
 both : (a b : Bool) → (a && b) ≡ true → (a ≡ true) × (b ≡ true)
 both true b e = (refl, e)

@@ -1,12 +1,10 @@
 use Prim.Native.Nat.{_+_}
 use mathlib.Core.Path.{sym}
 use native.Mathlib.Omega.{arith}
-use Rattle.names.proofs.Pieces.{piece-past, piece-root, piece-long, piece-full, piece-label, piece-reserved, piece-short, piece-header, piece-forward, piece-pointer}
+use Rattle.pieces.proofs.Pieces.{piece-past, piece-root, piece-long, piece-full, piece-label, piece-reserved, piece-short, piece-header, piece-forward, piece-pointer}
 use borrow.Author.Needs.{needs}
-use Rattle.names.proofs.piece_at.Statement.{statement}
-use Rattle.names.proofs.piece_at.Tie as tie
-use Rattle.names.proofs.piece_at.Reads as reads
-use Rattle.names.proofs.piece_at.Lts as lts
+use Rattle.pieces.proofs.piece_at.Statement.{statement}
+use Rattle.pieces.proofs.piece_at.Tie as tie
 
 returns : tie.Need-returns
 returns c = sym (piece-past _ _ _ _ (c .if1 .taken))
@@ -26,11 +24,11 @@ sub-if4 c = search needs
 returns-3 : tie.Need-returns-3
 returns-3 c = sym (piece-long _ _ _ _ (omega arith) (omega arith) (omega arith) (omega arith))
 
-add-if5 : tie.Need-add-if5
-add-if5 c = search needs
+sub-if5 : tie.Need-sub-if5
+sub-if5 c = omega arith
 
-add-if5-2 : tie.Need-add-if5-2
-add-if5-2 c = search needs
+sub-if5-2 : tie.Need-sub-if5-2
+sub-if5-2 c = omega arith
 
 returns-4 : tie.Need-returns-4
 returns-4 c = sym (piece-full _ _ _ _ (omega arith) (omega arith) (omega arith) (omega arith) (omega arith))
@@ -78,8 +76,8 @@ piece-at-spec =
     returns-2
     sub-if4
     returns-3
-    add-if5
-    add-if5-2
+    sub-if5
+    sub-if5-2
     returns-4
     returns-5
     returns-6
