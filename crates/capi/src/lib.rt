@@ -73,8 +73,8 @@ pub extern "C" fn kurgashel_start(state: &mut [u8], setup: &[u8], time: u64, dra
     }
     let after = begun.state;
     let life = after.life;
-    codec::put_setup(state, setup);
-    codec::put_life(state, life);
+    encoder::put_setup(state, setup);
+    encoder::put_life(state, life);
     answered(answer, false)
 }
 
@@ -100,7 +100,7 @@ pub extern "C" fn kurgashel_receive(
     }
     let after = heard.state;
     let life = after.life;
-    codec::put_life(state, life);
+    encoder::put_life(state, life);
     answered(answer, false)
 }
 
@@ -120,6 +120,6 @@ pub extern "C" fn kurgashel_tick(state: &mut [u8], time: u64, out: &mut [u8]) ->
     }
     let after = walked.state;
     let life = after.life;
-    codec::put_life(state, life);
+    encoder::put_life(state, life);
     answered(answer, more)
 }

@@ -16,7 +16,7 @@ use Rattle.records.specs.declared.Setup.{Setup}
 use Rattle.responder.specs.declared.State.{State}
 use Rattle.codec.specs.Layout.{partAt, flagAt, labelAt, serviceAt, stringsAt, setupAt, lifeAt}
 use Rattle.codec.specs.Codec.{decode, lifeBytes, LifeFits, labelBytes, serviceBytes, bytes16, stringsBytes, flagByte, setupBytes, encode, SetupFits}
-use Rattle.codec.proofs.Written.{length-life}
+use Rattle.codec.proofs.Lengths.{length-life}
 use Rattle.codec.proofs.Told.{setup-told}
 use Rattle.codec.proofs.Round.{byte-later, word16-later, life-read, setup-front}
 

@@ -3,6 +3,6 @@ pub mod Parts
 pub mod Cases
 pub mod Round
 pub mod Told
-pub mod Written
+pub mod Lengths
 pub mod Whole
 pub mod Encoded

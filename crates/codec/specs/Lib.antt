@@ -1,4 +1,3 @@
 pub mod Numbers
 pub mod Layout
 pub mod Codec
-pub mod Laid

@@ -25,7 +25,7 @@ put-requires : tie.Need-put-requires
 put-requires c κs = search needs
 
 returns : tie.Need-returns
-returns c = let a = c .before .before .before .before .before .args in part-laid 4 (a .at) (a .b .now) (replicate 4 0) _ refl (omega arith) (c .before .put .ensures .laid)
+returns c = let a = c .before .before .before .before .before .args in part-laid 4 (a .at) (a .b .now) (replicate 4 0) _ refl (omega arith) (c .before .put .ensures)
 
 pub four-at-spec : {M : Type 1} → statement M
 four-at-spec =

@@ -44,8 +44,7 @@ same-length c = ap length (c .before .loop .inv .1) ∙ length-sets (c .before .
 returns : tie.Need-returns Inv-loop μ-loop
 returns c =
     let a = c .before .before .args in
-    let e : c .before .loop .out ≡ sets (a .out .now) (a .at) (a .s .now) = c .before .loop .inv .1 ∙ ap (sets (a .out .now) (a .at)) (take-all (c .before .loop .i) (a .s .now) (c .loop-test .left)) in
-    record { laid = e; long = ap length e ∙ length-sets (a .out .now) (a .at) (a .s .now) }
+    c .before .loop .inv .1 ∙ ap (sets (a .out .now) (a .at)) (take-all (c .before .loop .i) (a .s .now) (c .loop-test .left))
 
 pub put-spec : {M : Type 1} → statement M
 put-spec =

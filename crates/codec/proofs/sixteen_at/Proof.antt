@@ -25,7 +25,7 @@ put-requires : tie.Need-put-requires
 put-requires c κs = search needs
 
 returns : tie.Need-returns
-returns c = let a = c .before .before .before .before .before .args in part-laid 16 (a .at) (a .b .now) (replicate 16 0) _ refl (omega arith) (c .before .put .ensures .laid)
+returns c = let a = c .before .before .before .before .before .args in part-laid 16 (a .at) (a .b .now) (replicate 16 0) _ refl (omega arith) (c .before .put .ensures)
 
 pub sixteen-at-spec : {M : Type 1} → statement M
 sixteen-at-spec =

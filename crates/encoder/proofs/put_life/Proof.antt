@@ -1,8 +1,8 @@
 use borrow.Author.Tests.{eq-eqb, ne-eqb}
-use Rattle.codec.proofs.Whole.{life-written, life-kept}
+use Rattle.encoder.proofs.Whole.{life-written, life-kept}
 use borrow.Author.Needs.{needs}
-use Rattle.codec.proofs.put_life.Statement.{statement}
-use Rattle.codec.proofs.put_life.Tie as tie
+use Rattle.encoder.proofs.put_life.Statement.{statement}
+use Rattle.encoder.proofs.put_life.Tie as tie
 
 lay-life-requires : tie.Need-lay-life-requires
 lay-life-requires c κs = search needs

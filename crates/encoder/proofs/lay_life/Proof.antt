@@ -1,7 +1,7 @@
-use Rattle.codec.proofs.Written.{life-laid}
+use Rattle.encoder.proofs.Written.{life-laid}
 use borrow.Author.Needs.{needs}
-use Rattle.codec.proofs.lay_life.Statement.{statement}
-use Rattle.codec.proofs.lay_life.Tie as tie
+use Rattle.encoder.proofs.lay_life.Statement.{statement}
+use Rattle.encoder.proofs.lay_life.Tie as tie
 
 put-claim-requires : tie.Need-put-claim-requires
 put-claim-requires c κs = search needs

@@ -1,7 +1,7 @@
-use Rattle.codec.proofs.Parts.{laid-as}
+use Rattle.encoder.proofs.Parts.{laid-as}
 use borrow.Author.Needs.{needs}
-use Rattle.codec.proofs.put_number.Statement.{statement}
-use Rattle.codec.proofs.put_number.Tie as tie
+use Rattle.encoder.proofs.put_number.Statement.{statement}
+use Rattle.encoder.proofs.put_number.Tie as tie
 
 number-bytes-requires : tie.Need-number-bytes-requires
 number-bytes-requires c κs = search needs

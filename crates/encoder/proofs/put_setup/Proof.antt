@@ -1,9 +1,9 @@
 use native.Mathlib.Omega.{arith}
 use borrow.Author.Tests.{eq-eqb, ne-eqb}
-use Rattle.codec.proofs.Whole.{setup-kept, setup-kept′, setup-written}
+use Rattle.encoder.proofs.Whole.{setup-kept, setup-kept′, setup-written}
 use borrow.Author.Needs.{needs}
-use Rattle.codec.proofs.put_setup.Statement.{statement}
-use Rattle.codec.proofs.put_setup.Tie as tie
+use Rattle.encoder.proofs.put_setup.Statement.{statement}
+use Rattle.encoder.proofs.put_setup.Tie as tie
 
 returns : tie.Need-returns
 returns c = setup-kept (c .before .before .before .args .state .now) (c .before .before .before .args .setup .now) (ne-eqb _ 667 (c .if1 .taken))

@@ -1,7 +1,7 @@
-use Rattle.codec.proofs.Written.{case-as}
+use Rattle.encoder.proofs.Written.{case-as}
 use borrow.Author.Needs.{needs}
-use Rattle.codec.proofs.put_sent.Statement.{statement}
-use Rattle.codec.proofs.put_sent.Tie as tie
+use Rattle.encoder.proofs.put_sent.Statement.{statement}
+use Rattle.encoder.proofs.put_sent.Tie as tie
 
 sent-flag-requires : tie.Need-sent-flag-requires
 sent-flag-requires c κs = search needs

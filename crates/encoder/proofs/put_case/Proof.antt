@@ -1,9 +1,9 @@
-use Rattle.codec.proofs.Parts.{laid-next}
+use Rattle.encoder.proofs.Parts.{laid-next}
 use mathlib.Core.List.{[], _∷_}
 use mathlib.Core.Path.{refl}
 use borrow.Author.Needs.{needs}
-use Rattle.codec.proofs.put_case.Statement.{statement}
-use Rattle.codec.proofs.put_case.Tie as tie
+use Rattle.encoder.proofs.put_case.Statement.{statement}
+use Rattle.encoder.proofs.put_case.Tie as tie
 
 slice-aggregate-put : tie.Need-slice-aggregate-put
 slice-aggregate-put c = search needs

@@ -1,7 +1,7 @@
-use Rattle.codec.proofs.Written.{multicasts-laid}
+use Rattle.encoder.proofs.Written.{multicasts-laid}
 use borrow.Author.Needs.{needs}
-use Rattle.codec.proofs.put_multicasts.Statement.{statement}
-use Rattle.codec.proofs.put_multicasts.Tie as tie
+use Rattle.encoder.proofs.put_multicasts.Statement.{statement}
+use Rattle.encoder.proofs.put_multicasts.Tie as tie
 
 put-sent-requires : tie.Need-put-sent-requires
 put-sent-requires c κs = search needs

@@ -1,10 +1,10 @@
 use mathlib.Core.Path.{refl}
 use Rattle.codec.specs.Numbers.{bytes64}
 use borrow.Author.Needs.{needs}
-use Rattle.codec.proofs.number_bytes.Statement.{statement}
-use Rattle.codec.proofs.number_bytes.Tie as tie
-use Rattle.codec.proofs.number_bytes.Reads as reads
-use Rattle.codec.proofs.number_bytes.Lts as lts
+use Rattle.encoder.proofs.number_bytes.Statement.{statement}
+use Rattle.encoder.proofs.number_bytes.Tie as tie
+use Rattle.encoder.proofs.number_bytes.Reads as reads
+use Rattle.encoder.proofs.number_bytes.Lts as lts
 
 -- src/lib.rt:251:9
 cast-t10 : tie.Need-cast-t10

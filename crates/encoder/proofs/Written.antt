@@ -1,34 +1,14 @@
 -- What the writing functions lay down, put together. Assumes nothing.
-use mathlib.Core.Path.{_≡_, refl, sym, ap, _∙_}
-use mathlib.Core.List.{List, _++_}
+use mathlib.Core.Path.{_≡_, refl}
+use mathlib.Core.List.{List}
 use Prim.Native.Nat.{ℕ, _+_, _<_}
 use native.Mathlib.Omega.{arith}
-use lib.ListN.{length}
-use Rattle.claims.specs.declared.Claim.{Claim}
-use Rattle.claims.specs.declared.Sent.{Sent}
-use Rattle.claims.specs.declared.Reply.{Reply}
 use Rattle.claims.specs.declared.Multicasts.{Multicasts}
 use Rattle.claims.specs.declared.Life.{Life}
 use Rattle.codec.specs.Numbers.{bytes64}
 use Rattle.codec.specs.Codec.{caseBytes, claimBytes, sentBytes, replyBytes, multicastsBytes, lifeBytes}
-use Rattle.codec.specs.Laid.{Laid}
-use Rattle.codec.proofs.Parts.{laid-next}
-
-pub length-number : (n : ℕ) → length (bytes64 n) ≡ 8
-unfolding bytes64
-length-number n = refl
-
-pub length-case : (tag n : ℕ) → length (caseBytes tag n) ≡ 9
-unfolding bytes64
-length-case tag n = refl
-
-pub length-multicasts : (sent : Multicasts) → length (multicastsBytes sent) ≡ 45
-unfolding multicastsBytes bytes64
-length-multicasts sent = refl
-
-pub length-life : (life : Life) → length (lifeBytes life) ≡ 88
-unfolding lifeBytes multicastsBytes bytes64
-length-life life = refl
+use Rattle.encoder.specs.Laid.{Laid}
+use Rattle.encoder.proofs.Parts.{laid-next}
 
 -- the case and the number by what they are of
 pub case-as : (was out : List ℕ) (at tag n t m : ℕ) → Laid was at (caseBytes tag n) out × (n < 18446744073709551616) → tag ≡ t → n ≡ m

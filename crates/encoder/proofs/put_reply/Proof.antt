@@ -1,7 +1,7 @@
-use Rattle.codec.proofs.Written.{case-as}
+use Rattle.encoder.proofs.Written.{case-as}
 use borrow.Author.Needs.{needs}
-use Rattle.codec.proofs.put_reply.Statement.{statement}
-use Rattle.codec.proofs.put_reply.Tie as tie
+use Rattle.encoder.proofs.put_reply.Statement.{statement}
+use Rattle.encoder.proofs.put_reply.Tie as tie
 
 reply-flag-requires : tie.Need-reply-flag-requires
 reply-flag-requires c κs = search needs

@@ -1,7 +1,7 @@
-use Rattle.codec.proofs.Written.{case-as}
+use Rattle.encoder.proofs.Written.{case-as}
 use borrow.Author.Needs.{needs}
-use Rattle.codec.proofs.put_claim.Statement.{statement}
-use Rattle.codec.proofs.put_claim.Tie as tie
+use Rattle.encoder.proofs.put_claim.Statement.{statement}
+use Rattle.encoder.proofs.put_claim.Tie as tie
 
 claim-tag-requires : tie.Need-claim-tag-requires
 claim-tag-requires c κs = search needs
