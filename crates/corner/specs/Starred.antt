@@ -18,7 +18,8 @@ use Rattle.txt.specs.declared.Answer.the-variants.{Present}
 use Rattle.records.specs.Setups.{serviceLabels, instanceLabels, hostLabels}
 use Rattle.records.specs.Records.{hasRecord, ownLabels, ownName, ownType, ownClass, ownTtl, srvRdata, ownRdata}
 use Rattle.order.specs.Later.{numberOf, compareNumbers, inTurn, compareRecords, insertBy, sortBy, tie}
-use Rattle.order.specs.Probe.{ownRecord, some, listUnder, isProbe}
+use Rattle.probe.specs.Probe.{some, isProbe}
+use Rattle.order.specs.Lists.{ownRecord, listUnder}
 use Rattle.answers.specs.Answers.{omittedOf}
 use Rattle.scan.specs.Facts.{isAsked, isKnown, laterThan, queryFacts, factsOf}
 use Rattle.entries.specs.Tables.{each}

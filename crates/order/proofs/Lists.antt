@@ -1,19 +1,20 @@
 -- The list of a message in the tiebreak (paper 01, 'A claim's life', 'Errors earlier docks made'): it does not depend on the order of the records
--- in the packet, nor on the spelling of the claim's name; and what the contracts say of a message that was read. Assumes nothing.
+-- in the packet, nor on the spelling of the claim's name; and what the contract says of a message that was read. Assumes nothing.
 use mathlib.Core.Path.{_≡_, refl, sym, ap}
 use mathlib.Core.List.{List, [], _∷_, List·Permᴰ, List·Permᴰ·nil, List·Permᴰ·cons, List·Permᴰ·swap, List·Permᴰ·trans, Permᴰ·refl}
 use mathlib.Core.Bool.{Bool, true, false, cond, not}
 use Prim.Native.Nat.{ℕ}
 use native.Mathlib.Omega.{arith}
 use Rattle.fold.specs.Fold.{sameName}
-use Rattle.fold.proofs.Equal.{same-sym, same-trans}
-use Rattle.wire.specs.Message.{Question, Record, Message}
+use Rattle.wire.specs.Message.{Record, Message}
 use Rattle.wire.specs.Layout.{read, messageAt}
 use Rattle.wire.specs.declared.Layout.{Layout}
+use Rattle.probe.specs.Probe.{under, messageIn}
+use Rattle.probe.proofs.Walk.{layout-shows}
+use Rattle.probe.proofs.Probes.{equal-to}
 use Rattle.order.specs.Later.{TieRecord, tie}
-use Rattle.order.specs.Probe.{under, tieRecord, listUnder, theirs, asksAll, some, isProbe, messageIn}
+use Rattle.order.specs.Lists.{tieRecord, listUnder, theirs}
 use Rattle.order.proofs.Ties.{perm-tie}
-use Rattle.order.proofs.Walk.{layout-shows}
 
 -- a record under the name is in the list, another is not
 module _ (other : List ℕ) (r : Record) (rs : List Record) where
@@ -56,44 +57,14 @@ perm-list other (List·Permᴰ·trans d f) = List·Permᴰ·trans (perm-list oth
 pub packet-order : (other : List ℕ) (m n : Message) → List·Permᴰ (m .authorities) (n .authorities) → (own : List TieRecord) → tie (theirs other m) own ≡ tie (theirs other n) own
 packet-order other m n d own = perm-tie (theirs other m) (theirs other n) (perm-list other d) own
 
--- names that are equal, letters folded, have the same list and the same probes
+-- names that are equal, letters folded, have the same list
 module _ (a b : List ℕ) (same : sameName a b ≡ true) where
-  equal-to : (bs : List ℕ) → sameName bs a ≡ sameName bs b
-  equal-to bs = go (sameName bs a) (sameName bs b) refl refl
-    where
-      go : (u v : Bool) → sameName bs a ≡ u → sameName bs b ≡ v → u ≡ v
-      go true true e f = refl
-      go false false e f = refl
-      go true false e f =
-          let k : sameName bs b ≡ true = same-trans bs a b e same in
-          let z : _≡_ {A = ℕ} 0 1 = cc in absurd (omega arith)
-      go false true e f =
-          let k : sameName bs a ≡ true = same-trans bs b a f (same-sym a b same) in
-          let z : _≡_ {A = ℕ} 0 1 = cc in absurd (omega arith)
-
   pub spelling-list : (rs : List Record) → listUnder a rs ≡ listUnder b rs
   unfolding listUnder
   spelling-list [] = refl
-  spelling-list (r ∷ rs) = rw (equal-to (r .owner), spelling-list rs)
+  spelling-list (r ∷ rs) = rw (equal-to a b same (r .owner), spelling-list rs)
 
-  spelling-asks : (qs : List Question) → some (asksAll a) qs ≡ some (asksAll b) qs
-  unfolding some
-  spelling-asks [] = refl
-  spelling-asks (x ∷ qs) = rw (equal-to (x .name), spelling-asks qs)
-
-  spelling-some : (rs : List Record) → some (under a) rs ≡ some (under b) rs
-  unfolding some
-  spelling-some [] = refl
-  spelling-some (r ∷ rs) = rw (equal-to (r .owner), spelling-some rs)
-
-  pub spelling-probe : (m : Message) → isProbe a m ≡ isProbe b m
-  unfolding isProbe
-  spelling-probe m = rw (spelling-asks (m .questions), spelling-some (m .authorities))
-
--- What the contracts of `tiebreak` and `is_probe` say of a message that was read.
+-- What the contract of `tiebreak` says of a message that was read.
 module _ (p : List ℕ) (l : Layout) (m : Message) (was : messageAt p ≡ read l m) (other : List ℕ) where
   pub tie-read : (own : List TieRecord) → tie (theirs other (messageIn p l)) own ≡ tie (theirs other m) own
   tie-read own = ap (λ (n : Message). tie (theirs other n) own) (layout-shows p l m was)
-
-  pub probe-read : isProbe other (messageIn p l) ≡ isProbe other m
-  probe-read = ap (isProbe other) (layout-shows p l m was)

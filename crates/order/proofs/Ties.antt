@@ -8,7 +8,7 @@ use native.Mathlib.Omega.{arith}
 use lib.IntN.{negℤ}
 use Rattle.order.specs.declared.Verdict.the-variants.{Earlier, Same, Later}
 use Rattle.order.specs.Later.{numberOf, isLater, inTurn, TieRecord, compareRecords, sortBy, tie}
-use Rattle.order.specs.Probe.{ownRecord, ownList}
+use Rattle.order.specs.Lists.{ownRecord, ownList}
 use Rattle.order.proofs.Orders.{opposite, opposite-number, Order, number-earlier, number-same, lists-order, records-order}
 use Rattle.order.proofs.Sorting.{Least, none, and, Sorted, empty, first, perm-sort, sort-either, sorted-sort}
 

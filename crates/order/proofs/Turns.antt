@@ -1,35 +1,33 @@
--- A turn of each loop that walks a section, and what the functions without a loop answer. Assumes nothing.
+-- A turn of each loop, and what the functions without a loop answer. Assumes nothing.
 use mathlib.Core.Path.{_≡_, refl, sym, ap, _∙_}
 use mathlib.Core.List.{List, [], _∷_}
-use mathlib.Core.Bool.{Bool, true, false, cond, _&&_, _||_, and-false}
+use mathlib.Core.Bool.{Bool, true, false, cond}
 use Prim.Native.Nat.{ℕ, _+_, _-_, _%_, _<_, _≤_}
 use native.Mathlib.Omega.{arith}
 use native.Mathlib.Numerals.{add-one}
 use lib.ListN.{length, getD, drop, drop-of-length-le}
 use lib.Seq.{drop-cons}
-use lib.Dec.{eqb}
-use borrow.Author.Tests.{eq-eqb, ne-eqb, lt-leb, le-leb}
 use Rattle.names.specs.Answers.{nameIs}
 use Rattle.rdata.specs.Rdata.{rdata, rdataAt}
 use Rattle.rdata.specs.Answers.{fits}
 use Rattle.expansion.specs.Opened.{openedAt, viewOf}
 use Rattle.expansion.specs.declared.Opened.{Opened}
 use Rattle.expansion.proofs.Views.{view-is}
-use Rattle.wire.specs.Message.{Record}
-use Rattle.wire.specs.Layout.{Item, item, broken, questionAt, recordAt}
-use Rattle.wire.specs.declared.QuestionAt.{QuestionAt}
+use Rattle.wire.specs.Message.{Record, classOf}
+use Rattle.wire.specs.Layout.{broken, recordAt}
 use Rattle.wire.specs.declared.RecordAt.{RecordAt}
 use Rattle.wire.specs.declared.Layout.{Layout}
+use Rattle.probe.specs.Probe.{under, readable, messageIn}
+use Rattle.probe.proofs.Walk.{readable-item, readable-broken, readable-none, RecordMet}
 use Rattle.order.specs.declared.Verdict.{Verdict}
 use Rattle.order.specs.declared.Verdict.the-variants.{Earlier, Same, Later}
 use Rattle.order.specs.declared.Counts.{Counts}
 use Rattle.order.specs.Later.{numberOf, isLater, orElse, compareNumbers, inTurn, compareBytes, TieRecord, compareRecords, tie}
-use Rattle.order.specs.Probe.{under, tieRecord, listUnder, theirs, ownRecord, ownList, asksAll, some, isProbe, readable, messageIn}
-use Rattle.order.specs.Counts.{countOne, countMet, countAll, noneCounted, placed, beyond, dataOf, tieRecordAt, asksAt}
+use Rattle.order.specs.Lists.{tieRecord, listUnder, theirs, ownRecord, ownList}
+use Rattle.order.specs.Counts.{countOne, countMet, countAll, noneCounted, placed, beyond, dataOf, tieRecordAt}
 use Rattle.order.proofs.Orders.{number-earlier, number-later, number-same, records-order}
 use Rattle.order.proofs.Sorting.{not-later-swap}
 use Rattle.order.proofs.Counting.{tie-one, tie-two, tie-turned}
-use Rattle.order.proofs.Walk.{readable-item, readable-broken, readable-none, RecordMet}
 
 -- bytes in turn
 module _ (a b : List ℕ) (i : ℕ) (inv : compareBytes a b ≡ compareBytes (drop i a) (drop i b)) where
@@ -90,6 +88,14 @@ seen-record p f h o k seen s y v e =
     let is : seen ≡ dataOf (rdataAt p (f .rtype) (f .rdata) (f .rdlength)) = s ∙ sym (ap dataOf (view-is p (f .rtype) (f .rdata) (f .rdlength) h o k)) in
     e ∙ ap (λ (d : List ℕ). compareRecords (record { class = f .class % 32768; rtype = f .rtype; rdata = d }) y) is
 
+-- a record at the cursor, as the tiebreak sees it
+module _ (p : List ℕ) (at : ℕ) (other : List ℕ) (f : RecordAt) (m : RecordMet p at other f) where
+  seen-met : tieRecordAt p f ≡ tieRecord (m .said)
+  seen-met = λ i. record { class = classOf (m .class i); rtype = m .rtype i; rdata = ap dataOf (m .content) i }
+
+  pub fit-met : fits (rdataAt p (f .rtype) (f .rdata) (f .rdlength)) ≡ true
+  fit-met = ap fits (m .content)
+
 -- one record counted, or passed over
 module _ (t x : TieRecord) (c : Counts) (b u : Bool) (is : u ≡ b) where
   pub met-under : u ≡ true → (v : Verdict) → v ≡ compareRecords t x → (d : Counts) → d ≡ countOne v c → d ≡ countMet b t x c
@@ -134,60 +140,12 @@ module _ (p : List ℕ) (x : TieRecord) (other : List ℕ) (all : Counts) (n at 
       ∙ go rest (under other (m .said)) ∙ ap (countAll x (listUnder other rest)) (sym (e ∙ by-met))
     where
       by-met : countMet (nameIs p (f .owner) other) (tieRecordAt p f) x c ≡ countMet (under other (m .said)) (tieRecord (m .said)) x c
-      by-met = ap (λ (b : Bool). countMet b (tieRecordAt p f) x c) (m .named) ∙ ap (λ (t : TieRecord). countMet (under other (m .said)) t x c) (m .seen)
+      by-met = ap (λ (b : Bool). countMet b (tieRecordAt p f) x c) (m .named) ∙ ap (λ (t : TieRecord). countMet (under other (m .said)) t x c) (seen-met p at other f m)
 
       go : (rest : List Record) (b : Bool)
           → countAll x (cond b (tieRecord (m .said) ∷ listUnder other rest) (listUnder other rest)) c ≡ countAll x (listUnder other rest) (countMet b (tieRecord (m .said)) x c)
       go rest true = refl
       go rest false = refl
-
--- the loops that look for one
-module _ {A : Type 0} (test : A → Bool) (part : ℕ → Item A) (all : Bool) (n at : ℕ) (inv : all ≡ some test (readable part n at)) where
-  pub some-done : n ≤ 0 → false ≡ all
-  unfolding some
-  some-done l = sym (inv ∙ ap (some test) (readable-none part n at l))
-
-  pub some-broken : part at ≡ broken → false ≡ all
-  unfolding some
-  some-broken e = sym (inv ∙ ap (some test) (readable-broken part n at e))
-
-  module _ (lt : 0 < n) (x : A) (next : ℕ) (here : part at ≡ item x next) (v : Bool) (is : v ≡ test x) where
-    some-turn : all ≡ (v || some test (readable part (n - 1) next))
-    unfolding some
-    some-turn = inv ∙ ap (some test) (readable-item part n at x next lt here) ∙ ap (λ (b : Bool). b || some test (readable part (n - 1) next)) (sym is)
-
-    pub some-found : v ≡ true → true ≡ all
-    some-found e = sym (some-turn ∙ ap (λ (b : Bool). b || some test (readable part (n - 1) next)) e)
-
-    pub some-on : v ≡ false → all ≡ some test (readable part (n - 1) next)
-    some-on e = some-turn ∙ ap (λ (b : Bool). b || some test (readable part (n - 1) next)) e
-
--- a question that asks for all
-module _ (b : Bool) (f : QuestionAt) where
-  pub asks-other : (f .rtype ≡ 255 → ⊥) → false ≡ asksAt b f
-  asks-other ne = sym (simp (ne-eqb (f .rtype) 255 ne) (and-false b))
-
-  pub asks-elsewhere : (f .class % 32768 ≡ 1 → ⊥) → (f .class % 32768 ≡ 255 → ⊥) → false ≡ asksAt b f
-  asks-elsewhere u v = sym (simp (ne-eqb (f .class % 32768) 1 u, ne-eqb (f .class % 32768) 255 v) (go b (eqb (f .rtype) 255)))
-    where
-      go : (b t : Bool) → (b && (t && false)) ≡ false
-      go true true = refl
-      go true false = refl
-      go false t = refl
-
-  pub asks-one : f .rtype ≡ 255 → f .class % 32768 ≡ 1 → b ≡ asksAt b f
-  asks-one e u = sym (simp (eq-eqb (f .rtype) 255 e, eq-eqb (f .class % 32768) 1 u) (go b))
-    where
-      go : (b : Bool) → (b && true) ≡ b
-      go true = refl
-      go false = refl
-
-  pub asks-any : f .rtype ≡ 255 → f .class % 32768 ≡ 255 → b ≡ asksAt b f
-  asks-any e u = sym (simp (eq-eqb (f .rtype) 255 e, u) (go b))
-    where
-      go : (b : Bool) → (b && true) ≡ b
-      go true = refl
-      go false = refl
 
 -- the verdict from the answers of `place` and `past_own`
 module _ (l : List TieRecord) (x : TieRecord) (c : Counts) (is : c ≡ countAll x l noneCounted) (v : Verdict) (at : v ≡ placed 0 c) where
@@ -255,21 +213,6 @@ out-of-order x y v e f = ap isLater (sym e ∙ f)
 
 pub other-order : (x y : TieRecord) (v : Verdict) → v ≡ compareRecords x y → v ≡ Later → isLater (compareRecords y x) ≡ false
 other-order x y v e f = not-later-swap compareRecords records-order x y (out-of-order x y v e f)
-
--- a probe
-module _ (p : List ℕ) (l : Layout) (other : List ℕ) where
-  pub response-is-none : 32768 ≤ l .flags → false ≡ isProbe other (messageIn p l)
-  unfolding isProbe messageIn
-  response-is-none h = sym (simp (le-leb 32768 (l .flags) h))
-
-  module _ (query : l .flags < 32768) (v : Bool) (asked : v ≡ some (asksAll other) (readable (questionAt p) (l .questions .count) (l .questions .at))) where
-    pub not-asked : v ≡ false → false ≡ isProbe other (messageIn p l)
-    unfolding isProbe messageIn
-    not-asked e = sym (simp (lt-leb 32768 (l .flags) query, sym asked ∙ e))
-
-    pub asked-for : v ≡ true → (w : Bool) → w ≡ some (under other) (readable (recordAt p) (l .authorities .count) (l .authorities .at)) → w ≡ isProbe other (messageIn p l)
-    unfolding isProbe messageIn
-    asked-for e w h = h ∙ sym (simp (lt-leb 32768 (l .flags) query, sym asked ∙ e))
 
 -- a verdict with 01's number for it
 pub numbered : (v w : Verdict) → v ≡ w → (v ≡ w) × (numberOf v ≡ numberOf w)

@@ -2,15 +2,11 @@
 -- is a function of these counts (`tie-one` and `tie-two` in proofs/Counting.antt). Assumes nothing: these are definitions.
 use Prim.Native.Nat.{ℕ, _+_}
 use mathlib.Core.List.{List, [], _∷_}
-use mathlib.Core.Bool.{Bool, cond, _&&_, _||_}
-use lib.Dec.{ltb, eqb}
+use mathlib.Core.Bool.{Bool, cond}
+use lib.Dec.{ltb}
 use Rattle.rdata.specs.Rdata.{Rdata, rdata, unfit, rdataAt}
-use Rattle.wire.specs.Message.{Record, classOf}
-use Rattle.wire.specs.Layout.{Item, item, broken}
-use Rattle.wire.specs.declared.QuestionAt.{QuestionAt}
+use Rattle.wire.specs.Message.{classOf}
 use Rattle.wire.specs.declared.RecordAt.{RecordAt}
-use Rattle.wire.specs.declared.RecordRead.{RecordRead}
-use Rattle.wire.specs.declared.RecordRead.the-variants as r
 use Rattle.order.specs.declared.Verdict.{Verdict}
 use Rattle.order.specs.declared.Verdict.the-variants.{Earlier, Same, Later}
 use Rattle.order.specs.declared.Counts.{Counts}
@@ -42,11 +38,6 @@ placed k c = cond (ltb k (c .earlier)) Earlier (cond (ltb k (c .earlier + c .sam
 unfoldable pub beyond : ℕ → Counts → Verdict
 beyond k c = cond (ltb k (c .all)) Later Same
 
--- a record at an offset, unless it is broken
-abbrev pub unbroken : Item Record → RecordRead → RecordRead
-unbroken (item x next) a = a
-unbroken broken a = r.Malformed
-
 -- the bytes of rdata
 abbrev pub dataOf : Rdata → List ℕ
 dataOf (rdata d) = d
@@ -55,7 +46,3 @@ dataOf unfit = []
 -- a record as it lies, as the tiebreak sees it
 abbrev pub tieRecordAt : List ℕ → RecordAt → TieRecord
 tieRecordAt p f = record { class = classOf (f .class); rtype = f .rtype; rdata = dataOf (rdataAt p (f .rtype) (f .rdata) (f .rdlength)) }
-
--- a question as it lies, whose name is the one looked for or not
-abbrev pub asksAt : Bool → QuestionAt → Bool
-asksAt named q = named && (eqb (q .rtype) 255 && (eqb (classOf (q .class)) 1 || eqb (classOf (q .class)) 255))

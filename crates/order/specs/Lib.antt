@@ -1,3 +1,3 @@
 pub mod Later
-pub mod Probe
+pub mod Lists
 pub mod Counts

@@ -1,23 +1,21 @@
-// The order of record lists and the tiebreak (paper 01, 'A claim's life', "A probe is .." and "Later: .."; RFC 6762, 8.2): whether a message is a
-// probe for a name, and how its Authority records under that name stand to the own records of a claim. Nothing is copied and sorted: for each own
-// record one pass counts the records that stand before it and those that equal it, and the counts decide.
+// The order of record lists and the tiebreak (paper 01, 'A claim's life', "Later: .."; RFC 6762, 8.2): how a message's Authority records under a name
+// stand to the own records of the claim to it. Nothing is copied and sorted: for each own record one pass counts the records that stand before it
+// and those that equal it, and the counts decide. Whether the message is a probe is in the crate `probe`.
 ghost use mathlib.Core.Path.{_≡_};
 ghost use mathlib.Core.Bool.{true, false};
 ghost use mathlib.Core.List.{[], _∷_};
 ghost use Prim.Native.Nat.{_<_};
 ghost use Rattle.rdata.specs.Rdata.{rdataAt};
 ghost use Rattle.rdata.specs.Answers.{fits};
-ghost use Rattle.wire.specs.Layout.{questionAt, recordAt, recordRead};
+ghost use Rattle.wire.specs.Layout.{recordAt};
 ghost use Rattle.names.specs.Answers.{nameIs};
+ghost use Rattle.probe.specs.Probe.{readable, messageIn};
 ghost use Rattle.order.specs.Later.{numberOf, isLater, compareBytes, compareRecords, tie};
-ghost use Rattle.order.specs.Probe.{readable, under, asksAll, some, listUnder, ownRecord, ownList, theirs, isProbe, messageIn};
-ghost use Rattle.order.specs.Counts.{countOne, countMet, countAll, asksAt, noneCounted, placed, beyond, unbroken, tieRecordAt};
+ghost use Rattle.order.specs.Lists.{listUnder, ownRecord, ownList, theirs};
+ghost use Rattle.order.specs.Counts.{countOne, countMet, countAll, noneCounted, placed, beyond, tieRecordAt};
 
 // Own records are of class 1.
 const INTERNET: u16 = 1;
-
-// The type and the class that ask for all.
-const ANY: u16 = 255;
 
 // How one list stands to another. 01's numbers are -1, 0 and 1.
 pub enum Verdict {
@@ -97,21 +95,6 @@ fn compare_with_own(p: &[u8], f: wire::RecordAt, rtype: u16, own: &[u8]) -> Verd
     compare_records(class, f.rtype, seen, INTERNET, rtype, own)
 }
 
-// The record at an offset, if its rdata is as its type asks.
-fn whole_record(p: &[u8], at: usize) -> wire::RecordRead
-    ensures { λ r. ⌜ r ≡ unbroken (recordAt (now (p .entry)) at) (recordRead (now (p .entry)) at) ⌝ }
-{
-    match wire::record_at(p, at) {
-        wire::RecordRead::Found(f) => {
-            if rdata::rdata_fits(p, f.rtype, f.rdata, f.rdlength) {
-                return wire::RecordRead::Found(f);
-            }
-            wire::RecordRead::Malformed
-        }
-        wire::RecordRead::Malformed => wire::RecordRead::Malformed,
-    }
-}
-
 // Counts with one record more, which compares so with the own one.
 fn count_one(v: Verdict, c: Counts) -> Counts
     requires { ⌜ (c .all < 65535) × (c .earlier < 65535) × (c .same < 65535) ⌝ }
@@ -160,7 +143,7 @@ fn count_under(p: &[u8], s: wire::Section, name: &[u8], rtype: u16, own: &[u8]) 
     let mut here = s.at;
     let mut left = s.count;
     while 0 < left {
-        match whole_record(p, here) {
+        match probe::whole_record(p, here) {
             wire::RecordRead::Found(f) => {
                 c = count_met(p, f, name, rtype, own, c);
                 here = f.next;
@@ -271,82 +254,4 @@ pub fn tiebreak(
         Verdict::Same => against_two(p, s, name, a, first, b, second),
         Verdict::Later => against_two(p, s, name, b, second, a, first),
     }
-}
-
-// Whether a question asks for all that a name has, in class 1 or in any.
-fn asks(p: &[u8], q: wire::QuestionAt, name: &[u8]) -> bool
-    ensures { λ r. ⌜ r ≡ asksAt (nameIs (now (p .entry)) (q .name) (now (name .entry))) q ⌝ }
-{
-    if q.rtype != ANY {
-        return false;
-    }
-    let class = q.class % 32768;
-    if class == INTERNET {
-        return names::name_is(p, q.name, name);
-    }
-    if class == ANY {
-        return names::name_is(p, q.name, name);
-    }
-    false
-}
-
-// Whether a question of a section asks for all that a name has.
-fn some_asks(p: &[u8], s: wire::Section, name: &[u8]) -> bool
-    ensures { λ r. ⌜ r ≡ some (asksAll (now (name .entry))) (readable (questionAt (now (p .entry))) (s .count) (s .at)) ⌝ }
-{
-    let mut here = s.at;
-    let mut left = s.count;
-    while 0 < left {
-        match wire::question_at(p, here) {
-            wire::QuestionRead::Found(q) => {
-                if asks(p, q, name) {
-                    return true;
-                }
-                here = q.next;
-            }
-            wire::QuestionRead::Malformed => {
-                return false;
-            }
-        }
-        left -= 1;
-    }
-    false
-}
-
-// Whether a record of a section is under a name.
-fn some_under(p: &[u8], s: wire::Section, name: &[u8]) -> bool
-    ensures { λ r. ⌜ r ≡ some (under (now (name .entry))) (readable (recordAt (now (p .entry))) (s .count) (s .at)) ⌝ }
-{
-    let mut here = s.at;
-    let mut left = s.count;
-    while 0 < left {
-        match whole_record(p, here) {
-            wire::RecordRead::Found(f) => {
-                if names::name_is(p, f.owner, name) {
-                    return true;
-                }
-                here = f.next;
-            }
-            wire::RecordRead::Malformed => {
-                return false;
-            }
-        }
-        left -= 1;
-    }
-    false
-}
-
-// Whether the message is a probe for a name: a query with a question for all that the name has, and an Authority record under it.
-pub fn is_probe(p: &[u8], l: wire::Layout, name: &[u8]) -> bool
-    ensures { λ r. ⌜ r ≡ isProbe (now (name .entry)) (messageIn (now (p .entry)) l) ⌝ }
-{
-    let questions = l.questions;
-    let authorities = l.authorities;
-    if 32768 <= l.flags {
-        return false;
-    }
-    if !some_asks(p, questions, name) {
-        return false;
-    }
-    some_under(p, authorities, name)
 }

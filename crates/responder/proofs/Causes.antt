@@ -15,7 +15,7 @@ use Rattle.claims.specs.declared.Kind.{Kind}
 use Rattle.claims.specs.declared.Kind.the-variants.{Instance, Host}
 use Rattle.answers.specs.Answers.{gapOf, wantedOf}
 use Rattle.answers.proofs.Causes as causes
-use Rattle.order.specs.Probe.{isProbe}
+use Rattle.probe.specs.Probe.{isProbe}
 use Rattle.scan.specs.Facts.{factsOf, queryFacts, isAsked, isKnown, claimName}
 use Rattle.responder.specs.Calls.{claimFor, heardOf}
 use Rattle.responder.specs.declared.State.{State}

@@ -14,7 +14,7 @@ use Rattle.wire.proofs.Cursor.{Sections, sections}
 use Rattle.records.specs.declared.Own.{Own}
 use Rattle.records.specs.declared.Setup.{Setup}
 use Rattle.records.specs.Records.{ownOf, hasRecord, ownName, ownType, ownRdata, ownTtl}
-use Rattle.order.specs.Probe.{some}
+use Rattle.probe.specs.Probe.{some}
 use Rattle.scan.specs.Facts.{asksFor, suppresses, conflicts, conflicted}
 use Rattle.scan.specs.Walked.{isListed, someIn, flagsTo}
 

@@ -15,8 +15,8 @@ use Rattle.wire.proofs.Cursor.{Sections, sections, as-read, as-refused}
 use Rattle.records.specs.declared.Setup.{Setup}
 use Rattle.records.specs.declared.Claim.the-variants.{Instance, Host}
 use Rattle.records.specs.Records.{ownName, ownType, ownRdata, ownTtl}
-use Rattle.order.specs.Probe.{some, isProbe, messageIn}
-use Rattle.order.proofs.Walk.{layout-shows}
+use Rattle.probe.specs.Probe.{some, isProbe, messageIn}
+use Rattle.probe.proofs.Walk.{layout-shows}
 use Rattle.claims.specs.declared.Records.{Records}
 use Rattle.answers.specs.declared.Heard.{Heard}
 use Rattle.answers.specs.declared.Facts.{Facts}

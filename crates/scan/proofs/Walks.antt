@@ -19,7 +19,7 @@ use Rattle.wire.specs.declared.RecordAt.{RecordAt}
 use Rattle.wire.specs.declared.RecordRead.{RecordRead}
 use Rattle.wire.specs.declared.RecordRead.the-variants as r
 use Rattle.wire.proofs.Cursor.{Step, QuestionHere, RecordHere, step, done, question-met, question-never-malformed, record-met, record-never-malformed}
-use Rattle.order.specs.Probe.{some}
+use Rattle.probe.specs.Probe.{some}
 use Rattle.scan.specs.Facts.{asksFor, suppresses, conflicts}
 use Rattle.scan.specs.Walked.{isListed, someIn, asksHere, suppressesHere, conflictsHere}
 

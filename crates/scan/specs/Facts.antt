@@ -12,7 +12,8 @@ use Rattle.records.specs.declared.Claim.{Claim}
 use Rattle.records.specs.declared.Claim.the-variants.{Instance, Host}
 use Rattle.records.specs.Records.{hasRecord, ownName, ownType, ownTtl, ownRdata}
 use Rattle.order.specs.Later.{TieRecord, tie, isLater}
-use Rattle.order.specs.Probe.{some, isProbe, theirs, ownList}
+use Rattle.probe.specs.Probe.{some, isProbe}
+use Rattle.order.specs.Lists.{theirs, ownList}
 use Rattle.claims.specs.declared.Records.{Records}
 use Rattle.answers.specs.declared.Heard.{Heard}
 use Rattle.answers.specs.declared.Facts.{Facts}

@@ -11,7 +11,7 @@ use Rattle.wire.specs.Message.{classOf}
 use Rattle.wire.specs.Layout.{Listing, listing, cut}
 use Rattle.wire.specs.declared.QuestionAt.{QuestionAt}
 use Rattle.wire.specs.declared.RecordAt.{RecordAt}
-use Rattle.order.specs.Probe.{some}
+use Rattle.probe.specs.Probe.{some}
 
 -- the section is a list of whole items
 abbrev pub isListed : {A : Type 0} → Listing A → Bool

@@ -6,7 +6,7 @@ ghost use lib.Dec.{eqb};
 ghost use Rattle.wire.specs.Layout.{questionAt, recordAt, listFrom, messageAt, read};
 ghost use Rattle.wire.specs.Message.{Message, allRecords};
 ghost use Rattle.order.specs.Later.{isLater};
-ghost use Rattle.order.specs.Probe.{some, isProbe, messageIn};
+ghost use Rattle.probe.specs.Probe.{some, isProbe, messageIn};
 ghost use Rattle.records.specs.Records.{ownName, ownType, ownTtl, ownRdata};
 ghost use Rattle.scan.specs.Facts.{asksFor, suppresses, conflicts, conflicted, laterThan, each, factsOf, scannedOf};
 ghost use Rattle.scan.specs.Walked.{isListed, someIn, asksHere, suppressesHere, conflictsHere};
@@ -320,7 +320,7 @@ fn is_probe(p: &[u8], l: wire::Layout, setup: Setup, first: usize) -> bool
     let name = records::own_name(setup, first);
     let namebytes = name.bytes;
     let namelen = name.len;
-    order::is_probe(p, l, rdata::part(&namebytes, 0, namelen))
+    probe::is_probe(p, l, rdata::part(&namebytes, 0, namelen))
 }
 
 // What a query that has been checked says to the claim of two own records.

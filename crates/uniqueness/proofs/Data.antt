@@ -20,10 +20,11 @@ use Rattle.claims.specs.Records.{Own, PTR, SRV, TXT, A, AAAA}
 use Rattle.order.specs.declared.Verdict.{Verdict}
 use Rattle.order.specs.declared.Verdict.the-variants.{Earlier, Same, Later}
 use Rattle.order.specs.Later.{TieRecord, isLater, tie}
-use Rattle.order.specs.Probe.{some as someOf, under, tieRecord, listUnder, theirs, ownList, asksAll, isProbe}
-use Rattle.order.specs.Probe as probe
+use Rattle.probe.specs.Probe.{some as someOf, under, asksAll, isProbe}
+use Rattle.order.specs.Lists.{tieRecord, listUnder, theirs, ownList}
 use Rattle.order.proofs.Ties.{one-wins, perm-tie, perm-own, Rising, own-same, own-one, own-two, own-parts}
-use Rattle.order.proofs.Lists.{listed, spelling-list, spelling-probe}
+use Rattle.order.proofs.Lists.{listed, spelling-list}
+use Rattle.probe.proofs.Probes.{spelling-probe}
 use Rattle.scan.specs.Facts.{conflicts as differs, conflicted, inConflict, firstOf, secondOf, twoOf, laterThan, theirsLater}
 use Rattle.compose.specs.Own.{ownRecord, picked, probeRecords, probeOf, claimIndex}
 use Rattle.link.specs.Responder.{Claim, instance, host}

@@ -19,7 +19,7 @@ use Rattle.claims.specs.declared.Kind.{Kind}
 use Rattle.claims.specs.declared.Sent.{Sent}
 use Rattle.claims.specs.declared.Sent.the-variants.{Never, At}
 use Rattle.claims.specs.declared.Records.{Records}
-use Rattle.order.specs.Probe.{some as someOf, isProbe}
+use Rattle.probe.specs.Probe.{some as someOf, isProbe}
 use Rattle.answers.specs.Answers.{wantedOf, gapOf}
 use Rattle.answers.specs.declared.Heard.{Heard}
 use Rattle.answers.specs.declared.Facts.{Facts}

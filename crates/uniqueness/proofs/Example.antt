@@ -26,7 +26,8 @@ use Rattle.claims.specs.Refusals.{multicastsKept, kept, wrongTime}
 use Rattle.steps.specs.Steps.{moreDue, stepOf, unsentOf}
 use Rattle.steps.specs.Tick as steps
 use Rattle.order.specs.Later.{compareNumbers, inTurn, compareRecords, insertBy, sortBy, tie}
-use Rattle.order.specs.Probe.{listUnder, some as someOf, isProbe}
+use Rattle.probe.specs.Probe.{some as someOf, isProbe}
+use Rattle.order.specs.Lists.{listUnder}
 use Rattle.answers.specs.Answers as answers
 use Rattle.scan.specs.Facts.{isAsked, isKnown, conflicted, laterThan, responseFacts, queryFacts, factsOf}
 use Rattle.compose.specs.Packets.{putName, dataBytes, dataPlaces, putFields, packetOf}

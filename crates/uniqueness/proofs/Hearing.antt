@@ -14,7 +14,7 @@ use Rattle.claims.specs.declared.Claim as life
 use Rattle.claims.specs.declared.Claim.the-variants.{Waiting, Probing1, Probing2, Probing3, Deferred, Announced, Held, Lost}
 use Rattle.claims.specs.declared.Kind.{Kind}
 use Rattle.claims.specs.declared.Kind.the-variants.{Instance, Host}
-use Rattle.order.specs.Probe.{some as someOf, asksAll, under, isProbe}
+use Rattle.probe.specs.Probe.{some as someOf, asksAll, under, isProbe}
 use Rattle.answers.specs.Answers.{heardOf}
 use Rattle.answers.specs.declared.Heard.{Heard}
 use Rattle.answers.specs.declared.Facts.{Facts}

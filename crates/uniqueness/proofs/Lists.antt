@@ -5,7 +5,7 @@ use mathlib.Core.Bool.{Bool, true, false, cond, not, _&&_, _||_}
 use mathlib.Core.List.{List, [], _∷_, _++_, map}
 use Prim.Native.Nat.{ℕ}
 use native.Mathlib.Omega.{arith}
-use Rattle.order.specs.Probe.{some}
+use Rattle.probe.specs.Probe.{some}
 use Rattle.compose.specs.Own.{picked}
 use Rattle.link.specs.Premises.{Among}
 

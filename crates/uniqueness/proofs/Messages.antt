@@ -20,7 +20,7 @@ use Rattle.claims.specs.declared.Records.{Records}
 use Rattle.steps.specs.declared.Output.{Output}
 use Rattle.steps.specs.declared.Output.the-variants.{Nothing, Probe, Response}
 use Rattle.steps.specs.Tick as steps
-use Rattle.order.specs.Probe.{some as someOf, under}
+use Rattle.probe.specs.Probe.{some as someOf, under}
 use Rattle.compose.specs.Own.{ownRecord, responseRecords, responseOf, noneIfEmpty, responsePacket, probePacket, probeOf}
 use Rattle.roundtrip.specs.OwnPackets.{response-back, probe-back}
 use Rattle.responder.specs.Calls.{claimFor, listed, packets, packetFor}

@@ -15,7 +15,7 @@ use Rattle.claims.specs.Claims.{dueOf, replyDueOf}
 use Rattle.claims.specs.declared.Kind.{Kind}
 use Rattle.claims.specs.declared.Kind.the-variants.{Instance, Host}
 use Rattle.claims.specs.Records.{Own, PTR, SRV, TXT, A, AAAA}
-use Rattle.order.specs.Probe.{some as someOf, isProbe, under}
+use Rattle.probe.specs.Probe.{some as someOf, isProbe, under}
 use Rattle.scan.specs.Facts.{inConflict, claimName, theirsLater}
 use Rattle.responder.specs.Calls.{claimFor, startOf, receivedPacket, receiveOf, tickedPacket, tickOf}
 use Rattle.responder.specs.declared.State.{State}

@@ -1,14 +1,15 @@
 -- `order::count_under` meets its contract. Assumes nothing.
 use Rattle.names.specs.Answers.{nameIs}
 use Rattle.order.specs.Counts.{tieRecordAt}
-use Rattle.order.proofs.Turns.{count-done, count-broken, count-turn, met-bounds}
-use Rattle.order.proofs.Walk.{record-found, record-broken}
+use Rattle.order.proofs.Turns.{count-done, count-broken, count-turn, met-bounds, fit-met}
+use Rattle.probe.proofs.Walk.{record-found, record-broken}
 use borrow.Author.Needs.{needs}
 use mathlib.Core.Path.{_≡_}
 use native.Mathlib.Omega.{arith}
 use Prim.Native.Nat.{_+_, _<_, _≤_}
 use Rattle.wire.specs.Layout.{recordAt}
-use Rattle.order.specs.Probe.{listUnder, readable, ownRecord}
+use Rattle.probe.specs.Probe.{readable}
+use Rattle.order.specs.Lists.{listUnder, ownRecord}
 use Rattle.order.specs.Counts.{countAll, noneCounted}
 use Rattle.order.proofs.count_under.Statement.{statement}
 use Rattle.order.proofs.count_under.Tie as tie
@@ -29,7 +30,7 @@ enum-known-f : tie.Need-enum-known-f Inv-loop μ-loop
 enum-known-f c = search needs
 
 count-met-requires : tie.Need-count-met-requires Inv-loop μ-loop
-count-met-requires c κs = let a = c .before .before .before .before .before .before .before .before .before .args in let m = record-found (a .p .now) (c .before .before .before .before .before .loop .here) _ (c .before .before .before .whole-record .ensures) _ (c .before .f .given .1) (a .name .now) in (m .fit, (omega arith, omega arith, omega arith))
+count-met-requires c κs = let a = c .before .before .before .before .before .before .before .before .before .args in let m = record-found (a .p .now) (c .before .before .before .before .before .loop .here) _ (c .before .before .before .whole-record .ensures) _ (c .before .f .given .1) (a .name .now) in (fit-met _ _ _ _ m, (omega arith, omega arith, omega arith))
 
 enum-told : tie.Need-enum-told Inv-loop μ-loop
 enum-told c = search needs

@@ -1,14 +1,14 @@
 use mathlib.Core.Path.{ap, _∙_}
 use mathlib.Core.List.{List}
 use Prim.Native.Nat.{ℕ}
-use Rattle.order.specs.Probe.{isProbe, messageIn}
+use Rattle.probe.specs.Probe.{isProbe, messageIn}
 use Rattle.scan.proofs.Owned.{own-part}
 use borrow.Author.Needs.{needs}
 use Rattle.scan.proofs.is_probe.Statement.{statement}
 use Rattle.scan.proofs.is_probe.Tie as tie
 use Rattle.scan.proofs.is_probe.Reads as reads
 use Rattle.scan.proofs.is_probe.Lts as lts
-use Rattle.order.proofs.is_probe.Reads as is-probe-reads
+use Rattle.probe.proofs.is_probe.Reads as is-probe-reads
 use Rattle.rdata.proofs.part.Reads as part-reads
 use Rattle.records.proofs.own_name.Reads as own-name-reads
 

@@ -4,7 +4,8 @@ use Prim.Native.Nat.{ℕ}
 use lib.ListN.{take, drop}
 use Rattle.records.specs.Records.{ownName, ownRdata}
 use Rattle.order.specs.Later.{isLater, tie}
-use Rattle.order.specs.Probe.{theirs, ownList, messageIn}
+use Rattle.probe.specs.Probe.{messageIn}
+use Rattle.order.specs.Lists.{theirs, ownList}
 use Rattle.scan.specs.Facts.{laterThan}
 use Rattle.scan.proofs.Owned.{own-part}
 use borrow.Author.Needs.{needs}

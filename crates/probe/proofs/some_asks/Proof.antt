@@ -1,14 +1,14 @@
--- `order::some_asks` meets its contract. Assumes nothing.
-use Rattle.order.proofs.Turns.{some-found, some-on, some-broken, some-done}
-use Rattle.order.proofs.Walk.{question-found, question-broken}
+-- `probe::some_asks` meets its contract. Assumes nothing.
+use Rattle.probe.proofs.Turns.{some-found, some-on, some-broken, some-done}
+use Rattle.probe.proofs.Walk.{question-found, question-broken}
 use mathlib.Core.Path.{_∙_}
 use borrow.Author.Needs.{needs}
 use mathlib.Core.Path.{_≡_}
 use native.Mathlib.Omega.{arith}
 use Rattle.wire.specs.Layout.{questionAt}
-use Rattle.order.specs.Probe.{some, asksAll, readable}
-use Rattle.order.proofs.some_asks.Statement.{statement}
-use Rattle.order.proofs.some_asks.Tie as tie
+use Rattle.probe.specs.Probe.{some, asksAll, readable}
+use Rattle.probe.proofs.some_asks.Statement.{statement}
+use Rattle.probe.proofs.some_asks.Tie as tie
 
 abbrev Inv-loop : tie.InvT-loop
 Inv-loop p name here₀ left₀ here left = some (asksAll name) (readable (questionAt p) left₀ here₀) ≡ some (asksAll name) (readable (questionAt p) left here)

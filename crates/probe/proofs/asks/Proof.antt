@@ -1,10 +1,10 @@
--- `order::asks` meets its contract. Assumes nothing.
+-- `probe::asks` meets its contract. Assumes nothing.
 use Rattle.names.specs.Answers.{nameIs}
-use Rattle.order.proofs.Turns.{asks-other, asks-elsewhere, asks-one, asks-any}
+use Rattle.probe.proofs.Turns.{asks-other, asks-elsewhere, asks-one, asks-any}
 use mathlib.Core.Path.{_∙_}
 use borrow.Author.Needs.{needs}
-use Rattle.order.proofs.asks.Statement.{statement}
-use Rattle.order.proofs.asks.Tie as tie
+use Rattle.probe.proofs.asks.Statement.{statement}
+use Rattle.probe.proofs.asks.Tie as tie
 
 returns : tie.Need-returns
 returns c = let a = c .before .before .before .before .args in asks-other (nameIs (a .p .now) (a .q .name) (a .name .now)) (a .q) (c .if1 .taken)

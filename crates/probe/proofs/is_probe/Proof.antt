@@ -1,10 +1,10 @@
--- `order::is_probe` meets its contract. Assumes nothing.
-use Rattle.order.proofs.Turns.{response-is-none, not-asked, asked-for}
+-- `probe::is_probe` meets its contract. Assumes nothing.
+use Rattle.probe.proofs.Turns.{response-is-none, not-asked, asked-for}
 use borrow.Author.Tests.{not-true, not-false}
 use native.Mathlib.Omega.{arith}
 use borrow.Author.Needs.{needs}
-use Rattle.order.proofs.is_probe.Statement.{statement}
-use Rattle.order.proofs.is_probe.Tie as tie
+use Rattle.probe.proofs.is_probe.Statement.{statement}
+use Rattle.probe.proofs.is_probe.Tie as tie
 
 returns : tie.Need-returns
 returns c = let a = c .before .before .before .before .before .before .args in response-is-none (a .p .now) (a .l) (a .name .now) (omega arith)

@@ -1,14 +1,14 @@
--- `order::some_under` meets its contract. Assumes nothing.
-use Rattle.order.proofs.Turns.{some-found, some-on, some-broken, some-done}
-use Rattle.order.proofs.Walk.{record-found, record-broken}
+-- `probe::some_under` meets its contract. Assumes nothing.
+use Rattle.probe.proofs.Turns.{some-found, some-on, some-broken, some-done}
+use Rattle.probe.proofs.Walk.{record-found, record-broken}
 use mathlib.Core.Path.{_∙_}
 use borrow.Author.Needs.{needs}
 use mathlib.Core.Path.{_≡_}
 use native.Mathlib.Omega.{arith}
 use Rattle.wire.specs.Layout.{recordAt}
-use Rattle.order.specs.Probe.{some, under, readable}
-use Rattle.order.proofs.some_under.Statement.{statement}
-use Rattle.order.proofs.some_under.Tie as tie
+use Rattle.probe.specs.Probe.{some, under, readable}
+use Rattle.probe.proofs.some_under.Statement.{statement}
+use Rattle.probe.proofs.some_under.Tie as tie
 
 abbrev Inv-loop : tie.InvT-loop
 Inv-loop p name here₀ left₀ here left = some (under name) (readable (recordAt p) left₀ here₀) ≡ some (under name) (readable (recordAt p) left here)

@@ -10,7 +10,7 @@ use Rattle.names.specs.Names.{name, nameAt}
 use Rattle.names.specs.Answers.{sameAs, nameIs}
 use Rattle.rdata.specs.Rdata.{Rdata, rdata, unfit, rdataAt}
 use Rattle.rdata.specs.Answers.{fits}
-use Rattle.wire.specs.Message.{Question, Record, Message, classOf}
+use Rattle.wire.specs.Message.{Question, Record, Message}
 use Rattle.wire.specs.Layout.{Item, item, broken, Listing, listing, cut, first, andOn, listFrom, bytesOf, questionRead, questionMeant, questionAt, recordRead, withRdata, recordMeant, recordAt, read, messageAt}
 use Rattle.wire.specs.declared.QuestionAt.{QuestionAt}
 use Rattle.wire.specs.declared.QuestionRead.{QuestionRead}
@@ -20,8 +20,8 @@ use Rattle.wire.specs.declared.RecordRead.{RecordRead}
 use Rattle.wire.specs.declared.RecordRead.the-variants as r
 use Rattle.wire.specs.declared.Layout.{Layout}
 use Rattle.wire.proofs.Cursor.{record-here, question-here, Sections, sections}
-use Rattle.order.specs.Probe.{under, tieRecord, asksAll, andMore, readable, messageIn}
-use Rattle.order.specs.Counts.{unbroken, dataOf, tieRecordAt, asksAt}
+use Rattle.probe.specs.Probe.{under, asksAll, andMore, readable, messageIn}
+use Rattle.probe.specs.Walked.{unbroken, asksAt}
 
 -- a section a step at a time
 module _ {A : Type 0} (part : ℕ → Item A) where
@@ -107,13 +107,14 @@ module _ (p : List ℕ) (at : ℕ) (a : RecordRead) (is : a ≡ recordRead p at)
         go (rdata d) g = let z : _≡_ {A = ℕ} 0 1 = cc in absurd (omega arith)
         go unfit g = refl
 
--- A record at the cursor: what it says, as the tiebreak sees it.
+-- A record at the cursor: what it says.
 pub record RecordMet (p : List ℕ) (at : ℕ) (other : List ℕ) (f : RecordAt) : Type 0 where
   pub said : Record
   pub here : recordAt p at ≡ item said (f .next)
   pub named : nameIs p (f .owner) other ≡ under other said
-  pub seen : tieRecordAt p f ≡ tieRecord said
-  pub fit : fits (rdataAt p (f .rtype) (f .rdata) (f .rdlength)) ≡ true
+  pub class : f .class ≡ said .class
+  pub rtype : f .rtype ≡ said .rtype
+  pub content : rdataAt p (f .rtype) (f .rdata) (f .rdlength) ≡ rdata (said .rdata)
 
 -- what a caller of `whole_record` learns from its answer
 module _ (p : List ℕ) (at : ℕ) (a : RecordRead) (is : a ≡ unbroken (recordAt p at) (recordRead p at)) where
@@ -135,17 +136,13 @@ module _ (p : List ℕ) (at : ℕ) (a : RecordRead) (is : a ≡ unbroken (record
           let h = record-here p at x next k in
           let g : r.Found (h .fields) ≡ r.Found f = sym (h .found) ∙ sym (ap (λ (y : Item Record). unbroken y (recordRead p at)) k) ∙ sym is ∙ e in
           let same : h .fields ≡ f = cc in
-          let content : rdataAt p (f .rtype) (f .rdata) (f .rdlength) ≡ rdata (x .rdata) = ap (λ (y : RecordAt). rdataAt p (y .rtype) (y .rdata) (y .rdlength)) (sym same) ∙ h .content in
           record {
             said = x;
             here = k ∙ ap (item x) (sym (h .past) ∙ ap (λ (y : RecordAt). y .next) same);
             named = ap (λ (n : ℕ). nameIs p n other) (ap (λ (y : RecordAt). y .owner) (sym same) ∙ h .place) ∙ name-read p at (x .owner) (h .end) other (h .named);
-            seen = λ i. record {
-              class = classOf ((ap (λ (y : RecordAt). y .class) (sym same) ∙ h .class) i);
-              rtype = (ap (λ (y : RecordAt). y .rtype) (sym same) ∙ h .rtype) i;
-              rdata = ap dataOf content i;
-            };
-            fit = ap fits content;
+            class = ap (λ (y : RecordAt). y .class) (sym same) ∙ h .class;
+            rtype = ap (λ (y : RecordAt). y .rtype) (sym same) ∙ h .rtype;
+            content = ap (λ (y : RecordAt). rdataAt p (y .rtype) (y .rdata) (y .rdlength)) (sym same) ∙ h .content;
           }
       go broken k =
           let g : r.Found f ≡ r.Malformed = sym e ∙ is ∙ ap (λ (y : Item Record). unbroken y (recordRead p at)) k in

@@ -1,8 +1,8 @@
--- `order::whole_record` meets its contract. Assumes nothing.
-use Rattle.order.proofs.Walk.{whole-fit, whole-unfit, whole-bad}
+-- `probe::whole_record` meets its contract. Assumes nothing.
+use Rattle.probe.proofs.Walk.{whole-fit, whole-unfit, whole-bad}
 use borrow.Author.Needs.{needs}
-use Rattle.order.proofs.whole_record.Statement.{statement}
-use Rattle.order.proofs.whole_record.Tie as tie
+use Rattle.probe.proofs.whole_record.Statement.{statement}
+use Rattle.probe.proofs.whole_record.Tie as tie
 
 record-at-requires : tie.Need-record-at-requires
 record-at-requires c κs = search needs

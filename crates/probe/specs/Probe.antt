@@ -1,37 +1,17 @@
--- Probes and the two lists of a tiebreak (paper 01, 'A claim's life'): "A probe is a query with a type 255, class 1 or 255 question for the claim's
--- name and at least one Authority record under it." Assumes nothing: these are definitions.
+-- Probes (paper 01, 'A claim's life'): "A probe is a query with a type 255, class 1 or 255 question for the claim's name and at least one Authority
+-- record under it." Assumes nothing: these are definitions.
 use Prim.Native.Nat.{ℕ, zero, suc}
 use mathlib.Core.List.{List, [], _∷_}
-use mathlib.Core.Bool.{Bool, false, cond, not, _&&_, _||_}
+use mathlib.Core.Bool.{Bool, false, not, _&&_, _||_}
 use lib.Dec.{eqb}
 use Rattle.fold.specs.Fold.{sameName}
 use Rattle.wire.specs.Message.{Question, Record, Message, classOf, isResponse}
 use Rattle.wire.specs.Layout.{Item, item, broken, questionAt, recordAt}
 use Rattle.wire.specs.declared.Layout.{Layout}
-use Rattle.order.specs.Later.{TieRecord}
 
 -- a record is "under" a name when its owner equals it; class, type and TTL do not matter
 abbrev pub under : List ℕ → Record → Bool
 under name r = sameName (r .owner) name
-
--- "Class means the low 15 bits"; the TTL and the spelling of the owner do not enter
-abbrev pub tieRecord : Record → TieRecord
-tieRecord r = record { class = classOf (r .class); rtype = r .rtype; rdata = r .rdata }
-
--- their list: every record under the name, in the packet's order, repeats with them
-unfoldable pub listUnder : List ℕ → List Record → List TieRecord
-listUnder name [] = []
-listUnder name (r ∷ rs) = cond (under name r) (tieRecord r ∷ listUnder name rs) (listUnder name rs)
-
-abbrev pub theirs : List ℕ → Message → List TieRecord
-theirs name m = listUnder name (m .authorities)
-
--- the own list of a claim: class 1, one record or two, each with its type and expanded rdata
-abbrev pub ownRecord : ℕ → List ℕ → TieRecord
-ownRecord rtype d = record { class = 1; rtype = rtype; rdata = d }
-
-abbrev pub ownList : ℕ → List ℕ → Bool → ℕ → List ℕ → List TieRecord
-ownList rtype d both rtype₂ d₂ = ownRecord rtype d ∷ cond both (ownRecord rtype₂ d₂ ∷ []) []
 
 -- "a type 255, class 1 or 255 question for the claim's name"; "The unicast bit in questions is ignored."
 abbrev pub asksAll : List ℕ → Question → Bool
