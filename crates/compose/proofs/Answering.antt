@@ -1,32 +1,33 @@
 -- A response and a probe: the header, the question, the records, and what the buffer then is. Assumes nothing.
 use mathlib.Core.Path.{_≡_, refl, sym, ap, ap₂, _∙_, subst}
 use mathlib.Core.List.{List, [], _∷_, _++_, map}
-use mathlib.Core.Bool.{Bool, true, false, cond}
+use mathlib.Core.Bool.{Bool, true, false}
 use Prim.Native.Nat.{ℕ, zero, suc, _+_, _-_, _<_, _≤_}
 use native.Mathlib.Omega.{arith}
 use borrow.Author.Tests.{le-leb, lt-ltb, le-ltb, eq-eqb, ne-eqb}
-use lib.ListN.{length, take, drop, length-append, length-take, length-drop}
-use lib.Seq.{sets, sets-eq, length-sets, length-take-le, take-at, drop-at, drop-drop}
-use lib.Dec.{leb, ltb, eqb}
-use Rattle.names.specs.Names.{isName}
+use lib.ListN.{length, take, drop}
+use lib.Seq.{sets, sets-eq, length-sets, length-take-le, drop-at, drop-drop}
+use lib.Dec.{eqb}
 use Rattle.compression.specs.Compression.{labelsIn}
-use Rattle.wire.specs.Message.{Record, Message}
 use Rattle.records.specs.declared.Setup.{Setup}
 use Rattle.records.specs.declared.Own.{Own}
 use Rattle.records.specs.declared.Claim.{Claim}
 use Rattle.records.specs.Setups.{validSetup}
 use Rattle.records.specs.Records.{ownOf, ownName}
 use Rattle.records.proofs.Valid.{Valid, valid, own-is-name}
-use Rattle.compose.specs.declared.Spot.{Spot}
+use Rattle.writer.specs.declared.Spot.{Spot}
+use Rattle.writer.specs.declared.Placed.{Placed}
+use Rattle.writer.specs.Items.{Writing, putQuestion, putRecord}
+use Rattle.writer.specs.Writer.{heldIn, questionOf, nameFits, questionFits, Placing, Grown}
+use Rattle.writer.proofs.Use.{question-size, question-count, question-low, record-low, held-so}
 use Rattle.compose.specs.declared.Picked.{Picked}
 use Rattle.compose.specs.declared.Written.{Written}
 use Rattle.compose.specs.declared.Written.the-variants.{Sent, Nothing, Refused}
-use Rattle.compose.specs.Packets.{Writing, headerBytes, header, putQuestion, putRecord, putAll, packetOf}
-use Rattle.compose.specs.Writer.{heldIn, questionOf, nameFits, questionFits, Grown}
+use Rattle.compose.specs.Packets.{headerBytes, putAll, packetOf}
 use Rattle.compose.specs.Own.{refusalOf, lengthOf, ownRecord, responseRecords, probeRecords, claimIndex, responseOf, probeOf, noneIfEmpty, responsePacket, probePacket, refusal, unlessRefused, sentOf, writtenOf, laidOver}
-use Rattle.compose.specs.Ready.{HeaderReady, ListReady, Picks, sizes, labelCounts}
-use Rattle.compose.proofs.Owned.{own-front, own-names, record-low, held-so}
-use Rattle.compose.proofs.Room.{response-size, response-labels, probe-size, probe-labels, claim-size, claim-labels, question-size, question-count, question-low}
+use Rattle.compose.specs.Ready.{spotAfter, ListReady, Picks}
+use Rattle.compose.proofs.Owned.{own-front, placed-grown, own-names}
+use Rattle.compose.proofs.Room.{response-size, response-labels, probe-size, probe-labels, claim-size, claim-labels}
 
 -- the answer and the buffer
 abbrev Answered : ℕ → List ℕ → List ℕ → Written → List ℕ → Type 0
@@ -181,7 +182,7 @@ module _ (s : Setup) (o : List ℕ) where
           name-is : take (n .len) (n .bytes) ≡ ownName s (claimIndex claim)
           name-is = own-front (ownName s k) n en ∙ ap (ownName s) ek
 
-          pub question-fits : questionFits 12 0 (take (n .len) (n .bytes)) (length o₁) (length pl) ≡ true
+          question-fits : questionFits 12 0 (take (n .len) (n .bytes)) (length o₁) (length pl) ≡ true
           unfolding nameFits
           question-fits =
               let a : 12 + length (ownName s (claimIndex claim)) + 4 ≤ length o₁ = omega (arith, claim-size s ok claim, same 0 1 0 (list .n) o₁ w₁) in
@@ -189,8 +190,9 @@ module _ (s : Setup) (o : List ℕ) where
               let c : 0 + labelsIn (ownName s (claimIndex claim)) + 0 ≤ length pl = omega (arith, claim-labels s ok claim) in
               ap (λ (l : List ℕ). nameFits 12 0 l 4 0 (length o₁) (length pl)) name-is ∙ simp (own-is-name s ok (claimIndex claim), le-leb _ _ a, le-leb _ _ b, le-leb _ _ c)
 
-          module _ (q : Spot) (o₂ pl₂ : List ℕ) (gq : Grown (putQuestion (heldIn o₁ pl 12 0) (questionOf (take (n .len) (n .bytes)) 255 1)) o₁ pl q o₂ pl₂)
-              (lo : length o₂ ≡ length o₁) (lp : length pl₂ ≡ length pl)
+          module _ (placed : Placed) (o₂ pl₂ : List ℕ)
+              (pq : Placing (questionFits 12 0 (take (n .len) (n .bytes)) (length o₁) (length pl)) (putQuestion (heldIn o₁ pl 12 0) (questionOf (take (n .len) (n .bytes)) 255 1)) o₁ pl placed o₂ pl₂) (q : Spot)
+              (eq : q ≡ spotAfter placed 12 0) (lo : length o₂ ≡ length o₁) (lp : length pl₂ ≡ length pl)
             where
               abbrev vq : Writing
               vq = putQuestion (record { bytes = headerBytes 0 0 1 0 (list .n) 0; places = [] }) (questionOf (ownName s (claimIndex claim)) 255 1)
@@ -198,7 +200,7 @@ module _ (s : Setup) (o : List ℕ) where
               first : Grown vq o₁ pl q o₂ pl₂
               first =
                   subst (λ (w : Writing). Grown w o₁ pl q o₂ pl₂)
-                  (ap₂ (λ (w : Writing) (l : List ℕ). putQuestion w (questionOf l 255 1)) (held 0 1 0 (list .n) o₁ w₁ pl) name-is) gq
+                  (ap₂ (λ (w : Writing) (l : List ℕ). putQuestion w (questionOf l 255 1)) (held 0 1 0 (list .n) o₁ w₁ pl) name-is) (placed-grown _ _ o₁ pl placed o₂ pl₂ pq question-fits 12 0 q eq)
 
               first-size : length (vq .bytes) ≤ 109
               first-size =

@@ -1,9 +1,4 @@
 -- Laws that belong to no one function.
-pub mod Runs
-pub mod Starts
-pub mod Cutting
-pub mod Parts
-pub mod Fitting
 pub mod Owned
 pub mod Picking
 pub mod Room

@@ -1,34 +1,31 @@
 -- Own records into a packet: one of them, and a list of them one after the other. Assumes nothing.
 use mathlib.Core.Path.{_≡_, refl, sym, ap, ap₂, _∙_, subst}
-use mathlib.Core.List.{List, [], _∷_, _++_, append-assoc, append-nil, map}
-use mathlib.Core.Bool.{Bool, true, false, not, cond, _&&_, _||_}
-use Prim.Native.Nat.{ℕ, zero, suc, _+_, _-_, _/_, _%_, _<_, _≤_}
+use mathlib.Core.List.{List, [], _∷_, _++_, map}
+use mathlib.Core.Bool.{Bool, true, false, cond}
+use Prim.Native.Nat.{ℕ, _+_, _-_, _<_, _≤_}
 use native.Mathlib.Numerals.{add-one}
 use native.Mathlib.Omega.{arith}
-use borrow.Author.Tests.{le-leb, lt-leb}
-use lib.ListN.{length, getD, take, drop, set, replicate, length-append, length-take, length-drop, length-set, take-append-drop, drop-of-length-le}
-use lib.Seq.{sets, take-at, drop-at, drop-cons, take-suc-set, length-take-le, take-all, getD-take, drop-append-add, drop-drop}
-use lib.Dec.{leb, ltb, eqb}
-use Rattle.names.specs.Names.{isName}
+use borrow.Author.Tests.{le-leb}
+use lib.ListN.{length, getD, take, drop, replicate, length-take, take-append-drop, drop-of-length-le}
+use lib.Seq.{sets, take-at, drop-at, drop-cons, length-take-le, drop-drop}
+use lib.Dec.{eqb}
 use Rattle.labels.specs.Labels.{encode}
 use Rattle.labels.proofs.Encoded.{is-name}
-use Rattle.compression.specs.Compression.{nameBytes, namePlaces, labelsIn}
-use Rattle.compression.proofs.Written.{name-short, places-few}
+use Rattle.compression.specs.Compression.{labelsIn}
 use Rattle.wire.specs.Message.{Record}
 use Rattle.records.specs.declared.Setup.{Setup}
 use Rattle.records.specs.declared.Own.{Own}
-use Rattle.records.specs.declared.Claim.{Claim}
-use Rattle.records.specs.declared.Claim.the-variants.{Instance, Host}
-use Rattle.records.specs.Setups.{validSetup, instanceLabels, hostLabels}
-use Rattle.records.specs.Records.{ownOf, hasRecord, ownName, ownType, ownClass, ownTtl, ownRdata, srvRdata}
+use Rattle.records.specs.Setups.{validSetup, instanceLabels}
+use Rattle.records.specs.Records.{ownOf, ownName, ownType, ownTtl, ownRdata, srvRdata}
 use Rattle.records.proofs.Valid.{Valid, valid, instance-name, host-name, own-is-name}
-use Rattle.compose.specs.declared.Spot.{Spot}
-use Rattle.compose.specs.declared.Picked.{Picked}
-use Rattle.compose.specs.Packets.{Writing, u16, fields, headerBytes, dataBytes, dataPlaces, putName, putFields, putRecord, putAll}
-use Rattle.compose.specs.Writer.{heldIn, spotOf, recordOf, namesFit, labelsFor, nameFits, recordFits, Grown}
-use Rattle.compose.specs.Own.{classIn, ownRecord, picked, responseRecords, probeRecords}
-use Rattle.compose.specs.Ready.{HeaderReady, sizeOf, labelsOf, sizes, labelCounts, OwnReady, ListReady, Picks}
-use Rattle.compose.proofs.Parts.{data-short, data-few}
+use Rattle.writer.specs.declared.Spot.{Spot}
+use Rattle.writer.specs.declared.Placed.{Placed}
+use Rattle.writer.specs.Items.{Writing, u16, putRecord}
+use Rattle.writer.specs.Writer.{heldIn, spotOf, recordOf, namesFit, labelsFor, nameFits, recordFits, Placing, Grown}
+use Rattle.writer.proofs.Use.{is-done, is-grown, record-size, record-count, record-low, places-low, held-so}
+use Rattle.compose.specs.Packets.{headerBytes, putAll}
+use Rattle.compose.specs.Own.{classIn, ownRecord}
+use Rattle.compose.specs.Ready.{spotAfter, sizeOf, labelsOf, sizes, labelCounts, OwnReady, ListReady}
 
 -- six runs of two bytes
 pub six : (o : List ℕ) (a b c d e f : ℕ) (o₁ o₂ o₃ o₄ o₅ o₆ : List ℕ) → o₁ ≡ sets o 0 (u16 a) → o₂ ≡ sets o₁ 2 (u16 b) → o₃ ≡ sets o₂ 4 (u16 c) → o₄ ≡ sets o₃ 6 (u16 d) → o₅ ≡ sets o₄ 8 (u16 e) → o₆ ≡ sets o₅ 10 (u16 f)
@@ -50,6 +47,12 @@ module _ (bs : List ℕ) (r : Own) (e : r ≡ ownOf bs) where
 
   pub own-fits : r .len ≤ length (r .bytes)
   own-fits = omega (arith, own-long, length-take (r .len) (r .bytes))
+
+-- what fits is put, so the packet ends behind it
+pub placed-grown : (fits : Bool) (v : Writing) (o pl : List ℕ) (placed : Placed) (o′ pl′ : List ℕ) → Placing fits v o pl placed o′ pl′ → fits ≡ true → (at count : ℕ) (r : Spot) → r ≡ spotAfter placed at count
+    → Grown v o pl r o′ pl′
+placed-grown fits v o pl placed o′ pl′ p t at count r e =
+    subst (λ (x : Spot). Grown v o pl x o′ pl′) (sym (e ∙ ap (λ (x : Placed). spotAfter x at count) (is-done fits v o pl placed o′ pl′ p t))) (is-grown fits v o pl placed o′ pl′ p t)
 
 -- an own record has the names that its type asks for
 pub own-names : (s : Setup) → Valid s → (i : ℕ) → namesFit (ownType i) (ownRdata s i) ≡ true
@@ -76,60 +79,18 @@ module _ (s : Setup) (i at count : ℕ) (o pl : List ℕ) (ready : OwnReady s i 
       simp (own-names s ok i, le-leb _ _ a, own-is-name s ok i, le-leb _ _ b, le-leb _ _ c, le-leb _ _ d)
 
   module _ (n d : Own) (en : n ≡ ownOf (ownName s i)) (ed : d ≡ ownOf (ownRdata s i)) (k : ℕ) (ek : k ≡ ownType i) where
-    pub record-fits : recordFits at count (take (n .len) (n .bytes)) k (take (d .len) (d .bytes)) (length o) (length pl) ≡ true
+    record-fits : recordFits at count (take (n .len) (n .bytes)) k (take (d .len) (d .bytes)) (length o) (length pl) ≡ true
     record-fits =
         (λ j. recordFits at count (own-front (ownName s i) n en j) (ek j) (own-front (ownRdata s i) d ed j) (length o) (length pl)) ∙ fits
 
-    pub own-grown : (probing : Bool) (c t : ℕ) → c ≡ classIn probing i → t ≡ ownTtl i → (r : Spot) (o′ pl′ : List ℕ)
-        → Grown (putRecord (heldIn o pl at count) (recordOf (take (n .len) (n .bytes)) k c t (take (d .len) (d .bytes)))) o pl r o′ pl′
-        → Grown (putRecord (heldIn o pl at count) (ownRecord s probing i)) o pl r o′ pl′
+    pub own-grown : (probing : Bool) (c t : ℕ) → c ≡ classIn probing i → t ≡ ownTtl i → (placed : Placed) (o′ pl′ : List ℕ)
+        → Placing (recordFits at count (take (n .len) (n .bytes)) k (take (d .len) (d .bytes)) (length o) (length pl)) (putRecord (heldIn o pl at count) (recordOf (take (n .len) (n .bytes)) k c t (take (d .len) (d .bytes)))) o pl placed o′ pl′
+        → (r : Spot) → r ≡ spotAfter placed at count → Grown (putRecord (heldIn o pl at count) (ownRecord s probing i)) o pl r o′ pl′
     unfolding ownRecord
-    own-grown probing c t ec et r o′ pl′ g =
+    own-grown probing c t ec et placed o′ pl′ p r er =
         let e : recordOf (take (n .len) (n .bytes)) k c t (take (d .len) (d .bytes)) ≡ recordOf (ownName s i) (ownType i) (classIn probing i) (ownTtl i) (ownRdata s i) =
         λ j. recordOf (own-front (ownName s i) n en j) (ek j) (ec j) (et j) (own-front (ownRdata s i) d ed j) in
-        subst (λ (x : Record). Grown (putRecord (heldIn o pl at count) x) o pl r o′ pl′) e g
-
--- what a record takes at most
-module _ (w : Writing) (r : Record) (named : isName (r .owner) ≡ true) (ok : namesFit (r .rtype) (r .rdata) ≡ true) where
-  pub record-size : length (putRecord w r .bytes) ≤ length (w .bytes) + (length (r .owner) + 10 + length (r .rdata))
-  unfolding putName putFields
-  record-size =
-      let p₁ : List ℕ = w .bytes ++ nameBytes (w .bytes) (w .places) (r .owner) in
-      let os₁ : List ℕ = w .places ++ namePlaces (w .bytes) (w .places) (length (w .bytes)) (r .owner) in
-      let D : List ℕ = dataBytes p₁ os₁ (r .rtype) (r .rdata) in
-      omega
-      (arith, length-append p₁ (fields (r .rtype) (r .class) (r .ttl) (length D) ++ D), length-append (w .bytes) (nameBytes (w .bytes) (w .places) (r .owner)), name-short (w .bytes) (w .places) (r .owner) named, data-short (r .rtype) (r .rdata) ok p₁ os₁)
-
-  pub record-count : length (putRecord w r .places) ≤ length (w .places) + (labelsIn (r .owner) + labelsFor (r .rtype) (r .rdata))
-  unfolding putName putFields
-  record-count =
-      let p₁ : List ℕ = w .bytes ++ nameBytes (w .bytes) (w .places) (r .owner) in
-      let os₁ : List ℕ = w .places ++ namePlaces (w .bytes) (w .places) (length (w .bytes)) (r .owner) in
-      omega
-      (arith, length-append os₁ (dataPlaces p₁ os₁ (length p₁ + 10) (r .rtype) (r .rdata)), length-append (w .places) (namePlaces (w .bytes) (w .places) (length (w .bytes)) (r .owner)), places-few (w .bytes) (w .places) (r .owner) (length (w .bytes)), data-few (r .rtype) (r .rdata) ok p₁ os₁ (length p₁ + 10))
-
-  pub record-low : length (w .bytes) ≤ length (putRecord w r .bytes)
-  unfolding putName putFields
-  record-low =
-      let p₁ : List ℕ = w .bytes ++ nameBytes (w .bytes) (w .places) (r .owner) in
-      let os₁ : List ℕ = w .places ++ namePlaces (w .bytes) (w .places) (length (w .bytes)) (r .owner) in
-      let D : List ℕ = dataBytes p₁ os₁ (r .rtype) (r .rdata) in
-      omega (arith, length-append p₁ (fields (r .rtype) (r .class) (r .ttl) (length D) ++ D), length-append (w .bytes) (nameBytes (w .bytes) (w .places) (r .owner)))
-
--- places are only added
-places-low : (w : Writing) (r : Record) → length (w .places) ≤ length (putRecord w r .places)
-unfolding putName putFields
-places-low w r =
-    let p₁ : List ℕ = w .bytes ++ nameBytes (w .bytes) (w .places) (r .owner) in
-    let os₁ : List ℕ = w .places ++ namePlaces (w .bytes) (w .places) (length (w .bytes)) (r .owner) in
-    omega (arith, length-append os₁ (dataPlaces p₁ os₁ (length p₁ + 10) (r .rtype) (r .rdata)), length-append (w .places) (namePlaces (w .bytes) (w .places) (length (w .bytes)) (r .owner)))
-
--- a packet that stands in front of a buffer is held in it
-pub held-so : (v : Writing) (o pl : List ℕ) (r : Spot) (o′ pl′ : List ℕ) → Grown v o pl r o′ pl′ → heldIn o′ pl′ (r .end) (r .count) ≡ v
-held-so v o pl r o′ pl′ g =
-    let a : take (r .end) o′ ≡ v .bytes = ap (take (r .end)) (g .bytes) ∙ take-at (v .bytes) (drop (length (v .bytes)) o) (r .end) (sym (g .ended)) in
-    let b : take (r .count) pl′ ≡ v .places = ap (take (r .count)) (g .places) ∙ take-at (v .places) (drop (length (v .places)) pl) (r .count) (sym (g .counted)) in
-    λ i. record { bytes = a i; places = b i }
+        subst (λ (x : Record). Grown (putRecord (heldIn o pl at count) x) o pl r o′ pl′) e (placed-grown _ _ o pl placed o′ pl′ p record-fits at count r er)
 
 -- The list from `j` on is still to be written: then the packet is `v`. What stands behind the packet is as it was.
 pub record Going (s : Setup) (probing : Bool) (is : List ℕ) (v : Writing) (o₀ pl₀ o pl : List ℕ) (at count j : ℕ) : Type 0 where

@@ -1,24 +1,20 @@
 -- "All five always fit in 1,452 bytes": what own records take with their names whole. Assumes nothing.
-use mathlib.Core.Path.{_≡_, refl, sym, ap, ap₂, _∙_}
-use mathlib.Core.List.{List, [], _∷_, _++_, map}
+use mathlib.Core.Path.{_≡_}
+use mathlib.Core.List.{List, [], _∷_}
 use mathlib.Core.Bool.{Bool, true, false, cond, _&&_}
-use Prim.Native.Nat.{ℕ, zero, suc, _+_, _-_, _<_, _≤_}
+use Prim.Native.Nat.{ℕ, _+_, _-_, _≤_}
 use native.Mathlib.Omega.{arith}
-use lib.ListN.{length, getD, drop, length-append}
-use lib.Dec.{leb, eqb}
-use Rattle.labels.specs.Labels.{encode, Labels}
-use Rattle.compression.specs.Compression.{nameBytes, namePlaces, labelsIn}
-use Rattle.compression.proofs.Written.{name-short, places-few, labels-in}
-use Rattle.names.specs.Names.{isName}
-use Rattle.wire.specs.Message.{Question, Record}
+use lib.ListN.{length, getD}
+use Rattle.labels.specs.Labels.{encode}
+use Rattle.compression.specs.Compression.{labelsIn}
+use Rattle.compression.proofs.Written.{labels-in}
 use Rattle.records.specs.declared.Setup.{Setup}
 use Rattle.records.specs.declared.Claim.{Claim}
 use Rattle.records.specs.declared.Claim.the-variants.{Instance, Host}
 use Rattle.records.specs.Setups.{serviceLabels, instanceLabels, hostLabels}
 use Rattle.records.specs.Records.{hasRecord, ownLabels, ownName, ownType, ownRdata, srvRdata}
 use Rattle.records.proofs.Valid.{Valid, service-most, instance-most, host-most, service-name, instance-name, host-name}
-use Rattle.compose.specs.Packets.{Writing, u16, putName, putQuestion, putRecord, putAll}
-use Rattle.compose.specs.Writer.{labelsFor}
+use Rattle.writer.specs.Writer.{labelsFor}
 use Rattle.compose.specs.Own.{picked, responseRecords, probeRecords, claimIndex}
 use Rattle.compose.specs.Ready.{sizeOf, labelsOf, sizes, labelCounts}
 
@@ -122,22 +118,3 @@ module _ (s : Setup) (ok : Valid s) where
   unfolding ownName ownLabels
   claim-labels Instance = omega (arith, instance-labels)
   claim-labels Host = omega (arith, host-labels)
-
--- a question takes its name whole and four bytes, at most
-module _ (w : Writing) (q : Question) where
-  pub question-size : isName (q .name) ≡ true → length (putQuestion w q .bytes) ≤ length (w .bytes) + length (q .name) + 4
-  unfolding putName
-  question-size ok =
-      omega
-      (arith, length-append (w .bytes ++ nameBytes (w .bytes) (w .places) (q .name)) (u16 (q .rtype) ++ u16 (q .class)), length-append (w .bytes) (nameBytes (w .bytes) (w .places) (q .name)), name-short (w .bytes) (w .places) (q .name) ok)
-
-  pub question-count : length (putQuestion w q .places) ≤ length (w .places) + labelsIn (q .name)
-  unfolding putName
-  question-count =
-      omega (arith, length-append (w .places) (namePlaces (w .bytes) (w .places) (length (w .bytes)) (q .name)), places-few (w .bytes) (w .places) (q .name) (length (w .bytes)))
-
-  pub question-low : length (w .bytes) ≤ length (putQuestion w q .bytes)
-  unfolding putName
-  question-low =
-      omega
-      (arith, length-append (w .bytes ++ nameBytes (w .bytes) (w .places) (q .name)) (u16 (q .rtype) ++ u16 (q .class)), length-append (w .bytes) (nameBytes (w .bytes) (w .places) (q .name)))

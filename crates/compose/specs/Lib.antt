@@ -1,4 +1,3 @@
 pub mod Packets
-pub mod Writer
 pub mod Own
 pub mod Ready

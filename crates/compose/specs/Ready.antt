@@ -8,7 +8,10 @@ use Rattle.compression.specs.Compression.{labelsIn}
 use Rattle.records.specs.declared.Setup.{Setup}
 use Rattle.records.specs.Setups.{validSetup}
 use Rattle.records.specs.Records.{ownName, ownType, ownRdata}
-use Rattle.compose.specs.Writer.{labelsFor}
+use Rattle.writer.specs.declared.Spot.{Spot}
+use Rattle.writer.specs.declared.Placed.{Placed}
+use Rattle.writer.specs.declared.Placed.the-variants.{Done, Full}
+use Rattle.writer.specs.Writer.{spotOf, labelsFor}
 use Rattle.compose.specs.declared.Picked.{Picked}
 
 -- each number of the header fits in two bytes
@@ -19,6 +22,11 @@ pub record HeaderReady (id flags questions answers authorities : ℕ) (out : Lis
   pub questions-small : questions < 65536
   pub answers-small : answers < 65536
   pub authorities-small : authorities < 65536
+
+-- where a packet ends after something was to be put behind it: where it did before, if there was no room
+abbrev pub spotAfter : Placed → ℕ → ℕ → Spot
+spotAfter (Done spot) at count = spot
+spotAfter Full at count = spotOf at count
 
 -- the bytes and the labels of an own record, its names whole
 abbrev pub sizeOf : Setup → ℕ → ℕ

@@ -26,7 +26,8 @@ use Rattle.entries.specs.Tables.{each}
 use Rattle.entries.specs.Entries.{isOf, liveOf, soon, flushed}
 use Rattle.entries.specs.Cache.{rule1}
 use Rattle.compression.specs.Compression.{standsAt, placeOf, cutFrom, nameBytes, starts, namePlaces}
-use Rattle.compose.specs.Packets.{putName, dataBytes, dataPlaces, putFields, packetOf}
+use Rattle.writer.specs.Items.{putName, dataBytes, dataPlaces, putFields}
+use Rattle.compose.specs.Packets.{packetOf}
 use Rattle.compose.specs.Own as own
 use Rattle.compose.specs.Own.{responsePacket, responseRecords, picked, responseOf}
 use Rattle.corner.specs.Examples.{address, example, holding, knowing, cached, announced, selfPointing, announcement}

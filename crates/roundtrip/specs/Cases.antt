@@ -14,7 +14,8 @@ use Rattle.records.specs.declared.Setup.{Setup}
 use Rattle.records.specs.declared.Claim.the-variants.{Instance, Host}
 use Rattle.records.specs.Setups.{labelFits, isLetter, isNameByte, nameBytes as lettersOnly, someLetter, hyphensApart, serviceRule, serviceFits, protocolFits, domainFits, txtFits, validSetup, serviceLabels, instanceLabels, hostLabels}
 use Rattle.records.specs.Records.{hasRecord, ownLabels, ownName, ownType, ownClass, ownTtl, srvRdata, ownRdata}
-use Rattle.compose.specs.Packets.{putName, dataBytes, dataPlaces, putFields, packetOf}
+use Rattle.writer.specs.Items.{putName, dataBytes, dataPlaces, putFields}
+use Rattle.compose.specs.Packets.{packetOf}
 use Rattle.compose.specs.Own.{ownRecord, picked, responseRecords, probeRecords, responseOf, probeOf, responsePacket, probePacket}
 
 -- host "dock", service "_x", instance "A", 10.0.0.7, an empty TXT string, no AAAA

@@ -20,7 +20,8 @@ use Rattle.wire.specs.Layout.{questionFrom, questionRead, recordFrom, recordRea
 use Rattle.wire.specs.declared.RecordAt.{RecordAt}
 use Rattle.rdata.specs.Answers.{targetIn}
 use Rattle.expansion.specs.Opened.{namesIn}
-use Rattle.compose.specs.Packets.{Writing, u16, u32, fields, dataBytes, dataPlaces, putBytes, putName, putFields, putRecord, putQuestion, putAll}
+use Rattle.writer.specs.Items.{Writing, u16, u32, fields, dataBytes, dataPlaces, putBytes, putName, putFields, putRecord, putQuestion}
+use Rattle.compose.specs.Packets.{putAll}
 use Rattle.roundtrip.specs.Shapes.{Shaped, four, target, strings, sixteen, server, other, IsRecord, IsQuestion, Each, none, one}
 use Rattle.roundtrip.specs.Names.{word-at, name-here, data-back}
 

@@ -16,7 +16,7 @@ use Rattle.expansion.specs.Opened.{namesIn}
 use Rattle.compression.specs.Compression.{nameBytes, namePlaces}
 use Rattle.compression.specs.Sentence.{Rising}
 use Rattle.compression.proofs.Written.{name-back}
-use Rattle.compose.specs.Packets.{dataBytes}
+use Rattle.writer.specs.Items.{dataBytes}
 use Rattle.roundtrip.specs.Shapes.{Shaped, four, target, strings, sixteen, server, other}
 
 -- numbers from what is left at a place

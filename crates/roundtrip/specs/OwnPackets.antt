@@ -16,11 +16,13 @@ use Rattle.records.specs.declared.Claim.{Claim}
 use Rattle.records.specs.Setups.{validSetup, instanceLabels, hostLabels}
 use Rattle.records.specs.Records.{ownName, ownType, ownTtl, ownRdata, srvRdata}
 use Rattle.records.proofs.Valid.{Valid, valid, instance-name, host-name, own-is-name}
-use Rattle.compose.specs.Packets.{Writing, header, putRecord, putQuestion, putAll, packetOf, written}
+use Rattle.writer.specs.Items.{Writing, putRecord, putQuestion}
+use Rattle.compose.specs.Packets.{header, putAll, packetOf, written}
 use Rattle.compose.specs.Own.{ownRecord, responseRecords, probeRecords, claimIndex, responseOf, probeOf, noneIfEmpty, responsePacket, probePacket}
 use Rattle.compose.specs.Ready.{sizes, sizeOf}
-use Rattle.compose.proofs.Owned.{own-names, record-size}
-use Rattle.compose.proofs.Room.{response-size, probe-size, claim-size, question-size}
+use Rattle.writer.proofs.Use.{question-size, record-size}
+use Rattle.compose.proofs.Owned.{own-names}
+use Rattle.compose.proofs.Room.{response-size, probe-size, claim-size}
 use Rattle.roundtrip.specs.Shapes.{Shaped, four, target, strings, sixteen, server, IsRecord, IsQuestion, Each, none, one, Writable, layoutOf}
 use Rattle.roundtrip.specs.Sentence.{Composed, composed}
 use Rattle.roundtrip.specs.Whole.{message-back}

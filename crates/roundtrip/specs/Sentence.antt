@@ -19,7 +19,8 @@ use Rattle.compression.specs.Compression.{nameBytes, namePlaces}
 use Rattle.compression.specs.Sentence.{Rising, empty, Cuts}
 use Rattle.compression.proofs.AsSaid.{is-cut}
 use Rattle.wire.specs.Message.{Question, Record, Message}
-use Rattle.compose.specs.Packets.{Writing, u16, fields, dataBytes, dataPlaces, putBytes, putName, putFields, putRecord, putQuestion, putAll, header, written}
+use Rattle.writer.specs.Items.{Writing, u16, fields, dataBytes, dataPlaces, putBytes, putName, putFields, putRecord, putQuestion}
+use Rattle.compose.specs.Packets.{putAll, header, written}
 use Rattle.roundtrip.specs.Shapes.{Shaped, four, target, strings, sixteen, server, other, IsRecord, IsQuestion, Each, none, one, Writable}
 use Rattle.roundtrip.specs.Items.{Sound, name-sound, record-sound, question-sound}
 

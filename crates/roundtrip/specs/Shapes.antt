@@ -9,7 +9,8 @@ use Rattle.rdata.specs.Rdata.{stringsFill}
 use Rattle.wire.specs.Message.{Question, Record, Message}
 use Rattle.wire.specs.Layout.{plainHeader}
 use Rattle.wire.specs.declared.Layout.{Layout}
-use Rattle.compose.specs.Packets.{header, putQuestion, putRecord, putAll, packetOf}
+use Rattle.writer.specs.Items.{putQuestion, putRecord}
+use Rattle.compose.specs.Packets.{header, putAll, packetOf}
 
 -- rdata as its type asks (1 A, 12 PTR, 16 TXT, 28 AAAA, 33 SRV)
 pub data Shaped : ℕ → List ℕ → Type 0 where

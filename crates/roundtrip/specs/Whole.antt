@@ -13,7 +13,8 @@ use Rattle.wire.specs.Message.{Question, Record, Message}
 use Rattle.wire.specs.Layout.{questionAt, recordAt, Listing, listing, listFrom, Reads, read, refused, plainHeader, additionalsOf, authoritiesOf, answersOf, questionsOf, messageAt}
 use Rattle.wire.specs.declared.Section.{Section}
 use Rattle.wire.specs.declared.Layout.{Layout}
-use Rattle.compose.specs.Packets.{Writing, u16, putRecord, putQuestion, putAll, header, packetOf}
+use Rattle.writer.specs.Items.{Writing, u16, putRecord, putQuestion}
+use Rattle.compose.specs.Packets.{putAll, header, packetOf}
 use Rattle.roundtrip.specs.Shapes.{IsRecord, IsQuestion, Each, none, one, Writable, layoutOf}
 use Rattle.roundtrip.specs.Items.{Sound, record-back, record-sound, record-more, question-back, question-sound, question-more, More, all-sound, all-more, all-back}
 

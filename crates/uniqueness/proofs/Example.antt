@@ -30,7 +30,8 @@ use Rattle.probe.specs.Probe.{some as someOf, isProbe}
 use Rattle.order.specs.Lists.{listUnder}
 use Rattle.answers.specs.Answers as answers
 use Rattle.scan.specs.Facts.{isAsked, isKnown, conflicted, laterThan, responseFacts, queryFacts, factsOf}
-use Rattle.compose.specs.Packets.{putName, dataBytes, dataPlaces, putFields, packetOf}
+use Rattle.writer.specs.Items.{putName, dataBytes, dataPlaces, putFields}
+use Rattle.compose.specs.Packets.{packetOf}
 use Rattle.compose.specs.Own.{ownRecord, picked, responseRecords, probeRecords, responseOf, probeOf, responsePacket, probePacket}
 use Rattle.responder.specs.Refusals.{wrongState, startRefusal, receiveRefusal, tickRefusal}
 use Rattle.responder.specs.Calls.{blank, startOf, packetFor, receivedPacket, receiveOf, tickedPacket, tickOf}

@@ -1,10 +1,9 @@
-use native.Mathlib.Omega.{arith}
 use borrow.Author.Tests.{not-true, not-false}
-use mathlib.Core.Path.{refl, sym}
+use mathlib.Core.Path.{refl}
 use lib.ListN.{replicate}
 use Rattle.records.specs.Records.{ownName}
 use Rattle.compose.proofs.Owned.{own-fits, own-long}
-use Rattle.compose.proofs.Answering.{refuse-3, refuse-7, empty-nothing, response-ready, response-sent, question-fits, probe-ready, probe-sent}
+use Rattle.compose.proofs.Answering.{refuse-3, refuse-7, probe-ready, probe-sent}
 use borrow.Author.Needs.{needs}
 use Rattle.compose.proofs.probe.Statement.{statement}
 use Rattle.compose.proofs.probe.Tie as tie
@@ -13,10 +12,11 @@ use Rattle.compose.proofs.probe.Lts as lts
 use Rattle.compose.proofs.claim_index.Reads as claim-index-reads
 use Rattle.compose.proofs.pick_claim.Reads as pick-claim-reads
 use Rattle.compose.proofs.put_header.Reads as put-header-reads
+use Rattle.compose.proofs.spot_after.Reads as spot-after-reads
 use Rattle.compose.proofs.write_list.Reads as write-list-reads
-use Rattle.compose.proofs.write_question.Reads as write-question-reads
 use Rattle.setups.proofs.check_setup.Reads as check-setup-reads
 use Rattle.records.proofs.own_name.Reads as own-name-reads
+use Rattle.writer.proofs.put_question.Reads as put-question-reads
 
 returns : tie.Need-returns
 returns c = refuse-3 (c .before .before .args .s) (c .before .before .args .out .now) _ (c .if1 .taken)
@@ -39,29 +39,32 @@ own-name-requires c κs = search needs
 put-header-requires : tie.Need-put-header-requires
 put-header-requires c κs = search needs
 
-slice-aggregate-write-question : tie.Need-slice-aggregate-write-question
-slice-aggregate-write-question c = search needs
+slice-aggregate-put-question : tie.Need-slice-aggregate-put-question
+slice-aggregate-put-question c = search needs
 
 array-share-prefix-name : tie.Need-array-share-prefix-name
 array-share-prefix-name c = own-fits (ownName (c .before .before .before .before .before .before .before .before .before .before .before .before .before .before .args .s) (c .before .before .before .before .before .before .before .before .claim-index .result)) _ (c .before .before .before .before .before .before .before .own-name .ensures)
 
-slice-aggregate-write-question-2 : tie.Need-slice-aggregate-write-question-2
-slice-aggregate-write-question-2 c = own-long (ownName (c .before .before .before .before .before .before .before .before .before .before .before .before .before .before .before .args .s) (c .before .before .before .before .before .before .before .before .before .claim-index .result)) _ (c .before .before .before .before .before .before .before .before .own-name .ensures)
+slice-aggregate-put-question-2 : tie.Need-slice-aggregate-put-question-2
+slice-aggregate-put-question-2 c = own-long (ownName (c .before .before .before .before .before .before .before .before .before .before .before .before .before .before .before .args .s) (c .before .before .before .before .before .before .before .before .before .claim-index .result)) _ (c .before .before .before .before .before .before .before .before .own-name .ensures)
 
-write-question-requires : tie.Need-write-question-requires
-write-question-requires c κs = question-fits (c .before .before .before .before .before .before .before .before .before .before .before .before .before .before .before .args .s) (c .before .before .before .before .before .before .before .before .before .before .before .before .before .before .before .args .out .now) (c .before .before .before .before .before .before .before .before .before .before .before .before .before .if1 .left) _ (c .before .before .before .before .before .before .before .before .before .before .before .before .check-setup .ensures) (not-false _ (c .before .before .before .before .before .before .before .before .before .before .before .if2 .left)) (c .before .before .before .before .before .before .before .before .before .before .before .before .before .before .before .args .claim) _ (c .before .before .before .before .before .before .before .before .before .before .pick-claim .ensures) _ (c .before .before .before .before .before .before .before .before .before .claim-index .ensures) _ (c .before .before .before .before .before .before .before .before .own-name .ensures) _ (c .before .before .before .before .before .put-header .ensures) (replicate 32 0) refl
+put-question-requires : tie.Need-put-question-requires
+put-question-requires c κs = search needs
+
+spot-after-requires : tie.Need-spot-after-requires
+spot-after-requires c κs = search needs
 
 slice-aggregate-write-list : tie.Need-slice-aggregate-write-list
 slice-aggregate-write-list c = search needs
 
 write-list-requires : tie.Need-write-list-requires
-write-list-requires c κs = (probe-ready (c .before .before .before .before .before .before .before .before .before .before .before .before .before .before .before .before .before .before .before .before .before .args .s) (c .before .before .before .before .before .before .before .before .before .before .before .before .before .before .before .before .before .before .before .before .before .args .out .now) (c .before .before .before .before .before .before .before .before .before .before .before .before .before .before .before .before .before .before .before .if1 .left) _ (c .before .before .before .before .before .before .before .before .before .before .before .before .before .before .before .before .before .before .check-setup .ensures) (not-false _ (c .before .before .before .before .before .before .before .before .before .before .before .before .before .before .before .before .before .if2 .left)) (c .before .before .before .before .before .before .before .before .before .before .before .before .before .before .before .before .before .before .before .before .before .args .claim) _ (c .before .before .before .before .before .before .before .before .before .before .before .before .before .before .before .before .pick-claim .ensures) _ (c .before .before .before .before .before .before .before .before .before .before .before .before .before .before .before .claim-index .ensures) _ (c .before .before .before .before .before .before .before .before .before .before .before .before .before .before .own-name .ensures) _ (c .before .before .before .before .before .before .before .before .before .before .before .put-header .ensures) (replicate 32 0) refl _ _ _ (c .before .before .before .before .before .write-question .ensures) (c .before .before .before .before .before .write-question .kept .0) (c .before .before .before .before .before .write-question .kept .1 .1 .0), (c .before .before .before .before .before .before .before .before .before .before .before .before .before .before .before .before .pick-claim .ensures .few, c .before .before .before .before .before .before .before .before .before .before .before .before .before .before .before .before .pick-claim .ensures .five))
+write-list-requires c κs = (probe-ready (c .before .before .before .before .before .before .before .before .before .before .before .before .before .before .before .before .before .before .before .before .before .before .args .s) (c .before .before .before .before .before .before .before .before .before .before .before .before .before .before .before .before .before .before .before .before .before .before .args .out .now) (c .before .before .before .before .before .before .before .before .before .before .before .before .before .before .before .before .before .before .before .before .if1 .left) _ (c .before .before .before .before .before .before .before .before .before .before .before .before .before .before .before .before .before .before .before .check-setup .ensures) (not-false _ (c .before .before .before .before .before .before .before .before .before .before .before .before .before .before .before .before .before .before .if2 .left)) (c .before .before .before .before .before .before .before .before .before .before .before .before .before .before .before .before .before .before .before .before .before .before .args .claim) _ (c .before .before .before .before .before .before .before .before .before .before .before .before .before .before .before .before .before .pick-claim .ensures) _ (c .before .before .before .before .before .before .before .before .before .before .before .before .before .before .before .before .claim-index .ensures) _ (c .before .before .before .before .before .before .before .before .before .before .before .before .before .before .before .own-name .ensures) _ (c .before .before .before .before .before .before .before .before .before .before .before .before .put-header .ensures) (replicate 32 0) refl _ _ _ (c .before .before .before .before .before .before .put-question .ensures) _ (c .before .before .spot-after .ensures) (c .before .before .before .before .before .before .put-question .kept .0) (c .before .before .before .before .before .before .put-question .kept .1 .1 .0), (c .before .before .before .before .before .before .before .before .before .before .before .before .before .before .before .before .before .pick-claim .ensures .few, c .before .before .before .before .before .before .before .before .before .before .before .before .before .before .before .before .before .pick-claim .ensures .five))
 
 same-length : tie.Need-same-length
 same-length c = search needs
 
 returns-3 : tie.Need-returns-3
-returns-3 c = probe-sent (c .before .before .before .before .before .before .before .before .before .before .before .before .before .before .before .before .before .before .before .before .before .before .before .before .before .args .s) (c .before .before .before .before .before .before .before .before .before .before .before .before .before .before .before .before .before .before .before .before .before .before .before .before .before .args .out .now) (c .before .before .before .before .before .before .before .before .before .before .before .before .before .before .before .before .before .before .before .before .before .before .before .if1 .left) _ (c .before .before .before .before .before .before .before .before .before .before .before .before .before .before .before .before .before .before .before .before .before .before .check-setup .ensures) (not-false _ (c .before .before .before .before .before .before .before .before .before .before .before .before .before .before .before .before .before .before .before .before .before .if2 .left)) (c .before .before .before .before .before .before .before .before .before .before .before .before .before .before .before .before .before .before .before .before .before .before .before .before .before .args .claim) _ (c .before .before .before .before .before .before .before .before .before .before .before .before .before .before .before .before .before .before .before .before .pick-claim .ensures) _ (c .before .before .before .before .before .before .before .before .before .before .before .before .before .before .before .before .before .before .before .claim-index .ensures) _ (c .before .before .before .before .before .before .before .before .before .before .before .before .before .before .before .before .before .before .own-name .ensures) _ (c .before .before .before .before .before .before .before .before .before .before .before .before .before .before .before .put-header .ensures) (replicate 32 0) refl _ _ _ (c .before .before .before .before .before .before .before .before .before .write-question .ensures) (c .before .before .before .before .before .before .before .before .before .write-question .kept .0) (c .before .before .before .before .before .before .before .before .before .write-question .kept .1 .1 .0) _ _ _ (c .before .before .before .write-list .ensures)
+returns-3 c = probe-sent (c .before .before .before .before .before .before .before .before .before .before .before .before .before .before .before .before .before .before .before .before .before .before .before .before .before .before .args .s) (c .before .before .before .before .before .before .before .before .before .before .before .before .before .before .before .before .before .before .before .before .before .before .before .before .before .before .args .out .now) (c .before .before .before .before .before .before .before .before .before .before .before .before .before .before .before .before .before .before .before .before .before .before .before .before .if1 .left) _ (c .before .before .before .before .before .before .before .before .before .before .before .before .before .before .before .before .before .before .before .before .before .before .before .check-setup .ensures) (not-false _ (c .before .before .before .before .before .before .before .before .before .before .before .before .before .before .before .before .before .before .before .before .before .before .if2 .left)) (c .before .before .before .before .before .before .before .before .before .before .before .before .before .before .before .before .before .before .before .before .before .before .before .before .before .before .args .claim) _ (c .before .before .before .before .before .before .before .before .before .before .before .before .before .before .before .before .before .before .before .before .before .pick-claim .ensures) _ (c .before .before .before .before .before .before .before .before .before .before .before .before .before .before .before .before .before .before .before .before .claim-index .ensures) _ (c .before .before .before .before .before .before .before .before .before .before .before .before .before .before .before .before .before .before .before .own-name .ensures) _ (c .before .before .before .before .before .before .before .before .before .before .before .before .before .before .before .before .put-header .ensures) (replicate 32 0) refl _ _ _ (c .before .before .before .before .before .before .before .before .before .before .put-question .ensures) _ (c .before .before .before .before .before .before .spot-after .ensures) (c .before .before .before .before .before .before .before .before .before .before .put-question .kept .0) (c .before .before .before .before .before .before .before .before .before .before .put-question .kept .1 .1 .0) _ _ _ (c .before .before .before .write-list .ensures)
 
 pub probe-spec : {M : Type 1} → statement M
 probe-spec =
@@ -74,10 +77,11 @@ probe-spec =
     claim-index-requires
     own-name-requires
     put-header-requires
-    slice-aggregate-write-question
+    slice-aggregate-put-question
     array-share-prefix-name
-    slice-aggregate-write-question-2
-    write-question-requires
+    slice-aggregate-put-question-2
+    put-question-requires
+    spot-after-requires
     slice-aggregate-write-list
     write-list-requires
     same-length

@@ -1,10 +1,7 @@
-use native.Mathlib.Omega.{arith}
 use borrow.Author.Tests.{not-true, not-false}
-use mathlib.Core.Path.{refl, sym}
+use mathlib.Core.Path.{refl}
 use lib.ListN.{replicate}
-use Rattle.records.specs.Records.{ownName}
-use Rattle.compose.proofs.Owned.{own-fits, own-long}
-use Rattle.compose.proofs.Answering.{refuse-3, refuse-7, empty-nothing, response-ready, response-sent, question-fits, probe-ready, probe-sent}
+use Rattle.compose.proofs.Answering.{refuse-3, refuse-7, empty-nothing, response-ready, response-sent}
 use borrow.Author.Needs.{needs}
 use Rattle.compose.proofs.respond.Statement.{statement}
 use Rattle.compose.proofs.respond.Tie as tie

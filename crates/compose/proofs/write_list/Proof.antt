@@ -6,8 +6,9 @@ use lib.ListN.{length, take}
 use mathlib.Core.List.{map}
 use mathlib.Core.Path.{_≡_}
 use native.Mathlib.Omega.{arith}
-use Rattle.compose.specs.Packets.{putRecord, putAll}
-use Rattle.compose.specs.Writer.{heldIn}
+use Rattle.writer.specs.Items.{putRecord}
+use Rattle.compose.specs.Packets.{putAll}
+use Rattle.writer.specs.Writer.{heldIn}
 use Rattle.compose.specs.Own.{ownRecord}
 use Rattle.compose.proofs.Owned.{Going, going, gone, own-ready, step}
 use Rattle.compose.proofs.write_list.Statement.{statement}

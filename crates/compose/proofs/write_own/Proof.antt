@@ -1,17 +1,17 @@
 use Rattle.records.specs.Records.{ownName, ownRdata}
-use native.Mathlib.Omega.{arith}
-use Rattle.compose.proofs.Owned.{own-fits, own-long, record-fits, own-grown}
+use Rattle.compose.proofs.Owned.{own-fits, own-long, own-grown}
 use borrow.Author.Needs.{needs}
 use Rattle.compose.proofs.write_own.Statement.{statement}
 use Rattle.compose.proofs.write_own.Tie as tie
 use Rattle.compose.proofs.write_own.Reads as reads
 use Rattle.compose.proofs.write_own.Lts as lts
 use Rattle.compose.proofs.class_in.Reads as class-in-reads
-use Rattle.compose.proofs.write_record.Reads as write-record-reads
+use Rattle.compose.proofs.spot_after.Reads as spot-after-reads
 use Rattle.records.proofs.own_name.Reads as own-name-reads
 use Rattle.records.proofs.own_rdata.Reads as own-rdata-reads
 use Rattle.own_fields.proofs.own_ttl.Reads as own-ttl-reads
 use Rattle.own_fields.proofs.own_type.Reads as own-type-reads
+use Rattle.writer.proofs.put_record.Reads as put-record-reads
 
 own-name-requires : tie.Need-own-name-requires
 own-name-requires c κs = search needs
@@ -25,8 +25,8 @@ class-in-requires c κs = search needs
 array-share-prefix-name : tie.Need-array-share-prefix-name
 array-share-prefix-name c = own-fits (ownName (c .before .before .before .before .before .before .before .before .before .args .s) (c .before .before .before .before .before .before .before .before .before .args .i)) _ (c .before .before .before .before .before .before .own-name .ensures)
 
-slice-aggregate-write-record : tie.Need-slice-aggregate-write-record
-slice-aggregate-write-record c = own-long (ownName (c .before .before .before .before .before .before .before .before .before .before .args .s) (c .before .before .before .before .before .before .before .before .before .before .args .i)) _ (c .before .before .before .before .before .before .before .own-name .ensures)
+slice-aggregate-put-record : tie.Need-slice-aggregate-put-record
+slice-aggregate-put-record c = own-long (ownName (c .before .before .before .before .before .before .before .before .before .before .args .s) (c .before .before .before .before .before .before .before .before .before .before .args .i)) _ (c .before .before .before .before .before .before .before .own-name .ensures)
 
 own-type-requires : tie.Need-own-type-requires
 own-type-requires c κs = search needs
@@ -37,11 +37,14 @@ own-ttl-requires c κs = search needs
 array-share-prefix-d : tie.Need-array-share-prefix-d
 array-share-prefix-d c = own-fits (ownRdata (c .before .before .before .before .before .before .before .before .before .before .before .before .args .s) (c .before .before .before .before .before .before .before .before .before .before .before .before .args .i)) _ (c .before .before .before .before .before .before .before .own-rdata .ensures)
 
-slice-aggregate-write-record-2 : tie.Need-slice-aggregate-write-record-2
-slice-aggregate-write-record-2 c = own-long (ownRdata (c .before .before .before .before .before .before .before .before .before .before .before .before .before .args .s) (c .before .before .before .before .before .before .before .before .before .before .before .before .before .args .i)) _ (c .before .before .before .before .before .before .before .before .own-rdata .ensures)
+slice-aggregate-put-record-2 : tie.Need-slice-aggregate-put-record-2
+slice-aggregate-put-record-2 c = own-long (ownRdata (c .before .before .before .before .before .before .before .before .before .before .before .before .before .args .s) (c .before .before .before .before .before .before .before .before .before .before .before .before .before .args .i)) _ (c .before .before .before .before .before .before .before .before .own-rdata .ensures)
 
-write-record-requires : tie.Need-write-record-requires
-write-record-requires c κs = record-fits (c .before .before .before .before .before .before .before .before .before .before .before .before .before .args .s) (c .before .before .before .before .before .before .before .before .before .before .before .before .before .args .i) _ _ _ _ (c .before .before .before .before .before .before .before .before .before .before .before .before .before .pre) _ _ (c .before .before .before .before .before .before .before .before .before .before .own-name .ensures) (c .before .before .before .before .before .before .before .before .own-rdata .ensures) _ (c .before .before .own-type .ensures)
+put-record-requires : tie.Need-put-record-requires
+put-record-requires c κs = search needs
+
+spot-after-requires : tie.Need-spot-after-requires
+spot-after-requires c κs = search needs
 
 same-length : tie.Need-same-length
 same-length c = search needs
@@ -50,7 +53,7 @@ same-length-2 : tie.Need-same-length-2
 same-length-2 c = search needs
 
 returns : tie.Need-returns
-returns c = own-grown (c .before .before .before .before .before .before .before .before .before .before .before .before .before .before .before .before .before .before .args .s) (c .before .before .before .before .before .before .before .before .before .before .before .before .before .before .before .before .before .before .args .i) _ _ _ _ (c .before .before .before .before .before .before .before .before .before .before .before .before .before .before .before .before .before .before .pre) _ _ (c .before .before .before .before .before .before .before .before .before .before .before .before .before .before .before .own-name .ensures) (c .before .before .before .before .before .before .before .before .before .before .before .before .before .own-rdata .ensures) _ (c .before .before .before .before .before .before .before .own-type .ensures) _ _ _ (c .before .before .before .before .before .before .before .before .before .before .before .class-in .ensures) (c .before .before .before .before .before .before .own-ttl .ensures) _ _ _ (c .before .before .before .before .write-record .ensures)
+returns c = own-grown (c .before .before .before .before .before .before .before .before .before .before .before .before .before .before .before .before .before .before .before .args .s) (c .before .before .before .before .before .before .before .before .before .before .before .before .before .before .before .before .before .before .before .args .i) _ _ _ _ (c .before .before .before .before .before .before .before .before .before .before .before .before .before .before .before .before .before .before .before .pre) _ _ (c .before .before .before .before .before .before .before .before .before .before .before .before .before .before .before .before .own-name .ensures) (c .before .before .before .before .before .before .before .before .before .before .before .before .before .before .own-rdata .ensures) _ (c .before .before .before .before .before .before .before .before .own-type .ensures) _ _ _ (c .before .before .before .before .before .before .before .before .before .before .before .before .class-in .ensures) (c .before .before .before .before .before .before .before .own-ttl .ensures) _ _ _ (c .before .before .before .before .before .put-record .ensures) _ (c .spot-after .ensures)
 
 pub write-own-spec : {M : Type 1} → statement M
 write-own-spec =
@@ -60,12 +63,13 @@ write-own-spec =
     own-rdata-requires
     class-in-requires
     array-share-prefix-name
-    slice-aggregate-write-record
+    slice-aggregate-put-record
     own-type-requires
     own-ttl-requires
     array-share-prefix-d
-    slice-aggregate-write-record-2
-    write-record-requires
+    slice-aggregate-put-record-2
+    put-record-requires
+    spot-after-requires
     same-length
     same-length-2
     returns)
