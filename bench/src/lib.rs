@@ -2,6 +2,7 @@
 
 pub mod packets;
 pub mod responders;
+pub mod timing;
 
 /// The proved reader's refusal of a message, or 0.
 pub fn refusal(message: &[u8]) -> u8 {

@@ -1,36 +1,19 @@
 //! Times the proved library beside the ordinary one, on the same packets in one run: nanoseconds a packet or a call, and their ratio.
 
 use std::hint::black_box;
-use std::time::Instant;
 
 use bench::packets;
 use bench::responders::{proved, query, second, Calls};
+use bench::timing;
 
-const ROUNDS: usize = 25;
-
-/// The time of `repeat` calls, in nanoseconds a call.
-fn time(repeat: usize, call: &mut dyn FnMut()) -> f64 {
-    let start = Instant::now();
-    for _ in 0..repeat {
-        call();
-    }
-    start.elapsed().as_nanos() as f64 / repeat as f64
-}
-
-/// Prints the least times of the two and their ratio. Their rounds take turns, so that other work on the machine meets both alike.
-fn compare(name: &str, repeat: usize, calls: usize, mut ours: impl FnMut(), mut ordinary: impl FnMut()) {
-    let mut least = [f64::MAX; 2];
-    for _ in 0..ROUNDS {
-        least[0] = least[0].min(time(repeat, &mut ours) / calls as f64);
-        least[1] = least[1].min(time(repeat, &mut ordinary) / calls as f64);
-    }
-    println!("{name:<52} {:>6.2} {:>12.1} {:>12.1}", least[0] / least[1], least[0], least[1]);
+/// Prints the least times of the two and their ratio.
+fn show(name: &str, [ours, ordinary]: [f64; 2]) {
+    println!("{name:<52} {:>6.2} {ours:>12.1} {ordinary:>12.1}", ours / ordinary);
 }
 
 /// Both readers over all packets.
 fn read(name: &str, packets: &[Vec<u8>], repeat: usize) {
-    let over_all = |read: fn(&[u8]) -> u8| move || packets.iter().for_each(|packet| _ = black_box(read(black_box(packet))));
-    compare(name, repeat, packets.len(), over_all(bench::refusal), over_all(bench::ordinary_refusal));
+    show(name, timing::readers(packets, repeat));
 }
 
 /// Both responders, each of which holds its names.
@@ -38,7 +21,7 @@ fn call(name: &str, sends: bool, call: impl Fn(&mut dyn Calls) -> usize) {
     let (mut proved, mut second) = (proved(), second());
     (call(&mut proved), call(&mut second));
     assert_eq!((call(&mut proved) > 0, call(&mut second) > 0), (sends, sends), "{name}: what is timed is what is said");
-    compare(name, 5_000, 1, || _ = black_box(call(&mut proved)), || _ = black_box(call(&mut second)));
+    show(name, timing::least(5_000, || _ = black_box(call(&mut proved)), || _ = black_box(call(&mut second))));
 }
 
 fn main() {

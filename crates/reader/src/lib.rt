@@ -1,10 +1,9 @@
-// The packet reader for C and Rust, in a static library of its own. It stands on the reader's crates alone, so that a device that only reads links nothing
-// else. A message is read once, then walked: each section from its offset on, by as many questions or records as it has. The source port is not known
-// here: the caller tests it. include/kurgashel.h declares these functions.
+// The packet reader for C and Rust. It stands on the reader's crates alone, so that a device that only reads links nothing else. A message is read once,
+// then walked (crate `reader_walk`). The source port is not known here: the caller tests it. include/kurgashel.h declares these functions.
 ghost use mathlib.Core.Path.{_≡_};
-ghost use Rattle.wire.specs.Layout.{messageAt, readOf, refusalOf, questionRead, recordRead};
+ghost use Rattle.wire.specs.Layout.{messageAt, readOf, refusalOf};
 ghost use Rattle.names.specs.Names.{nameAt};
-ghost use Rattle.reader.specs.Reader.{endOf, lengthOf, nameOf, sectionsOf, questionOf, recordOf};
+ghost use Rattle.reader.specs.Reader.{endOf, lengthOf, nameOf, sectionsOf};
 
 // A name: its uncompressed length, 0 where it is malformed, and its bytes, with zeros behind them.
 #[repr(C)]
@@ -28,32 +27,6 @@ pub struct Sections {
     pub authorities_at: usize,
     pub additionals_at: usize,
     pub end: usize,
-}
-
-// A question: whether one is there, where its name starts and how long that is uncompressed, its type and class, and the offset past it.
-#[repr(C)]
-pub struct Question {
-    pub found: bool,
-    pub rtype: u16,
-    pub class: u16,
-    pub name: usize,
-    pub name_length: usize,
-    pub next: usize,
-}
-
-// A record: whether one is there, where its owner starts and how long that is uncompressed, its type, class and TTL, where its rdata starts and how long
-// it is, and the offset past it.
-#[repr(C)]
-pub struct Record {
-    pub found: bool,
-    pub rtype: u16,
-    pub class: u16,
-    pub ttl: u32,
-    pub owner: usize,
-    pub owner_length: usize,
-    pub rdata: usize,
-    pub rdata_length: usize,
-    pub next: usize,
 }
 
 // The refusal of a whole message, 4, 5 or 6, and 0 where it is well formed.
@@ -143,62 +116,6 @@ pub extern "C" fn kurgashel_message(message: &[u8]) -> Sections
             authorities_at: 0,
             additionals_at: 0,
             end: 0,
-        },
-    }
-}
-
-// The question at an offset.
-#[no_mangle]
-pub extern "C" fn kurgashel_question(message: &[u8], at: usize) -> Question
-    ensures { λ r. ⌜ r ≡ questionOf (questionRead (now (message .entry)) at) ⌝ }
-{
-    match wire::question_at(message, at) {
-        wire::QuestionRead::Found(q) => Question {
-            found: true,
-            rtype: q.rtype,
-            class: q.class,
-            name: q.name,
-            name_length: q.span,
-            next: q.next,
-        },
-        wire::QuestionRead::Malformed => Question {
-            found: false,
-            rtype: 0,
-            class: 0,
-            name: 0,
-            name_length: 0,
-            next: 0,
-        },
-    }
-}
-
-// The record at an offset. Of a message that is not refused the rdata is as its type asks.
-#[no_mangle]
-pub extern "C" fn kurgashel_record(message: &[u8], at: usize) -> Record
-    ensures { λ r. ⌜ r ≡ recordOf (recordRead (now (message .entry)) at) ⌝ }
-{
-    match wire::record_at(message, at) {
-        wire::RecordRead::Found(f) => Record {
-            found: true,
-            rtype: f.rtype,
-            class: f.class,
-            ttl: f.ttl,
-            owner: f.owner,
-            owner_length: f.span,
-            rdata: f.rdata,
-            rdata_length: f.rdlength,
-            next: f.next,
-        },
-        wire::RecordRead::Malformed => Record {
-            found: false,
-            rtype: 0,
-            class: 0,
-            ttl: 0,
-            owner: 0,
-            owner_length: 0,
-            rdata: 0,
-            rdata_length: 0,
-            next: 0,
         },
     }
 }

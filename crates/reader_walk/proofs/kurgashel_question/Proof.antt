@@ -1,9 +1,9 @@
--- `reader::kurgashel_question` meets its contract. Assumes nothing.
+-- `reader_walk::kurgashel_question` meets its contract. Assumes nothing.
 use mathlib.Core.Path.{sym, ap, _∙_}
-use Rattle.reader.specs.Reader.{questionOf}
+use Rattle.reader_walk.specs.Walked.{questionOf}
 use borrow.Author.Needs.{needs}
-use Rattle.reader.proofs.kurgashel_question.Statement.{statement}
-use Rattle.reader.proofs.kurgashel_question.Tie as tie
+use Rattle.reader_walk.proofs.kurgashel_question.Statement.{statement}
+use Rattle.reader_walk.proofs.kurgashel_question.Tie as tie
 
 question-at-requires : tie.Need-question-at-requires
 question-at-requires c κs = search needs

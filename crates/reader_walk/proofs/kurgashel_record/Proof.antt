@@ -1,9 +1,9 @@
--- `reader::kurgashel_record` meets its contract. Assumes nothing.
+-- `reader_walk::kurgashel_record` meets its contract. Assumes nothing.
 use mathlib.Core.Path.{sym, ap, _∙_}
-use Rattle.reader.specs.Reader.{recordOf}
+use Rattle.reader_walk.specs.Walked.{recordOf}
 use borrow.Author.Needs.{needs}
-use Rattle.reader.proofs.kurgashel_record.Statement.{statement}
-use Rattle.reader.proofs.kurgashel_record.Tie as tie
+use Rattle.reader_walk.proofs.kurgashel_record.Statement.{statement}
+use Rattle.reader_walk.proofs.kurgashel_record.Tie as tie
 
 record-at-requires : tie.Need-record-at-requires
 record-at-requires c κs = search needs
