@@ -1,6 +1,6 @@
 // Taking the records of a message into the cache, on a table by value (paper 01, 'The cache'). The byte store is lent.
 ghost use mathlib.Core.Path.{_≡_};
-ghost use Prim.Native.Nat.{_+_, _*_, _≤_, _<_, _^_};
+ghost use Prim.Native.Nat.{_+_, _*_, _≤_, _^_};
 ghost use mathlib.Core.List.{[]};
 ghost use lib.ListN.{length, replicate};
 ghost use lib.Seq.{sets};
@@ -92,27 +92,15 @@ fn flush_all(es: [Entry; 64], store: &[u8], time: u64, owner: &[u8], rtype: u16)
     t
 }
 
-// Writes `s` into `out` from index `at` on.
-fn put(out: &mut [u8], at: usize, s: &[u8])
-    requires { ⌜ at + length (now s) ≤ length (now out) ⌝ }
-    ensures { λ _. ⌜ now (out .exit) ≡ sets (now (out .entry)) at (now (s .entry)) ⌝ }
-{
-    let mut i = 0;
-    while i < s.len() {
-        out[at + i] = s[i];
-        i += 1;
-    }
-}
-
 // Writes slot i whole: the owner, the rdata, and zeros in the bytes that they leave.
 fn write_slot(store: &mut [u8], i: usize, owner: &[u8], content: &[u8])
     requires { ⌜ (1024 * i + 1024 ≤ length (now store)) × ((length (now owner) ≤ 256) × (length (now content) ≤ 768)) ⌝ }
     ensures { λ _. ⌜ now (store .exit) ≡ sets (now (store .entry)) (1024 * i) (sets (sets (replicate 1024 0) 0 (now (owner .entry))) 256 (now (content .entry))) ⌝ }
 {
     let mut slot = [0u8; 1024];
-    put(&mut slot, 0, owner);
-    put(&mut slot, 256, content);
-    put(store, 1024 * i, &slot);
+    lay::put(&mut slot, 0, owner);
+    lay::put(&mut slot, 256, content);
+    lay::put(store, 1024 * i, &slot);
 }
 
 // Rule 2.

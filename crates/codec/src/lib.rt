@@ -3,7 +3,6 @@
 ghost use mathlib.Core.Path.{_≡_};
 ghost use Prim.Native.Nat.{_+_, _≤_, _<_};
 ghost use lib.ListN.{length};
-ghost use lib.Seq.{sets};
 ghost use Rattle.codec.specs.Numbers.{word64};
 ghost use Rattle.codec.specs.Layout.{partAt, flagAt, labelAt, serviceAt, stringsAt, setupAt, claimAt, sentAt, replyAt, multicastsAt, lifeAt};
 ghost use Rattle.codec.specs.Codec.{setupOf, decode};
@@ -22,18 +21,6 @@ use responder::State;
 pub const SETUP_SIZE: usize = 579;
 
 pub const STATE_SIZE: usize = 667;
-
-// Writes `s` into `out` from index `at` on.
-fn put(out: &mut [u8], at: usize, s: &[u8])
-    requires { ⌜ at + length (now s) ≤ length (now out) ⌝ }
-    ensures { λ _. ⌜ now (out .exit) ≡ sets (now (out .entry)) at (now (s .entry)) ⌝ }
-{
-    let mut i = 0;
-    while i < s.len() {
-        out[at + i] = s[i];
-        i += 1;
-    }
-}
 
 // The 64-bit number at an offset.
 fn be64(b: &[u8], at: usize) -> u64
@@ -61,7 +48,7 @@ fn four_at(b: &[u8], at: usize) -> [u8; 4]
 {
     let mut bytes = [0u8; 4];
     let end = at + 4;
-    put(&mut bytes, 0, &b[at..end]);
+    lay::put(&mut bytes, 0, &b[at..end]);
     bytes
 }
 
@@ -71,7 +58,7 @@ fn five_at(b: &[u8], at: usize) -> [u8; 5]
 {
     let mut bytes = [0u8; 5];
     let end = at + 5;
-    put(&mut bytes, 0, &b[at..end]);
+    lay::put(&mut bytes, 0, &b[at..end]);
     bytes
 }
 
@@ -81,7 +68,7 @@ fn sixteen_at(b: &[u8], at: usize) -> [u8; 16]
 {
     let mut bytes = [0u8; 16];
     let end = at + 16;
-    put(&mut bytes, 0, &b[at..end]);
+    lay::put(&mut bytes, 0, &b[at..end]);
     bytes
 }
 
@@ -92,7 +79,7 @@ fn label_at(b: &[u8], at: usize) -> Label
 {
     let mut bytes = [0u8; 63];
     let end = at + 63;
-    put(&mut bytes, 0, &b[at..end]);
+    lay::put(&mut bytes, 0, &b[at..end]);
     Label {
         bytes,
         len: octets::byte(b, end) as usize,
@@ -116,7 +103,7 @@ fn strings_at(b: &[u8], at: usize) -> Strings
 {
     let mut bytes = [0u8; 400];
     let end = at + 400;
-    put(&mut bytes, 0, &b[at..end]);
+    lay::put(&mut bytes, 0, &b[at..end]);
     Strings {
         bytes,
         len: octets::be16(b, end) as usize,

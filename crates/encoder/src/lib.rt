@@ -14,16 +14,11 @@ use claims::Sent;
 use codec::SETUP_SIZE;
 use codec::STATE_SIZE;
 
-// Writes `s` into `out` from index `at` on.
+// Lays `s` over `out` from index `at` on.
 fn put(out: &mut [u8], at: usize, s: &[u8])
-    requires { ⌜ at + length (now s) ≤ length (now out) ⌝ }
     ensures { λ _. ⌜ Laid (now (out .entry)) at (now (s .entry)) (now (out .exit)) ⌝ }
 {
-    let mut i = 0;
-    while i < s.len() {
-        out[at + i] = s[i];
-        i += 1;
-    }
+    lay::put(out, at, s);
 }
 
 // The eight bytes of a number.

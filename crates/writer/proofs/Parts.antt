@@ -89,9 +89,6 @@ module _ (known at count rtype : ℕ) (d o pl : List ℕ) (ready : DataReady kno
     pub head-fits : n ≤ length d
     head-fits = omega (arith, target-fits rtype d has (ready .named) .0)
 
-    pub head-room : at + length (take n d) ≤ length o
-    head-room = omega (arith, ready .room, head-fits, length-take-le n d head-fits)
-
     rest : take (length d - n) (drop n d) ≡ drop (targetIn rtype) d
     rest = take-all (length d - n) (drop n d) (omega (arith, length-drop n d)) ∙ ap (λ (k : ℕ). drop k d) hd
 

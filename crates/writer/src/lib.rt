@@ -27,18 +27,6 @@ pub enum Placed {
     Full,
 }
 
-// Writes `s` into `out` from index `at` on.
-fn put(out: &mut [u8], at: usize, s: &[u8])
-    requires { ⌜ at + length (now s) ≤ length (now out) ⌝ }
-    ensures { λ _. ⌜ now (out .exit) ≡ sets (now (out .entry)) at (now (s .entry)) ⌝ }
-{
-    let mut i = 0;
-    while i < s.len() {
-        out[at + i] = s[i];
-        i += 1;
-    }
-}
-
 // Writes a number of two bytes, most significant first.
 fn put_u16(out: &mut [u8], at: usize, v: usize)
     requires { ⌜ (at + 2 ≤ length (now out)) × (v < 65536) ⌝ }
@@ -102,7 +90,7 @@ fn put_name(
     let cut = compression::cut_of(&out[..known], &places[..count], name);
     let kept = cut.kept;
     let place = cut.place;
-    put(out, at, &name[..kept]);
+    lay::put(out, at, &name[..kept]);
     let noted = note_starts(places, count, at, &name[..kept]);
     let end = at + kept;
     match place {
@@ -160,10 +148,10 @@ fn put_data(
 {
     if names_in(rtype) {
         let head = target_in(rtype);
-        put(out, at, &d[..head]);
+        lay::put(out, at, &d[..head]);
         return put_name(out, known, at + head, places, count, &d[head..]);
     }
-    put(out, at, d);
+    lay::put(out, at, d);
     Spot {
         end: at + d.len(),
         count,

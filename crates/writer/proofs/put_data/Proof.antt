@@ -1,14 +1,14 @@
 use native.Mathlib.Omega.{arith}
 use mathlib.Core.Path.{sym}
 use lib.Seq.{length-take-le}
-use Rattle.writer.proofs.Parts.{head-fits, head-room, target-ready, wrote-target, wrote-plain}
+use Rattle.writer.proofs.Parts.{head-fits, target-ready, wrote-target, wrote-plain}
 use borrow.Author.Needs.{needs}
 use Rattle.writer.proofs.put_data.Statement.{statement}
 use Rattle.writer.proofs.put_data.Tie as tie
 use Rattle.writer.proofs.put_data.Reads as reads
 use Rattle.writer.proofs.put_data.Lts as lts
 use Rattle.writer.proofs.names_in.Reads as names-in-reads
-use Rattle.writer.proofs.put.Reads as put-reads
+use Rattle.lay.proofs.put.Reads as put-reads
 use Rattle.writer.proofs.put_name.Reads as put-name-reads
 use Rattle.writer.proofs.target_in.Reads as target-in-reads
 
@@ -22,7 +22,7 @@ slice-aggregate-put : tie.Need-slice-aggregate-put
 slice-aggregate-put c = sym (length-take-le _ (c .before .before .before .before .before .before .before .before .args .d .now) (head-fits (c .before .before .before .before .before .before .before .before .args .known) (c .before .before .before .before .before .before .before .before .args .at) (c .before .before .before .before .before .before .before .before .args .count) (c .before .before .before .before .before .before .before .before .args .rtype) (c .before .before .before .before .before .before .before .before .args .d .now) (c .before .before .before .before .before .before .before .before .args .out .now) (c .before .before .before .before .before .before .before .before .args .places .now) (c .before .before .before .before .before .before .before .before .pre) _ (c .before .before .before .before .names-in .ensures) (c .before .before .before .if1 .taken) (c .before .before .target-in .result) (c .before .before .target-in .ensures)))
 
 put-requires : tie.Need-put-requires
-put-requires c κs = head-room (c .before .before .before .before .before .before .before .before .args .known) (c .before .before .before .before .before .before .before .before .args .at) (c .before .before .before .before .before .before .before .before .args .count) (c .before .before .before .before .before .before .before .before .args .rtype) (c .before .before .before .before .before .before .before .before .args .d .now) (c .before .before .before .before .before .before .before .before .args .out .now) (c .before .before .before .before .before .before .before .before .args .places .now) (c .before .before .before .before .before .before .before .before .pre) _ (c .before .before .before .before .names-in .ensures) (c .before .before .before .if1 .taken) (c .before .before .target-in .result) (c .before .before .target-in .ensures)
+put-requires c κs = search needs
 
 add-put-name : tie.Need-add-put-name
 add-put-name c = omega (arith, head-fits (c .before .before .before .before .before .before .before .before .before .before .before .before .args .known) (c .before .before .before .before .before .before .before .before .before .before .before .before .args .at) (c .before .before .before .before .before .before .before .before .before .before .before .before .args .count) (c .before .before .before .before .before .before .before .before .before .before .before .before .args .rtype) (c .before .before .before .before .before .before .before .before .before .before .before .before .args .d .now) (c .before .before .before .before .before .before .before .before .before .before .before .before .args .out .now) (c .before .before .before .before .before .before .before .before .before .before .before .before .args .places .now) (c .before .before .before .before .before .before .before .before .before .before .before .before .pre) _ (c .before .before .before .before .before .before .before .before .names-in .ensures) (c .before .before .before .before .before .before .before .if1 .taken) (c .before .before .before .before .before .before .target-in .result) (c .before .before .before .before .before .before .target-in .ensures), c .before .before .before .before .before .before .before .before .before .before .before .before .pre .room)

@@ -10,7 +10,7 @@ use Rattle.writer.proofs.put_name.Tie as tie
 use Rattle.writer.proofs.put_name.Reads as reads
 use Rattle.writer.proofs.put_name.Lts as lts
 use Rattle.writer.proofs.note_starts.Reads as note-starts-reads
-use Rattle.writer.proofs.put.Reads as put-reads
+use Rattle.lay.proofs.put.Reads as put-reads
 use Rattle.writer.proofs.put_u16.Reads as put-u16-reads
 use Rattle.compression.proofs.cut_of.Reads as cut-of-reads
 
@@ -33,7 +33,7 @@ slice-aggregate-put : tie.Need-slice-aggregate-put
 slice-aggregate-put c = kept-long (c .before .before .before .before .before .before .before .before .args .known) (c .before .before .before .before .before .before .before .before .args .at) (c .before .before .before .before .before .before .before .before .args .count) (c .before .before .before .before .before .before .before .before .args .name .now) (c .before .before .before .before .before .before .before .before .args .out .now) (c .before .before .before .before .before .before .before .before .args .places .now) (c .before .before .before .before .before .before .before .before .pre) (c .before .before .cut-of .result) (c .before .before .cut-of .ensures)
 
 put-requires : tie.Need-put-requires
-put-requires c κs = room-kept (c .before .before .before .before .before .before .before .before .args .known) (c .before .before .before .before .before .before .before .before .args .at) (c .before .before .before .before .before .before .before .before .args .count) (c .before .before .before .before .before .before .before .before .args .name .now) (c .before .before .before .before .before .before .before .before .args .out .now) (c .before .before .before .before .before .before .before .before .args .places .now) (c .before .before .before .before .before .before .before .before .pre) (c .before .before .cut-of .result) (c .before .before .cut-of .ensures)
+put-requires c κs = search needs
 
 slice-aggregate-note-starts : tie.Need-slice-aggregate-note-starts
 slice-aggregate-note-starts c = kept-long (c .before .before .before .before .before .before .before .before .before .before .before .before .before .args .known) (c .before .before .before .before .before .before .before .before .before .before .before .before .before .args .at) (c .before .before .before .before .before .before .before .before .before .before .before .before .before .args .count) (c .before .before .before .before .before .before .before .before .before .before .before .before .before .args .name .now) (c .before .before .before .before .before .before .before .before .before .before .before .before .before .args .out .now) (c .before .before .before .before .before .before .before .before .before .before .before .before .before .args .places .now) (c .before .before .before .before .before .before .before .before .before .before .before .before .before .pre) (c .before .before .before .before .before .before .before .cut-of .result) (c .before .before .before .before .before .before .before .cut-of .ensures)
