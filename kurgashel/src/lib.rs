@@ -9,8 +9,9 @@
 //! let setup = Setup::new("booth", "_voice", "_tcp", "dock", 4000, b"\x06room=3", [10, 0, 0, 7], None);
 //! let mut responder = Responder::start(&setup, 0, 120).expect("a good set-up");
 //! let mut out = [0; OUT_BYTES];
-//! for now in 0..1000 {
-//!     let sent = responder.tick(now, &mut out).expect("time goes on");
+//! while let Some(due) = responder.due() {
+//!     // wait until then, or for a packet to hand to responder.receive
+//!     let sent = responder.tick(due, &mut out).expect("time goes on");
 //!     // send the first sent.length bytes of out to 224.0.0.251, port 5353
 //! }
 //! assert_eq!(responder.instance(), Claim::Held);
