@@ -2,6 +2,7 @@
 pub mod Runs
 pub mod Starts
 pub mod Cutting
+pub mod Rdata
 pub mod Parts
 pub mod Fitting
 pub mod Use

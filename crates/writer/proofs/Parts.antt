@@ -1,23 +1,22 @@
--- Records and questions written part by part: names, ten or four bytes, and rdata. Assumes nothing.
-use mathlib.Core.Path.{_≡_, refl, sym, ap, ap₂, _∙_}
-use mathlib.Core.List.{List, [], _∷_, _++_, append-assoc, append-nil}
-use mathlib.Core.Bool.{Bool, true, false, cond, _&&_}
-use Prim.Native.Nat.{ℕ, zero, suc, _+_, _-_, _/_, _%_, _<_, _≤_}
+-- Records and questions written part by part: a name, ten or four bytes, and rdata. Assumes nothing.
+use mathlib.Core.Path.{_≡_, sym, ap, ap₂, _∙_}
+use mathlib.Core.List.{List, _++_, append-assoc}
+use mathlib.Core.Bool.{true, _&&_}
+use Prim.Native.Nat.{ℕ, _+_, _-_, _<_, _≤_}
 use native.Mathlib.Omega.{arith}
 use borrow.Author.Tests.{leb-true}
-use lib.ListN.{length, getD, take, drop, set, length-append, length-take, length-drop, take-append-drop}
-use lib.Seq.{sets, length-sets, length-take-le, take-all}
+use lib.ListN.{length, take, drop, length-append}
+use lib.Seq.{sets, length-sets, length-take-le}
 use lib.Dec.{leb}
 use Rattle.octets.proofs.Sets.{sets-append}
 use Rattle.names.specs.Names.{isName}
-use Rattle.rdata.specs.Answers.{targetIn}
-use Rattle.expansion.specs.Opened.{namesIn}
 use Rattle.compression.specs.Compression.{nameBytes, namePlaces, labelsIn}
 use Rattle.compression.proofs.Written.{name-short, places-few}
 use Rattle.writer.specs.declared.Spot.{Spot}
-use Rattle.writer.specs.Items.{Writing, u16, u32, fields, dataBytes, dataPlaces, putName, putFields, putRecord, putQuestion}
-use Rattle.writer.specs.Writer.{heldIn, spotOf, questionOf, recordOf, namesFit, labelsFor, nameFits, questionFits, recordFits, Wrote, Grown, NameReady, DataReady}
-use Rattle.writer.proofs.Runs.{take-sets, sets-swap, take-run, run-rest}
+use Rattle.writer.specs.Items.{u16, fields, dataBytes, dataPlaces, putName, putFields, putRecord, putQuestion}
+use Rattle.writer.specs.Writer.{heldIn, spotOf, questionOf, recordOf, namesFit, labelsFor, nameFits, recordFits, Wrote, Grown, NameReady, DataReady}
+use Rattle.writer.proofs.Runs.{sets-swap, take-run, run-rest}
+use Rattle.writer.proofs.Rdata.{both, data-short, data-few}
 
 -- five runs of two bytes
 pub five : (o : List ℕ) (at a b c d e : ℕ) (o₁ o₂ o₃ o₄ o₅ : List ℕ) → o₁ ≡ sets o at (u16 a) → o₂ ≡ sets o₁ (at + 2) (u16 b) → o₃ ≡ sets o₂ (at + 4) (u16 c) → o₄ ≡ sets o₃ (at + 6) (u16 d)
@@ -27,112 +26,6 @@ five o at a b c d e o₁ o₂ o₃ o₄ o₅ h₁ h₂ h₃ h₄ h₅ =
     let s₃ : o₃ ≡ sets o at (u16 a ++ u16 b ++ u16 c) = h₃ ∙ ap (λ (m : List ℕ). sets m (at + 4) (u16 c)) s₂ ∙ sets-append o at (u16 a ++ u16 b) (u16 c) in
     let s₄ : o₄ ≡ sets o at (u16 a ++ u16 b ++ u16 c ++ u16 d) = h₄ ∙ ap (λ (m : List ℕ). sets m (at + 6) (u16 d)) s₃ ∙ sets-append o at (u16 a ++ u16 b ++ u16 c) (u16 d) in
     h₅ ∙ ap (λ (m : List ℕ). sets m (at + 8) (u16 e)) s₄ ∙ sets-append o at (u16 a ++ u16 b ++ u16 c ++ u16 d) (u16 e)
-
-pub both : (a b : Bool) → (a && b) ≡ true → (a ≡ true) × (b ≡ true)
-both true b e = (refl, e)
-both false b e = let z : _≡_ {A = ℕ} 0 1 = cc in absurd (omega arith)
-
--- rdata that ends in a name
-module _ (rtype : ℕ) (d : List ℕ) where
-  module _ (t : namesIn rtype ≡ true) where
-    target-fits : namesFit rtype d ≡ true → (targetIn rtype ≤ length d) × (isName (drop (targetIn rtype) d) ≡ true)
-    unfolding namesFit
-    target-fits h =
-        let f = both (leb (targetIn rtype) (length d)) (isName (drop (targetIn rtype) d)) (simp t at h) in (leb-true _ _ (f .0), f .1)
-
-    target-labels : labelsFor rtype d ≡ labelsIn (drop (targetIn rtype) d)
-    unfolding labelsFor
-    target-labels = simp t
-
-    target-bytes : (p os : List ℕ) → dataBytes p os rtype d ≡ take (targetIn rtype) d ++ nameBytes p os (drop (targetIn rtype) d)
-    unfolding dataBytes
-    target-bytes p os = simp t
-
-    target-places : (p os : List ℕ) (at : ℕ) → dataPlaces p os at rtype d ≡ namePlaces p os (at + targetIn rtype) (drop (targetIn rtype) d)
-    unfolding dataPlaces
-    target-places p os at = simp t
-
-  module _ (t : namesIn rtype ≡ false) where
-    plain-bytes : (p os : List ℕ) → dataBytes p os rtype d ≡ d
-    unfolding dataBytes
-    plain-bytes p os = simp t
-
-    plain-places : (p os : List ℕ) (at : ℕ) → dataPlaces p os at rtype d ≡ []
-    unfolding dataPlaces
-    plain-places p os at = simp t
-
-  -- no more bytes than the rdata whole, and no more places than labels
-  module _ (h : namesFit rtype d ≡ true) (p os : List ℕ) where
-    pub data-short : length (dataBytes p os rtype d) ≤ length d
-    data-short = go (namesIn rtype) refl
-      where
-        go : (b : Bool) → namesIn rtype ≡ b → length (dataBytes p os rtype d) ≤ length d
-        go true t =
-            let f = target-fits t h in
-            omega
-            (arith, f .0, ap length (target-bytes t p os), length-append (take (targetIn rtype) d) (nameBytes p os (drop (targetIn rtype) d)), name-short p os (drop (targetIn rtype) d) (f .1), length-drop (targetIn rtype) d, length-take-le (targetIn rtype) d (f .0))
-        go false t = omega (arith, ap length (plain-bytes t p os))
-
-    pub data-few : (at : ℕ) → length (dataPlaces p os at rtype d) ≤ labelsFor rtype d
-    data-few at = go (namesIn rtype) refl
-      where
-        go : (b : Bool) → namesIn rtype ≡ b → length (dataPlaces p os at rtype d) ≤ labelsFor rtype d
-        go true t = omega (arith, ap length (target-places t p os at), target-labels t, places-few p os (drop (targetIn rtype) d) (at + targetIn rtype))
-        go false t = omega (arith, ap length (plain-places t p os at))
-
--- the two ways in which rdata is written
-module _ (known at count rtype : ℕ) (d o pl : List ℕ) (ready : DataReady known at count rtype d o pl) where
-  module _ (b : Bool) (is : b ≡ namesIn rtype) (t : b ≡ true) (n : ℕ) (hd : n ≡ targetIn rtype) where
-    has : namesIn rtype ≡ true
-    has = sym is ∙ t
-
-    pub head-fits : n ≤ length d
-    head-fits = omega (arith, target-fits rtype d has (ready .named) .0)
-
-    rest : take (length d - n) (drop n d) ≡ drop (targetIn rtype) d
-    rest = take-all (length d - n) (drop n d) (omega (arith, length-drop n d)) ∙ ap (λ (k : ℕ). drop k d) hd
-
-    module _ (o₁ : List ℕ) (w₁ : o₁ ≡ sets o at (take n d)) where
-      pub target-ready : NameReady known (at + n) count (take (length d - n) (drop n d)) o₁ pl
-      target-ready = record {
-        named = ap isName rest ∙ target-fits rtype d has (ready .named) .1;
-        known-before = omega (arith, ready .known-before);
-        known-small = ready .known-small;
-        room = omega (arith, ready .room, head-fits, ap length rest, length-drop (targetIn rtype) d, ap length w₁, length-sets o at (take n d));
-        slots = omega (arith, ready .slots, target-labels rtype d has, ap labelsIn rest);
-      }
-
-      pub wrote-target : (r : Spot) (o₂ pl₂ : List ℕ)
-          → Wrote (nameBytes (take known o₁) (take count pl) (take (length d - n) (drop n d))) (namePlaces (take known o₁) (take count pl) (at + n) (take (length d - n) (drop n d))) (at + n) count o₁ pl r o₂ pl₂
-          → Wrote (dataBytes (take known o) (take count pl) rtype d) (dataPlaces (take known o) (take count pl) at rtype d) at count o pl r o₂ pl₂
-      wrote-target r o₂ pl₂ w =
-          let same : take known o₁ ≡ take known o = ap (take known) w₁ ∙ take-sets known o at (take n d) (ready .known-before) in
-          let nb : nameBytes (take known o₁) (take count pl) (take (length d - n) (drop n d)) ≡ nameBytes (take known o) (take count pl) (drop (targetIn rtype) d) =
-          ap₂ (λ (p : List ℕ) (l : List ℕ). nameBytes p (take count pl) l) same rest in
-          let np : namePlaces (take known o₁) (take count pl) (at + n) (take (length d - n) (drop n d)) ≡ dataPlaces (take known o) (take count pl) at rtype d =
-          ap₂ (λ (p : List ℕ) (l : List ℕ). namePlaces p (take count pl) (at + n) l) same rest ∙ ap (λ (k : ℕ). namePlaces (take known o) (take count pl) (at + k) (drop (targetIn rtype) d)) hd
-          ∙ sym (target-places rtype d has (take known o) (take count pl) at) in
-          let all : take n d ++ nameBytes (take known o₁) (take count pl) (take (length d - n) (drop n d)) ≡ dataBytes (take known o) (take count pl) rtype d =
-          ap₂ (λ (k : ℕ) (l : List ℕ). take k d ++ l) hd nb ∙ sym (target-bytes rtype d has (take known o) (take count pl)) in
-          let N : List ℕ = nameBytes (take known o₁) (take count pl) (take (length d - n) (drop n d)) in
-          let long : n ≡ length (take n d) = sym (length-take-le n d head-fits) in
-          record {
-            bytes = w .bytes ∙ ap₂ (λ (l : List ℕ) (k : ℕ). sets l (at + k) N) w₁ long ∙ sets-append o at (take n d) N ∙ ap (sets o at) all;
-            places = w .places ∙ ap (sets pl count) np;
-            ended = omega (arith, w .ended, ap length all, length-append (take n d) N);
-            counted = w .counted ∙ ap (λ (l : List ℕ). count + length l) np;
-          }
-
-  pub wrote-plain : (b : Bool) → b ≡ namesIn rtype → b ≡ false → (o₁ : List ℕ) → o₁ ≡ sets o at d
-      → Wrote (dataBytes (take known o) (take count pl) rtype d) (dataPlaces (take known o) (take count pl) at rtype d) at count o pl (spotOf (at + length d) count) o₁ pl
-  wrote-plain b is t o₁ w =
-      let f : namesIn rtype ≡ false = sym is ∙ t in
-      record {
-        bytes = w ∙ ap (sets o at) (sym (plain-bytes rtype d f (take known o) (take count pl)));
-        places = ap (sets pl count) (sym (plain-places rtype d f (take known o) (take count pl) at));
-        ended = ap (λ (l : List ℕ). at + length l) (sym (plain-bytes rtype d f (take known o) (take count pl)));
-        counted = omega (arith, ap length (plain-places rtype d f (take known o) (take count pl) at));
-      }
 
 -- what fits
 pub record NameRoom (at count : ℕ) (name : List ℕ) (more also : ℕ) (o pl : List ℕ) : Type 0 where

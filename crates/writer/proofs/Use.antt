@@ -15,7 +15,7 @@ use Rattle.writer.specs.declared.Placed.{Placed}
 use Rattle.writer.specs.declared.Placed.the-variants.{Done}
 use Rattle.writer.specs.Items.{Writing, u16, fields, dataBytes, dataPlaces, putName, putFields, putRecord, putQuestion}
 use Rattle.writer.specs.Writer.{heldIn, spotOf, namesFit, labelsFor, placedOf, bytesAfter, placesAfter, Placing, Grown}
-use Rattle.writer.proofs.Parts.{data-short, data-few}
+use Rattle.writer.proofs.Rdata.{data-short, data-few}
 
 -- what fits is written
 module _ (fits : Bool) (v : Writing) (o pl : List ℕ) (r : Placed) (o′ pl′ : List ℕ) (p : Placing fits v o pl r o′ pl′) (t : fits ≡ true) where

@@ -1,7 +1,7 @@
 use native.Mathlib.Omega.{arith}
 use mathlib.Core.Path.{sym}
 use lib.Seq.{length-take-le}
-use Rattle.writer.proofs.Parts.{head-fits, target-ready, wrote-target, wrote-plain}
+use Rattle.writer.proofs.Rdata.{head-fits, target-ready, wrote-target, wrote-plain}
 use borrow.Author.Needs.{needs}
 use Rattle.writer.proofs.put_data.Statement.{statement}
 use Rattle.writer.proofs.put_data.Tie as tie
