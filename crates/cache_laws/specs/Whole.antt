@@ -7,8 +7,8 @@ use native.Mathlib.Omega.{arith}
 use lib.ListN.{length, take}
 use lib.Dec.{leb, eqb}
 use borrow.Author.Tests.{lt-ltb, ltb-true}
+use Rattle.truth.proofs.Decided.{both}
 use Rattle.fold.specs.Fold.{sameName}
-use Rattle.fold.proofs.Equal.{both-true}
 use Rattle.wire.specs.Message.{Record}
 use Rattle.entries.specs.Entries.{isLive, isOf, liveOf, matches}
 use Rattle.entries.specs.Cache.{Cache, isCached, equalSlot, takeRecord, takeRecords, lookIn}
@@ -30,7 +30,7 @@ of-found : (t : ℕ) (d : Cache) (name : List ℕ) (rtype i : ℕ) → lookIn t 
 unfolding lookIn matches
 of-found t d name rtype i k =
     let a = found-at (matches t (d .store) name rtype i) (d .entries) i k in
-    (a .0, live-first t (d .store) name rtype i (entryAt d i) (both-true (leb i i) (liveOf t (d .store) name rtype i (entryAt d i)) (a .1) .1) .1)
+    (a .0, live-first t (d .store) name rtype i (entryAt d i) (both (leb i i) (liveOf t (d .store) name rtype i (entryAt d i)) (a .1) .1) .1)
 
 -- an entry that stays is of the name and type that it was of
 of-stays : (now : ℕ) (c d : Cache) (name : List ℕ) (rtype i : ℕ) → Stays now c d i → isOf (d .store) name rtype i (entryAt d i) ≡ isOf (c .store) name rtype i (entryAt c i)

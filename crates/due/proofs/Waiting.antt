@@ -1,15 +1,15 @@
 -- What the next due time promises a caller that waits for it: a step is due at a time exactly where that is not before the next due time, and a tick
 -- with none due sends nothing and changes nothing but the time of the last call. Assumes nothing.
-use mathlib.Core.Path.{_≡_, refl, sym, ap, _∙_}
+use mathlib.Core.Path.{_≡_, refl, sym, _∙_}
 use mathlib.Core.Bool.{Bool, true, false, cond, _||_}
 use mathlib.Core.Option.{Option, none, some}
 use Prim.Native.Nat.{ℕ, _≤_, _<_}
 use native.Mathlib.Omega.{arith}
 use lib.Dec.{leb}
 use borrow.Author.Tests.{le-leb, lt-leb, leb-true, leb-false}
+use Rattle.truth.proofs.Decided.{neither}
 use Rattle.claims.specs.Claims.{dueOf, replyDueOf}
 use Rattle.claims.specs.declared.Life.{Life}
-use Rattle.claims.specs.declared.Kind.the-variants.{Instance, Host}
 use Rattle.steps.specs.Steps.{dueBy, claimDue, replyDue, moreDue, stepOf}
 use Rattle.steps.specs.Tick.{withLast, stepTurn, claimTurn, replyTurn, orHost, orReply, endedOf, tickOf}
 use Rattle.steps.specs.declared.Output.the-variants.{Nothing}
@@ -53,16 +53,11 @@ due-exactly life now =
     let i = either (asDue (dueOf (life .instance))) (earliest (asDue (dueOf (life .host))) (asDue (replyDueOf (life .reply)))) now in
     sym (i ∙ rw (h, as-due (dueOf (life .instance)) now, as-due (dueOf (life .host)) now, as-due (replyDueOf (life .reply)) now) refl)
 
--- what is left where nothing is due
-or-false : (x y : Bool) → (x || y) ≡ false → (x ≡ false) × (y ≡ false)
-or-false true y e = (e, cc)
-or-false false y e = (refl, e)
-
 pub idle-tick :
     (life : Life) (now : ℕ) (aaaa : Bool) → moreDue life now ≡ false
     → _≡_ {A = Ticked} (tickOf life now aaaa) (record { life = withLast now life; output = Nothing; more = false })
 unfolding moreDue tickOf claimTurn stepOf stepTurn orHost orReply replyTurn endedOf
 idle-tick life now aaaa e =
-    let i = or-false (claimDue (life .instance) now) (claimDue (life .host) now || replyDue (life .reply) now) e in
-    let h = or-false (claimDue (life .host) now) (replyDue (life .reply) now) (i .1) in
+    let i = neither (claimDue (life .instance) now) (claimDue (life .host) now || replyDue (life .reply) now) e in
+    let h = neither (claimDue (life .host) now) (replyDue (life .reply) now) (i .1) in
     rw (i .0, h .0, h .1) (λ j. record { life = withLast now life; output = Nothing; more = e j })

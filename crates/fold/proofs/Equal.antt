@@ -7,6 +7,7 @@ use native.Mathlib.Omega.{arith}
 use lib.ListN.{length}
 use lib.Dec.{eqb}
 use borrow.Author.Tests.{eq-eqb, eqb-true}
+use Rattle.truth.proofs.Decided.{both}
 use Rattle.fold.specs.Fold.{lower, sameName}
 
 -- names of different lengths differ
@@ -18,15 +19,11 @@ same-lengths (x ∷ xs) [] h = refl
 same-lengths (x ∷ xs) (y ∷ ys) h = rw (same-lengths xs ys (λ e. h (ap suc e))) (and-false (eqb (lower x) (lower y)))
 
 -- a test and a test are true together
-pub both-true : (a b : Bool) → (a && b) ≡ true → (a ≡ true) × (b ≡ true)
-both-true true b e = (refl, e)
-both-true false b e = let z : _≡_ {A = ℕ} 0 1 = cc in absurd (omega arith)
-
 -- what equal names say of their first bytes and of the rest
 heads : (x y : ℕ) (xs ys : List ℕ) → sameName (x ∷ xs) (y ∷ ys) ≡ true → (lower x ≡ lower y) × (sameName xs ys ≡ true)
 unfolding sameName
 heads x y xs ys e =
-    let h = both-true (eqb (lower x) (lower y)) (sameName xs ys) e in
+    let h = both (eqb (lower x) (lower y)) (sameName xs ys) e in
     (eqb-true (lower x) (lower y) (h .0), h .1)
 
 joined : (x y : ℕ) (xs ys : List ℕ) → lower x ≡ lower y → sameName xs ys ≡ true → sameName (x ∷ xs) (y ∷ ys) ≡ true

@@ -9,6 +9,7 @@ use borrow.Author.Tests.{lt-ltb, le-leb, lt-leb, ltb-true, leb-true, eqb-true}
 use lib.ListN.{length, take, drop, length-append}
 use lib.Seq.{take-at, drop-at}
 use lib.Dec.{ltb, leb, eqb}
+use Rattle.truth.proofs.Decided.{both}
 use Rattle.fold.specs.Fold.{lower, sameName}
 use Rattle.names.specs.Names.{labelsFill, isName}
 use Rattle.labels.specs.Labels.{encode, Labels, none, one, IsName}
@@ -16,10 +17,6 @@ use Rattle.labels.specs.Labels.{encode, Labels, none, one, IsName}
 pub encode-pos : (ls : List (List ℕ)) → 1 ≤ length (encode ls)
 encode-pos [] = omega arith
 encode-pos (l ∷ ls) = omega arith
-
-both : (a b : Bool) → (a && b) ≡ true → (a ≡ true) × (b ≡ true)
-both true b e = (refl, e)
-both false b e = let z : _≡_ {A = ℕ} 0 1 = cc in absurd (omega arith)
 
 -- the bytes of a label are passed over
 skip : (xs ys : List ℕ) → labelsFill (length xs) (xs ++ ys) ≡ labelsFill 0 ys

@@ -7,13 +7,10 @@ use native.Mathlib.Omega.{arith}
 use borrow.Author.Tests.{lt-ltb, le-ltb, le-leb, lt-leb, eq-eqb, ne-eqb, ltb-true, ltb-false, leb-true, eqb-true, eqb-false}
 use lib.ListN.{length, getD}
 use lib.Dec.{ltb, leb, eqb}
+use Rattle.truth.proofs.Decided.{both}
 use Rattle.pieces.specs.Pieces.{pieceAt, target, labelFits, pointerFits}
 use Rattle.pieces.specs.declared.Piece.{Piece}
 use Rattle.pieces.specs.declared.Piece.the-variants.{Root, Label, Pointer, Bad}
-
-both : (a b : Bool) → (a && b) ≡ true → (a ≡ true) × (b ≡ true)
-both true b e = (refl, e)
-both false b e = let z : _≡_ {A = ℕ} 0 1 = cc in absurd (omega arith)
 
 -- which tests a piece has passed
 abbrev Passed : (b1 b2 b3 b4 b5 b6 : Bool) (k t : ℕ) → Piece → Type 0

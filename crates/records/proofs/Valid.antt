@@ -8,6 +8,7 @@ use borrow.Author.Tests.{leb-true, eqb-true}
 use lib.ListN.{length, take, length-append, length-take}
 use lib.Seq.{length-take-le}
 use lib.Dec.{leb, eqb}
+use Rattle.truth.proofs.Decided.{both}
 use Rattle.fold.specs.Fold.{sameName}
 use Rattle.names.specs.Names.{isName}
 use Rattle.rdata.specs.Rdata.{stringsFill}
@@ -27,10 +28,6 @@ pub record Valid (s : Setup) : Type 0 where
   pub strings : stringsFill 0 (take (s .txt .len) (s .txt .bytes)) ≡ true
   pub four : length (s .a) ≡ 4
   pub sixteen : length (s .aaaa) ≡ 16
-
-both : (a b : Bool) → (a && b) ≡ true → (a ≡ true) × (b ≡ true)
-both true b e = (refl, e)
-both false b e = let z : _≡_ {A = ℕ} 0 1 = cc in absurd (omega arith)
 
 held-length : (least most len : ℕ) (bytes : List ℕ) → held least most len bytes ≡ true → (least ≤ length (take len bytes)) × (length (take len bytes) ≤ most)
 held-length least most len bytes h =

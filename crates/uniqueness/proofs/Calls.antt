@@ -7,6 +7,7 @@ use Prim.Native.Nat.{ℕ, zero, suc, _+_, _≤_}
 use native.Mathlib.Omega.{arith}
 use lib.Dec.{eqb, ltb}
 use borrow.Author.Tests.{eqb-true, ne-eqb, ltb-false}
+use Rattle.truth.proofs.Decided.{neither}
 use Rattle.wire.specs.Message.{Message}
 use Rattle.wire.specs.Layout.{Reads, read, refused, messageAt}
 use Rattle.records.specs.declared.Setup.{Setup}
@@ -38,21 +39,17 @@ use Rattle.uniqueness.proofs.Messages.{output-reads}
 positive : (n : ℕ) → eqb (suc n) 0 ≡ false
 positive n = ne-eqb (suc n) 0 (λ e. absurd (omega arith))
 
-pub or-false : (a b : Bool) → (a || b) ≡ false → (a ≡ false) × (b ≡ false)
-or-false true b h = clash (cc)
-or-false false b h = (refl, h)
-
 not-false : (b : Bool) → not b ≡ false → b ≡ true
 not-false true h = refl
 not-false false h = clash (cc)
 
 in-time : (life : Life) (now : ℕ) → wrongTime life now ≡ false → now ≤ lastTime
 unfolding wrongTime
-in-time life now h = ltb-false lastTime now (or-false (lateStart now) (ltb now (life .last) || not (kept 4611686018427389904 life)) h .0)
+in-time life now h = ltb-false lastTime now (neither (lateStart now) (ltb now (life .last) || not (kept 4611686018427389904 life)) h .0)
 
 pub right-setup : (x : State) → wrongState x ≡ false → validSetup (x .setup) ≡ true
 unfolding wrongState
-right-setup x h = not-false (validSetup (x .setup)) (or-false (not (validSetup (x .setup))) (wrongStartDraw (x .life .draw)) h .0)
+right-setup x h = not-false (validSetup (x .setup)) (neither (not (validSetup (x .setup))) (wrongStartDraw (x .life .draw)) h .0)
 
 -- ---- a call that is not refused
 

@@ -9,6 +9,7 @@ use Prim.Native.Nat.{ℕ, _≤_, _<_}
 use native.Mathlib.Omega.{arith}
 use lib.Dec.{leb, ltb}
 use borrow.Author.Tests.{le-ltb, leb-false}
+use Rattle.truth.proofs.Decided.{neither}
 use Rattle.claims.specs.Time.{lastTime}
 use Rattle.claims.specs.Claims.{dueOf, replyDueOf}
 use Rattle.claims.specs.Refusals.{lateStart, wrongTime}
@@ -25,7 +26,7 @@ use Rattle.link.specs.Premises.{Among}
 use Rattle.uniqueness.specs.Responder.{listed, answeredBy, tick, due}
 use Rattle.uniqueness.specs.Rules.{with}
 use Rattle.uniqueness.proofs.Lists.{clash, out-append}
-use Rattle.uniqueness.proofs.Calls.{or-false, ticked-state}
+use Rattle.uniqueness.proofs.Calls.{ticked-state}
 
 -- a tick that is accepted, from x to y
 abbrev pub Ticks : State → ℕ → ℕ → State → Type 0
@@ -69,8 +70,8 @@ module _ (now room : ℕ) (time : now ≤ lastTime) (long : 1452 ≤ room) where
   later : (x : State) → moreDue (x .life) now ≡ false → (u : ℕ) → Among u (due x) → now < u
   unfolding due moreDue
   later x m u h =
-      let a = or-false (claimDue (x .life .instance) now) (claimDue (x .life .host) now || replyDue (x .life .reply) now) m in
-      let b = or-false (claimDue (x .life .host) now) (replyDue (x .life .reply) now) (a .1) in
+      let a = neither (claimDue (x .life .instance) now) (claimDue (x .life .host) now || replyDue (x .life .reply) now) m in
+      let b = neither (claimDue (x .life .host) now) (replyDue (x .life .reply) now) (a .1) in
       go (a .0) (b .0) (b .1) (out-append u (listed (dueOf (x .life .instance))) (listed (dueOf (x .life .host)) ++ listed (replyDueOf (x .life .reply))) h)
     where
       rest : claimDue (x .life .host) now ≡ false → replyDue (x .life .reply) now ≡ false

@@ -8,6 +8,7 @@ use borrow.Author.Tests.{leb-true}
 use lib.ListN.{length, take, drop, length-append}
 use lib.Seq.{sets, length-sets, length-take-le}
 use lib.Dec.{leb}
+use Rattle.truth.proofs.Decided.{both}
 use Rattle.octets.proofs.Sets.{sets-append}
 use Rattle.names.specs.Names.{isName}
 use Rattle.compression.specs.Compression.{nameBytes, namePlaces, labelsIn}
@@ -16,7 +17,7 @@ use Rattle.writer.specs.declared.Spot.{Spot}
 use Rattle.writer.specs.Items.{u16, fields, dataBytes, dataPlaces, putName, putFields, putRecord, putQuestion}
 use Rattle.writer.specs.Writer.{heldIn, spotOf, questionOf, recordOf, namesFit, labelsFor, nameFits, recordFits, Wrote, Grown, NameReady, DataReady}
 use Rattle.writer.proofs.Runs.{sets-swap, take-run, run-rest}
-use Rattle.writer.proofs.Rdata.{both, data-short, data-few}
+use Rattle.writer.proofs.Rdata.{data-short, data-few}
 
 -- five runs of two bytes
 pub five : (o : List ℕ) (at a b c d e : ℕ) (o₁ o₂ o₃ o₄ o₅ : List ℕ) → o₁ ≡ sets o at (u16 a) → o₂ ≡ sets o₁ (at + 2) (u16 b) → o₃ ≡ sets o₂ (at + 4) (u16 c) → o₄ ≡ sets o₃ (at + 6) (u16 d)

@@ -8,6 +8,7 @@ use borrow.Author.Tests.{leb-true}
 use lib.ListN.{length, take, drop, length-append, length-drop}
 use lib.Seq.{sets, length-sets, length-take-le, take-all}
 use lib.Dec.{leb}
+use Rattle.truth.proofs.Decided.{both}
 use Rattle.octets.proofs.Sets.{sets-append}
 use Rattle.names.specs.Names.{isName}
 use Rattle.rdata.specs.Answers.{targetIn}
@@ -18,10 +19,6 @@ use Rattle.writer.specs.declared.Spot.{Spot}
 use Rattle.writer.specs.Items.{dataBytes, dataPlaces}
 use Rattle.writer.specs.Writer.{spotOf, namesFit, labelsFor, Wrote, NameReady, DataReady}
 use Rattle.writer.proofs.Runs.{take-sets}
-
-pub both : (a b : Bool) → (a && b) ≡ true → (a ≡ true) × (b ≡ true)
-both true b e = (refl, e)
-both false b e = let z : _≡_ {A = ℕ} 0 1 = cc in absurd (omega arith)
 
 -- rdata that ends in a name
 module _ (rtype : ℕ) (d : List ℕ) where

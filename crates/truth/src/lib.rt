@@ -1,0 +1,1 @@
+// Laws of tests that are decided, for the other crates. No code.
