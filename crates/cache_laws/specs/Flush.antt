@@ -8,7 +8,7 @@ use native.Mathlib.Omega.{arith}
 use lib.ListN.{length}
 use lib.Seq.{getD-set-same}
 use borrow.Author.Tests.{le-ltb, eq-eqb}
-use Rattle.truth.proofs.Decided.{both}
+use mathlib.Mathlib.Data.Bool.Basic.{and-eq-true-eq-eq-true-and-eq-true as both}
 use Rattle.wire.specs.Message.{Record, topBit}
 use Rattle.entries.specs.Entries.{blank, isLive, isFree, isOf, liveOf, holds, soon}
 use Rattle.entries.specs.Cache.{Cache, isCached, rule1, goodbye, equalSlot, freeSlot, rule23, afterRule1, takeRecord}
@@ -41,7 +41,7 @@ free-dead now c i h = let k = found-at (isFree now) (c .entries) i h in (k .0, f
 
 pub live-first : (now : ℕ) (store name : List ℕ) (rtype i : ℕ) (e : Entry) → liveOf now store name rtype i e ≡ true → (isLive now e ≡ true) × (isOf store name rtype i e ≡ true)
 unfolding liveOf
-live-first now store name rtype i e h = both (isLive now e) (isOf store name rtype i e) h
+live-first now store name rtype i e h = both (isLive now e) (isOf store name rtype i e) .0 h
 
 module _ (now : ℕ) (x : Record) (c : Cache) (cached : isCached (x .class) (x .rtype) ≡ true) where
   -- Right after the rules for a record with the flush bit, no live entry of that name and type received more than 1,000 ms before stays live

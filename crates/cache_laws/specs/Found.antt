@@ -8,7 +8,7 @@ use lib.ListN.{length, getD, take, length-set}
 use lib.Seq.{sets, getD-set-same}
 use lib.Dec.{eqb}
 use borrow.Author.Tests.{le-ltb, lt-ltb, eq-eqb, ne-eqb}
-use Rattle.truth.proofs.Decided.{both}
+use mathlib.Mathlib.Data.Bool.Basic.{and-eq-true-eq-eq-true-and-eq-true as both}
 use Rattle.fold.specs.Fold.{sameName}
 use Rattle.fold.proofs.Equal.{same-refl}
 use Rattle.expansion.specs.Equal.{sameBytes}
@@ -57,7 +57,7 @@ of-again now ttl store name rtype i e = refl
 
 holds-of : (now : ℕ) (store name : List ℕ) (rtype : ℕ) (d : List ℕ) (i : ℕ) (e : Entry) → holds now store name rtype d i e ≡ true → isOf store name rtype i e ≡ true
 unfolding holds
-holds-of now store name rtype d i e h = live-first now store name rtype i e (both (liveOf now store name rtype i e) (eqb (e .rdata) (length d) && sameBytes (rdataIn store i e) d) h .0) .1
+holds-of now store name rtype d i e h = live-first now store name rtype i e (both (liveOf now store name rtype i e) (eqb (e .rdata) (length d) && sameBytes (rdataIn store i e) d) .0 h .0) .1
 
 module _ (now : ℕ) (x : Record) (c : Cache) (i : ℕ) (owner : length (x .owner) ≤ 255) (rdata : length (x .rdata) ≤ 768) (slots : 1024 * length (c .entries) ≤ length (c .store)) where
   of-entry : (d : Cache) (e : Entry) → i < length (d .entries) → entryAt d i ≡ e → e .received ≡ now → e .expiry ≡ now + 1000 * x .ttl → isOf (d .store) (x .owner) (x .rtype) i e ≡ true → Taken now x i d

@@ -7,7 +7,7 @@ use native.Mathlib.Omega.{arith}
 use lib.ListN.{length, take}
 use lib.Dec.{leb, eqb}
 use borrow.Author.Tests.{lt-ltb, ltb-true}
-use Rattle.truth.proofs.Decided.{both}
+use mathlib.Mathlib.Data.Bool.Basic.{and-eq-true-eq-eq-true-and-eq-true as both}
 use Rattle.fold.specs.Fold.{sameName}
 use Rattle.wire.specs.Message.{Record}
 use Rattle.entries.specs.Entries.{isLive, isOf, liveOf, matches}
@@ -30,7 +30,7 @@ of-found : (t : ℕ) (d : Cache) (name : List ℕ) (rtype i : ℕ) → lookIn t 
 unfolding lookIn matches
 of-found t d name rtype i k =
     let a = found-at (matches t (d .store) name rtype i) (d .entries) i k in
-    (a .0, live-first t (d .store) name rtype i (entryAt d i) (both (leb i i) (liveOf t (d .store) name rtype i (entryAt d i)) (a .1) .1) .1)
+    (a .0, live-first t (d .store) name rtype i (entryAt d i) (both (leb i i) (liveOf t (d .store) name rtype i (entryAt d i)) .0 (a .1) .1) .1)
 
 -- an entry that stays is of the name and type that it was of
 of-stays : (now : ℕ) (c d : Cache) (name : List ℕ) (rtype i : ℕ) → Stays now c d i → isOf (d .store) name rtype i (entryAt d i) ≡ isOf (c .store) name rtype i (entryAt c i)

@@ -7,7 +7,7 @@ use Prim.Native.Nat.{ℕ, _≤_, _<_}
 use native.Mathlib.Omega.{arith}
 use lib.Dec.{leb}
 use borrow.Author.Tests.{le-leb, lt-leb, leb-true, leb-false}
-use Rattle.truth.proofs.Decided.{neither}
+use mathlib.Mathlib.Data.Bool.Basic.{or-eq-false-eq-eq-false-and-eq-false as neither}
 use Rattle.claims.specs.Claims.{dueOf, replyDueOf}
 use Rattle.claims.specs.declared.Life.{Life}
 use Rattle.steps.specs.Steps.{dueBy, claimDue, replyDue, moreDue, stepOf}
@@ -58,6 +58,6 @@ pub idle-tick :
     → _≡_ {A = Ticked} (tickOf life now aaaa) (record { life = withLast now life; output = Nothing; more = false })
 unfolding moreDue tickOf claimTurn stepOf stepTurn orHost orReply replyTurn endedOf
 idle-tick life now aaaa e =
-    let i = neither (claimDue (life .instance) now) (claimDue (life .host) now || replyDue (life .reply) now) e in
-    let h = neither (claimDue (life .host) now) (replyDue (life .reply) now) (i .1) in
+    let i = neither (claimDue (life .instance) now) (claimDue (life .host) now || replyDue (life .reply) now) .0 e in
+    let h = neither (claimDue (life .host) now) (replyDue (life .reply) now) .0 (i .1) in
     rw (i .0, h .0, h .1) (λ j. record { life = withLast now life; output = Nothing; more = e j })

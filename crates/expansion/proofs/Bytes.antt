@@ -9,7 +9,7 @@ use lib.ListN.{length, getD, drop, drop-of-length-le}
 use lib.Seq.{drop-cons}
 use lib.Dec.{eqb}
 use borrow.Author.Tests.{eq-eqb, ne-eqb, eqb-true}
-use Rattle.truth.proofs.Decided.{both}
+use mathlib.Mathlib.Data.Bool.Basic.{and-eq-true-eq-eq-true-and-eq-true as both}
 use Rattle.expansion.specs.Equal.{sameBytes}
 
 pub same-refl : (a : List ℕ) → sameBytes a a ≡ true
@@ -24,7 +24,7 @@ same-equal [] [] h = refl
 same-equal [] (y ∷ ys) h = let z : _≡_ {A = ℕ} 0 1 = cc in absurd (omega arith)
 same-equal (x ∷ xs) [] h = let z : _≡_ {A = ℕ} 0 1 = cc in absurd (omega arith)
 same-equal (x ∷ xs) (y ∷ ys) h =
-    let k = both (eqb x y) (sameBytes xs ys) h in
+    let k = both (eqb x y) (sameBytes xs ys) .0 h in
     ap₂ (λ (b : ℕ) (l : List ℕ). b ∷ l) (eqb-true x y (k .0)) (same-equal xs ys (k .1))
 
 pub same-lengths : (a b : List ℕ) → (length a ≡ length b → ⊥) → sameBytes a b ≡ false

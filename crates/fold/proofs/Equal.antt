@@ -7,7 +7,7 @@ use native.Mathlib.Omega.{arith}
 use lib.ListN.{length}
 use lib.Dec.{eqb}
 use borrow.Author.Tests.{eq-eqb, eqb-true}
-use Rattle.truth.proofs.Decided.{both}
+use mathlib.Mathlib.Data.Bool.Basic.{and-eq-true-eq-eq-true-and-eq-true as both}
 use Rattle.fold.specs.Fold.{lower, sameName}
 
 -- names of different lengths differ
@@ -23,7 +23,7 @@ same-lengths (x ∷ xs) (y ∷ ys) h = rw (same-lengths xs ys (λ e. h (ap suc e
 heads : (x y : ℕ) (xs ys : List ℕ) → sameName (x ∷ xs) (y ∷ ys) ≡ true → (lower x ≡ lower y) × (sameName xs ys ≡ true)
 unfolding sameName
 heads x y xs ys e =
-    let h = both (eqb (lower x) (lower y)) (sameName xs ys) e in
+    let h = both (eqb (lower x) (lower y)) (sameName xs ys) .0 e in
     (eqb-true (lower x) (lower y) (h .0), h .1)
 
 joined : (x y : ℕ) (xs ys : List ℕ) → lower x ≡ lower y → sameName xs ys ≡ true → sameName (x ∷ xs) (y ∷ ys) ≡ true

@@ -9,7 +9,7 @@ use borrow.Author.Tests.{lt-ltb, le-leb, lt-leb, ltb-true, leb-true, eqb-true}
 use lib.ListN.{length, take, drop, length-append}
 use lib.Seq.{take-at, drop-at}
 use lib.Dec.{ltb, leb, eqb}
-use Rattle.truth.proofs.Decided.{both}
+use mathlib.Mathlib.Data.Bool.Basic.{and-eq-true-eq-eq-true-and-eq-true as both}
 use Rattle.fold.specs.Fold.{lower, sameName}
 use Rattle.names.specs.Names.{labelsFill, isName}
 use Rattle.labels.specs.Labels.{encode, Labels, none, one, IsName}
@@ -42,7 +42,7 @@ split (suc k) (b ∷ bs) h = let f = split k bs h in (b ∷ f .0, f .1, ap suc (
 split zero (zero ∷ []) h = ([], [], refl, none, refl)
 split zero (zero ∷ (c ∷ cs)) h = let z : _≡_ {A = ℕ} 0 1 = cc in absurd (omega arith)
 split zero (suc n ∷ bs) h =
-    let g = both (ltb (suc n) 64) (labelsFill (suc n) bs) h in
+    let g = both (ltb (suc n) 64) (labelsFill (suc n) bs) .0 h in
     let f = split (suc n) bs (g .1) in
     let hi : suc n < 64 = ltb-true _ _ (g .0) in
     let some : 1 ≤ length (f .0) = omega (arith, f .2) in
@@ -52,7 +52,7 @@ split zero (suc n ∷ bs) h =
 -- every uncompressed name is made of labels
 pub made-of : (bs : List ℕ) → isName bs ≡ true → (ls : List (List ℕ)) × (IsName ls) × (bs ≡ encode ls)
 made-of bs h =
-    let g = both (labelsFill 0 bs) (leb (length bs) 255) h in
+    let g = both (labelsFill 0 bs) (leb (length bs) 255) .0 h in
     let f = split 0 bs (g .0) in go (f .0) (f .1) (f .2) (f .3) (f .4) (leb-true _ _ (g .1))
   where
     go : (l : List ℕ) (ls : List (List ℕ)) → length l ≡ 0 → Labels ls → bs ≡ l ++ encode ls → length bs ≤ 255 → (ls : List (List ℕ)) × (IsName ls) × (bs ≡ encode ls)
@@ -81,20 +81,20 @@ unfolding sameName
 past [] [] x y n h = h
 past [] (b ∷ m) x y n h = absurd (omega arith)
 past (a ∷ l) [] x y n h = absurd (omega arith)
-past (a ∷ l) (b ∷ m) x y n h = past l m x y (omega arith) (both (eqb (lower a) (lower b)) (sameName (l ++ x) (m ++ y)) h .1)
+past (a ∷ l) (b ∷ m) x y n h = past l m x y (omega arith) (both (eqb (lower a) (lower b)) (sameName (l ++ x) (m ++ y)) .0 h .1)
 
 -- equal names have as many labels
 pub same-count : {ls ms : List (List ℕ)} → Labels ls → Labels ms → sameName (encode ls) (encode ms) ≡ true → length ls ≡ length ms
 unfolding sameName
 same-count none none h = refl
 same-count none (one {l = m} {ls = ms} lo hi rest) h =
-    let g = both (eqb (lower 0) (lower (length m))) (sameName [] (m ++ encode ms)) h in
+    let g = both (eqb (lower 0) (lower (length m))) (sameName [] (m ++ encode ms)) .0 h in
     let e : 0 ≡ lower (length m) = eqb-true _ _ (g .0) in absurd (omega (arith, length-kept (length m) hi))
 same-count (one {l = l} {ls = ls} lo hi rest) none h =
-    let g = both (eqb (lower (length l)) (lower 0)) (sameName (l ++ encode ls) []) h in
+    let g = both (eqb (lower (length l)) (lower 0)) (sameName (l ++ encode ls) []) .0 h in
     let e : lower (length l) ≡ 0 = eqb-true _ _ (g .0) in absurd (omega (arith, length-kept (length l) hi))
 same-count (one {l = l} {ls = ls} lo hi rest) (one {l = m} {ls = ms} lo′ hi′ rest′) h =
-    let g = both (eqb (lower (length l)) (lower (length m))) (sameName (l ++ encode ls) (m ++ encode ms)) h in
+    let g = both (eqb (lower (length l)) (lower (length m))) (sameName (l ++ encode ls) (m ++ encode ms)) .0 h in
     let e : lower (length l) ≡ lower (length m) = eqb-true _ _ (g .0) in
     let n : length l ≡ length m = omega (arith, length-kept (length l) hi, length-kept (length m) hi′) in
     ap suc (same-count rest rest′ (past l m (encode ls) (encode ms) n (g .1)))

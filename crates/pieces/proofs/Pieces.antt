@@ -7,7 +7,7 @@ use native.Mathlib.Omega.{arith}
 use borrow.Author.Tests.{lt-ltb, le-ltb, le-leb, lt-leb, eq-eqb, ne-eqb, ltb-true, ltb-false, leb-true, eqb-true, eqb-false}
 use lib.ListN.{length, getD}
 use lib.Dec.{ltb, leb, eqb}
-use Rattle.truth.proofs.Decided.{both}
+use mathlib.Mathlib.Data.Bool.Basic.{and-eq-true-eq-eq-true-and-eq-true as both}
 use Rattle.pieces.specs.Pieces.{pieceAt, target, labelFits, pointerFits}
 use Rattle.pieces.specs.declared.Piece.{Piece}
 use Rattle.pieces.specs.declared.Piece.the-variants.{Root, Label, Pointer, Bad}
@@ -42,15 +42,15 @@ module _ (p : List ℕ) (start at used : ℕ) where
       → (at < length p) × (getD p at 0 ≡ 0 → ⊥) × (getD p at 0 < 64) × (at + 1 + getD p at 0 ≤ length p) × (used + 1 + getD p at 0 < 255) × (getD p at 0 ≡ n)
   is-label n e =
       let f = facts (Label n) e in
-      let g = both (leb (at + 1 + getD p at 0) (length p)) (ltb (used + 1 + getD p at 0) 255) (f .3) in
+      let g = both (leb (at + 1 + getD p at 0) (length p)) (ltb (used + 1 + getD p at 0) 255) .0 (f .3) in
       (ltb-true _ _ (f .0), eqb-false _ _ (f .1), ltb-true _ _ (f .2), leb-true _ _ (g .0), ltb-true _ _ (g .1), f .4)
 
   pub is-pointer : (t : ℕ) → pieceAt p start at used ≡ Pointer t
       → (at < length p) × (192 ≤ getD p at 0) × (at + 1 < length p) × (12 ≤ target p at) × (target p at < start) × (target p at ≡ t)
   is-pointer t e =
       let f = facts (Pointer t) e in
-      let g = both (ltb (at + 1) (length p) && leb 12 (target p at)) (ltb (target p at) start) (f .2) in
-      let h = both (ltb (at + 1) (length p)) (leb 12 (target p at)) (g .0) in
+      let g = both (ltb (at + 1) (length p) && leb 12 (target p at)) (ltb (target p at) start) .0 (f .2) in
+      let h = both (ltb (at + 1) (length p)) (leb 12 (target p at)) .0 (g .0) in
       (ltb-true _ _ (f .0), ltb-false _ _ (f .1), ltb-true _ _ (h .0), leb-true _ _ (h .1), ltb-true _ _ (g .1), f .3)
 
   -- a label lies in the packet and leaves room for the zero byte

@@ -8,7 +8,7 @@ use borrow.Author.Tests.{leb-true, eqb-true}
 use lib.ListN.{length, take, length-append, length-take}
 use lib.Seq.{length-take-le}
 use lib.Dec.{leb, eqb}
-use Rattle.truth.proofs.Decided.{both}
+use mathlib.Mathlib.Data.Bool.Basic.{and-eq-true-eq-eq-true-and-eq-true as both}
 use Rattle.fold.specs.Fold.{sameName}
 use Rattle.names.specs.Names.{isName}
 use Rattle.rdata.specs.Rdata.{stringsFill}
@@ -31,8 +31,8 @@ pub record Valid (s : Setup) : Type 0 where
 
 held-length : (least most len : ℕ) (bytes : List ℕ) → held least most len bytes ≡ true → (least ≤ length (take len bytes)) × (length (take len bytes) ≤ most)
 held-length least most len bytes h =
-    let f = both (leb least len && leb len most) (eqb (length bytes) most) h in
-    let g = both (leb least len) (leb len most) (f .0) in
+    let f = both (leb least len && leb len most) (eqb (length bytes) most) .0 h in
+    let g = both (leb least len) (leb len most) .0 (f .0) in
     let a : least ≤ len = leb-true _ _ (g .0) in
     let b : len ≤ most = leb-true _ _ (g .1) in
     let c : length bytes ≡ most = eqb-true _ _ (f .1) in
@@ -41,13 +41,13 @@ held-length least most len bytes h =
 all : (a b c d e f g h : Bool) → (a && (b && (c && (d && (e && (f && (g && h))))))) ≡ true
     → (a ≡ true) × (b ≡ true) × (d ≡ true) × (f ≡ true) × (g ≡ true) × (h ≡ true)
 all a b c d e f g h k =
-    let k₁ = both a (b && (c && (d && (e && (f && (g && h)))))) k in
-    let k₂ = both b (c && (d && (e && (f && (g && h))))) (k₁ .1) in
-    let k₃ = both c (d && (e && (f && (g && h)))) (k₂ .1) in
-    let k₄ = both d (e && (f && (g && h))) (k₃ .1) in
-    let k₅ = both e (f && (g && h)) (k₄ .1) in
-    let k₆ = both f (g && h) (k₅ .1) in
-    let k₇ = both g h (k₆ .1) in (k₁ .0, k₂ .0, k₄ .0, k₆ .0, k₇ .0, k₇ .1)
+    let k₁ = both a (b && (c && (d && (e && (f && (g && h)))))) .0 k in
+    let k₂ = both b (c && (d && (e && (f && (g && h))))) .0 (k₁ .1) in
+    let k₃ = both c (d && (e && (f && (g && h)))) .0 (k₂ .1) in
+    let k₄ = both d (e && (f && (g && h))) .0 (k₃ .1) in
+    let k₅ = both e (f && (g && h)) .0 (k₄ .1) in
+    let k₆ = both f (g && h) .0 (k₅ .1) in
+    let k₇ = both g h .0 (k₆ .1) in (k₁ .0, k₂ .0, k₄ .0, k₆ .0, k₇ .0, k₇ .1)
 
 pub valid : (s : Setup) → validSetup s ≡ true → Valid s
 unfolding validSetup labelFits serviceFits txtFits
@@ -55,9 +55,9 @@ valid s h =
     let f =
     all (labelFits (s .instance)) (serviceFits (s .service)) (protocolFits (s .protocol)) (labelFits (s .host)) (domainFits (s .domain)) (txtFits (s .txt)) (eqb (length (s .a)) 4) (eqb (length (s .aaaa)) 16) h in
     let i = held-length 1 63 (s .instance .len) (s .instance .bytes) (f .0) in
-    let v = both (held 2 16 (s .service .len) (s .service .bytes)) (serviceRule (serviceHeld (s .service))) (f .1) in
+    let v = both (held 2 16 (s .service .len) (s .service .bytes)) (serviceRule (serviceHeld (s .service))) .0 (f .1) in
     let m = held-length 1 63 (s .host .len) (s .host .bytes) (f .2) in
-    let t = both (held 1 400 (s .txt .len) (s .txt .bytes)) (stringsFill 0 (take (s .txt .len) (s .txt .bytes))) (f .3) in
+    let t = both (held 1 400 (s .txt .len) (s .txt .bytes)) (stringsFill 0 (take (s .txt .len) (s .txt .bytes))) .0 (f .3) in
     record {
       instance = (i .0, omega (arith, i .1));
       service = held-length 2 16 (s .service .len) (s .service .bytes) (v .0);

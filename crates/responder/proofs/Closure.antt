@@ -7,7 +7,7 @@ use mathlib.Core.List.{List, [], _∷_}
 use native.Mathlib.Omega.{arith}
 use lib.Dec.{eqb, ltb}
 use borrow.Author.Tests.{ltb-false, eqb-true}
-use Rattle.truth.proofs.Decided.{neither}
+use mathlib.Mathlib.Data.Bool.Basic.{or-eq-false-eq-eq-false-and-eq-false as neither}
 use Rattle.wire.specs.Layout.{Reads, read, refused, messageAt}
 use Rattle.records.specs.declared.Setup.{Setup}
 use Rattle.records.specs.Setups.{validSetup}
@@ -75,16 +75,16 @@ sound-never-7 s (ticked now room) h e = never-7 (wrongTime (s .life) now) false 
 in-time : (life : Life) (now : ℕ) → wrongTime life now ≡ false → (now ≤ 4611686018427387904) × (kept 4611686018427389904 life ≡ true)
 unfolding wrongTime
 in-time life now h =
-    let a : (lateStart now ≡ false) × ((ltb now (life .last) || not (kept 4611686018427389904 life)) ≡ false) = neither _ _ h in
-    let b : (ltb now (life .last) ≡ false) × (not (kept 4611686018427389904 life) ≡ false) = neither _ _ (a .1) in
+    let a : (lateStart now ≡ false) × ((ltb now (life .last) || not (kept 4611686018427389904 life)) ≡ false) = neither _ _ .0 h in
+    let b : (ltb now (life .last) ≡ false) × (not (kept 4611686018427389904 life) ≡ false) = neither _ _ .0 (a .1) in
     (ltb-false 4611686018427387904 now (a .0), not-in _ (b .1))
 
 small-draw : (s : State) → wrongState s ≡ false → s .life .draw ≤ 250
 unfolding wrongState
-small-draw s h = ltb-false 250 (s .life .draw) (neither (not (validSetup (s .setup))) (wrongStartDraw (s .life .draw)) h .1)
+small-draw s h = ltb-false 250 (s .life .draw) (neither (not (validSetup (s .setup))) (wrongStartDraw (s .life .draw)) .0 h .1)
 
 small-reply : (draw : ℕ) → wrongReplyDraw draw ≡ false → draw ≤ 120
-small-reply draw h = ltb-false 120 draw (neither (ltb draw 20) (ltb 120 draw) h .1)
+small-reply draw h = ltb-false 120 draw (neither (ltb draw 20) (ltb 120 draw) .0 h .1)
 
 -- a state whose set-up and start draw are those of another
 same-right : (s : State) (life : Life) → life .draw ≡ s .life .draw → wrongState s ≡ false → wrongState (record { setup = s .setup; life = life }) ≡ false

@@ -7,7 +7,7 @@ use mathlib.Core.List.{List, [], _∷_}
 use native.Mathlib.Omega.{arith}
 use lib.Dec.{ltb}
 use borrow.Author.Tests.{le-ltb, ltb-false}
-use Rattle.truth.proofs.Decided.{neither}
+use mathlib.Mathlib.Data.Bool.Basic.{or-eq-false-eq-eq-false-and-eq-false as neither}
 use Rattle.claims.specs.Time.{lastTime, lastDue, lastKept, afterMs}
 use Rattle.claims.specs.Claims.{claimOf, startOf}
 use Rattle.claims.specs.Refusals.{kept, lateStart, wrongTime, wrongStartDraw, wrongReplyDraw}
@@ -34,26 +34,26 @@ pub record Accepted (life : Life) (c : Call) : Type 0 where
 timely : (life : Life) (now : ℕ) → wrongTime life now ≡ false → (now ≤ lastTime) × (life .last ≤ now)
 unfolding wrongTime
 timely life now h =
-    let a : _ × _ = neither (lateStart now) (ltb now (life .last) || not (kept lastKept life)) h in
-    let b : _ × _ = neither (ltb now (life .last)) (not (kept lastKept life)) (a .1) in
+    let a : _ × _ = neither (lateStart now) (ltb now (life .last) || not (kept lastKept life)) .0 h in
+    let b : _ × _ = neither (ltb now (life .last)) (not (kept lastKept life)) .0 (a .1) in
     (ltb-false lastTime now (a .0), ltb-false now (life .last) (b .0))
 
 pub accepted : (life : Life) (c : Call) → refused life c ≡ false → Accepted life c
 accepted life (received now draw f) h =
-    let a : _ × _ = neither (wrongTime life now) (wrongReplyDraw draw || wrongStartDraw (life .draw)) h in
-    let b : _ × _ = neither (wrongReplyDraw draw) (wrongStartDraw (life .draw)) (a .1) in
+    let a : _ × _ = neither (wrongTime life now) (wrongReplyDraw draw || wrongStartDraw (life .draw)) .0 h in
+    let b : _ × _ = neither (wrongReplyDraw draw) (wrongStartDraw (life .draw)) .0 (a .1) in
     let t : _ × _ = timely life now (a .0) in
     record { late = t .0; early = t .1; start = ltb-false 250 (life .draw) (b .1) }
 accepted life (ticked now) h =
-    let a : _ × _ = neither (wrongTime life now) (wrongStartDraw (life .draw)) h in
+    let a : _ × _ = neither (wrongTime life now) (wrongStartDraw (life .draw)) .0 h in
     let t : _ × _ = timely life now (a .0) in
     record { late = t .0; early = t .1; start = ltb-false 250 (life .draw) (a .1) }
 
 drawn : (life : Life) (now draw : ℕ) (f : Facts) → refused life (received now draw f) ≡ false → draw ≤ 120
 drawn life now draw f h =
-    let a : _ × _ = neither (wrongTime life now) (wrongReplyDraw draw || wrongStartDraw (life .draw)) h in
-    let b : _ × _ = neither (wrongReplyDraw draw) (wrongStartDraw (life .draw)) (a .1) in
-    let d : _ × _ = neither (ltb draw 20) (ltb 120 draw) (b .0) in
+    let a : _ × _ = neither (wrongTime life now) (wrongReplyDraw draw || wrongStartDraw (life .draw)) .0 h in
+    let b : _ × _ = neither (wrongReplyDraw draw) (wrongStartDraw (life .draw)) .0 (a .1) in
+    let d : _ × _ = neither (ltb draw 20) (ltb 120 draw) .0 (b .0) in
     ltb-false 120 draw (d .1)
 
 -- What each call that is not refused keeps, a run keeps.

@@ -7,7 +7,7 @@ use Prim.Native.Nat.{ℕ, zero, suc, _+_, _≤_}
 use native.Mathlib.Omega.{arith}
 use lib.Dec.{eqb, ltb}
 use borrow.Author.Tests.{eqb-true, ne-eqb, ltb-false}
-use Rattle.truth.proofs.Decided.{neither}
+use mathlib.Mathlib.Data.Bool.Basic.{or-eq-false-eq-eq-false-and-eq-false as neither}
 use Rattle.wire.specs.Message.{Message}
 use Rattle.wire.specs.Layout.{Reads, read, refused, messageAt}
 use Rattle.records.specs.declared.Setup.{Setup}
@@ -45,11 +45,11 @@ not-false false h = clash (cc)
 
 in-time : (life : Life) (now : ℕ) → wrongTime life now ≡ false → now ≤ lastTime
 unfolding wrongTime
-in-time life now h = ltb-false lastTime now (neither (lateStart now) (ltb now (life .last) || not (kept 4611686018427389904 life)) h .0)
+in-time life now h = ltb-false lastTime now (neither (lateStart now) (ltb now (life .last) || not (kept 4611686018427389904 life)) .0 h .0)
 
 pub right-setup : (x : State) → wrongState x ≡ false → validSetup (x .setup) ≡ true
 unfolding wrongState
-right-setup x h = not-false (validSetup (x .setup)) (neither (not (validSetup (x .setup))) (wrongStartDraw (x .life .draw)) h .0)
+right-setup x h = not-false (validSetup (x .setup)) (neither (not (validSetup (x .setup))) (wrongStartDraw (x .life .draw)) .0 h .0)
 
 -- ---- a call that is not refused
 

@@ -9,7 +9,7 @@ use Prim.Native.Nat.{ℕ, _≤_, _<_}
 use native.Mathlib.Omega.{arith}
 use lib.Dec.{leb, ltb}
 use borrow.Author.Tests.{le-ltb, leb-false}
-use Rattle.truth.proofs.Decided.{neither}
+use mathlib.Mathlib.Data.Bool.Basic.{or-eq-false-eq-eq-false-and-eq-false as neither}
 use Rattle.claims.specs.Time.{lastTime}
 use Rattle.claims.specs.Claims.{dueOf, replyDueOf}
 use Rattle.claims.specs.Refusals.{lateStart, wrongTime}
@@ -70,8 +70,8 @@ module _ (now room : ℕ) (time : now ≤ lastTime) (long : 1452 ≤ room) where
   later : (x : State) → moreDue (x .life) now ≡ false → (u : ℕ) → Among u (due x) → now < u
   unfolding due moreDue
   later x m u h =
-      let a = neither (claimDue (x .life .instance) now) (claimDue (x .life .host) now || replyDue (x .life .reply) now) m in
-      let b = neither (claimDue (x .life .host) now) (replyDue (x .life .reply) now) (a .1) in
+      let a = neither (claimDue (x .life .instance) now) (claimDue (x .life .host) now || replyDue (x .life .reply) now) .0 m in
+      let b = neither (claimDue (x .life .host) now) (replyDue (x .life .reply) now) .0 (a .1) in
       go (a .0) (b .0) (b .1) (out-append u (listed (dueOf (x .life .instance))) (listed (dueOf (x .life .host)) ++ listed (replyDueOf (x .life .reply))) h)
     where
       rest : claimDue (x .life .host) now ≡ false → replyDue (x .life .reply) now ≡ false

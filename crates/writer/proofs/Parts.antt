@@ -8,7 +8,7 @@ use borrow.Author.Tests.{leb-true}
 use lib.ListN.{length, take, drop, length-append}
 use lib.Seq.{sets, length-sets, length-take-le}
 use lib.Dec.{leb}
-use Rattle.truth.proofs.Decided.{both}
+use mathlib.Mathlib.Data.Bool.Basic.{and-eq-true-eq-eq-true-and-eq-true as both}
 use Rattle.octets.proofs.Sets.{sets-append}
 use Rattle.names.specs.Names.{isName}
 use Rattle.compression.specs.Compression.{nameBytes, namePlaces, labelsIn}
@@ -38,9 +38,9 @@ pub record NameRoom (at count : ℕ) (name : List ℕ) (more also : ℕ) (o pl :
 pub name-room : (at count : ℕ) (name : List ℕ) (more also : ℕ) (o pl : List ℕ) → nameFits at count name more also (length o) (length pl) ≡ true → NameRoom at count name more also o pl
 unfolding nameFits
 name-room at count name more also o pl h =
-    let f = both (isName name) (leb (at + length name + more) (length o) && (leb (at + length name) 16384 && leb (count + labelsIn name + also) (length pl))) h in
-    let g = both (leb (at + length name + more) (length o)) (leb (at + length name) 16384 && leb (count + labelsIn name + also) (length pl)) (f .1) in
-    let k = both (leb (at + length name) 16384) (leb (count + labelsIn name + also) (length pl)) (g .1) in
+    let f = both (isName name) (leb (at + length name + more) (length o) && (leb (at + length name) 16384 && leb (count + labelsIn name + also) (length pl))) .0 h in
+    let g = both (leb (at + length name + more) (length o)) (leb (at + length name) 16384 && leb (count + labelsIn name + also) (length pl)) .0 (f .1) in
+    let k = both (leb (at + length name) 16384) (leb (count + labelsIn name + also) (length pl)) .0 (g .1) in
     record { named = f .0; room = leb-true _ _ (g .0); small = leb-true _ _ (k .0); slots = leb-true _ _ (k .1) }
 
 -- the name in front
@@ -227,6 +227,6 @@ pub record RecordRoom (at count : ℕ) (owner : List ℕ) (rtype : ℕ) (d o pl 
 pub record-room : (at count : ℕ) (owner : List ℕ) (rtype : ℕ) (d o pl : List ℕ) → recordFits at count owner rtype d (length o) (length pl) ≡ true → RecordRoom at count owner rtype d o pl
 unfolding recordFits
 record-room at count owner rtype d o pl h =
-    let f = both (namesFit rtype d) (leb (length d) 65535 && nameFits at count owner (10 + length d) (labelsFor rtype d) (length o) (length pl)) h in
-    let g = both (leb (length d) 65535) (nameFits at count owner (10 + length d) (labelsFor rtype d) (length o) (length pl)) (f .1) in
+    let f = both (namesFit rtype d) (leb (length d) 65535 && nameFits at count owner (10 + length d) (labelsFor rtype d) (length o) (length pl)) .0 h in
+    let g = both (leb (length d) 65535) (nameFits at count owner (10 + length d) (labelsFor rtype d) (length o) (length pl)) .0 (f .1) in
     record { names = f .0; short = leb-true _ _ (g .0); front = name-room at count owner (10 + length d) (labelsFor rtype d) o pl (g .1) }

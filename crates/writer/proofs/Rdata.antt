@@ -8,7 +8,7 @@ use borrow.Author.Tests.{leb-true}
 use lib.ListN.{length, take, drop, length-append, length-drop}
 use lib.Seq.{sets, length-sets, length-take-le, take-all}
 use lib.Dec.{leb}
-use Rattle.truth.proofs.Decided.{both}
+use mathlib.Mathlib.Data.Bool.Basic.{and-eq-true-eq-eq-true-and-eq-true as both}
 use Rattle.octets.proofs.Sets.{sets-append}
 use Rattle.names.specs.Names.{isName}
 use Rattle.rdata.specs.Answers.{targetIn}
@@ -26,7 +26,7 @@ module _ (rtype : ℕ) (d : List ℕ) where
     target-fits : namesFit rtype d ≡ true → (targetIn rtype ≤ length d) × (isName (drop (targetIn rtype) d) ≡ true)
     unfolding namesFit
     target-fits h =
-        let f = both (leb (targetIn rtype) (length d)) (isName (drop (targetIn rtype) d)) (simp t at h) in (leb-true _ _ (f .0), f .1)
+        let f = both (leb (targetIn rtype) (length d)) (isName (drop (targetIn rtype) d)) .0 (simp t at h) in (leb-true _ _ (f .0), f .1)
 
     target-labels : labelsFor rtype d ≡ labelsIn (drop (targetIn rtype) d)
     unfolding labelsFor

@@ -1,1 +1,0 @@
-// Laws of tests that are decided, for the other crates. No code.
