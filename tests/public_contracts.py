@@ -6,7 +6,7 @@ import pathlib
 import re
 import sys
 
-PRINTING = {"output", "responder_calls", "cache_calls", "reader_calls", "console"}
+PRINTING = {"console_calls", "console_responder", "console"}
 root = pathlib.Path(__file__).resolve().parent.parent
 wrong, public, printing = [], 0, 0
 for source in sorted(root.glob("crates/*/src/**/*.rt")):

@@ -8,5 +8,5 @@ second=$root/second/target/release/second
 for part in reader txt responder cache form; do python3 "$root/vectors/$part.py"; done | cmp - "$root/crates/console/stdin"
 "$second" <"$root/crates/console/stdin" | cmp - "$root/crates/console/stdout"
 echo "$(grep -c . "$root/crates/console/stdout") stored answers are those of the second program"
-"$root/second/target/release/packets" | python3 "$root/vectors/subsets.py" | cmp - "$root/crates/corner/specs/Subsets.antt"
+"$root/second/target/release/packets" | python3 "$root/vectors/subsets.py" | cmp - "$root/crates/readings/specs/Subsets.antt"
 python3 "$root/vectors/pipes.py" "$root/target/bin/console" "$second"

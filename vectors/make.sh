@@ -6,4 +6,4 @@ here=$(dirname "$0")
 console=$here/../crates/console
 for part in reader txt responder cache form; do python3 "$here/$part.py"; done > "$console/stdin"
 "$1" < "$console/stdin" > "$console/stdout"
-"$(dirname "$1")/packets" | python3 "$here/subsets.py" > "$here/../crates/corner/specs/Subsets.antt"
+"$(dirname "$1")/packets" | python3 "$here/subsets.py" > "$here/../crates/readings/specs/Subsets.antt"

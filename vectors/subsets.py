@@ -1,26 +1,26 @@
 #!/usr/bin/env python3
-# Turns the lines of the second program's `packets` (standard input) into the table of crates/corner/specs/Subsets.antt: every response that can be
+# Turns the lines of the second program's `packets` (standard input) into the table of crates/readings/specs/Subsets.antt: every response that can be
 # written of three set-ups, as one statement for each set-up that the definitions give those bytes. Run by make.sh.
 import sys
 
 HEAD = '''-- Every non-empty subset of the own records as a response, for three set-ups, against the bytes that the second program writes: `responsePacket` is what
--- the contract of `compose` says of the buffer. A packet stands as one number, its bytes after a 1. Made by vectors/subsets.py. Assumes nothing.
+-- the contract of `own_packets::respond` says of the buffer. A packet stands as one number, its bytes after a 1. Made by tests/vectors/subsets.py. Assumes nothing.
 use Prim.Native.Nat.{ℕ, _+_, _*_}
 use mathlib.Core.Path.{_≡_, refl}
 use mathlib.Core.Bool.{Bool, true, false}
 use mathlib.Core.List.{List, [], _∷_}
-use Rattle.pieces.specs.Pieces.{pieceAt}
-use Rattle.names.specs.Names.{readFrom, fromRun, nameAt}
-use Rattle.expansion.specs.Equal.{sameBytes}
-use Rattle.records.specs.declared.Setup.{Setup}
-use Rattle.records.specs.Setups.{serviceLabels, instanceLabels, hostLabels}
-use Rattle.records.specs.Records.{hasRecord, ownLabels, ownName, ownType, ownClass, ownTtl, srvRdata, ownRdata}
-use Rattle.compression.specs.Compression.{standsAt, placeOf, cutFrom, nameBytes, starts, namePlaces}
+use Rattle.wire.specs.name_pieces.Pieces.{pieceAt}
+use Rattle.wire.specs.names.Names.{readFrom, fromRun, nameAt}
+use Rattle.wire.specs.expansion.Equal.{sameBytes}
+use Rattle.own.specs.declared.records.Setup.{Setup}
+use Rattle.own.specs.records.Setups.{serviceLabels, instanceLabels, hostLabels}
+use Rattle.own.specs.records.Records.{hasRecord, ownLabels, ownName, ownType, ownClass, ownTtl, srvRdata, ownRdata}
+use Rattle.writer.specs.compression.Compression.{standsAt, placeOf, cutFrom, nameBytes, starts, namePlaces}
 use Rattle.writer.specs.Items.{putName, dataBytes, dataPlaces, putFields}
-use Rattle.compose.specs.Packets.{packetOf}
-use Rattle.compose.specs.Own as own
-use Rattle.compose.specs.Own.{responsePacket, responseRecords, picked, responseOf}
-use Rattle.corner.specs.Examples.{padded, example}
+use Rattle.writer.specs.own_packets.Packets.{packetOf}
+use Rattle.writer.specs.own_packets.Own as own
+use Rattle.writer.specs.own_packets.Own.{responsePacket, responseRecords, picked, responseOf}
+use Rattle.readings.specs.Examples.{padded, example}
 
 -- the bytes after a 1, as one number
 unfoldable pub number : ℕ → List ℕ → ℕ

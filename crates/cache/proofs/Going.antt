@@ -5,15 +5,15 @@ use Prim.Native.Nat.{ℕ, _+_, _-_, _<_, _≤_, _^_}
 use native.Mathlib.Omega.{arith}
 use lib.ListN.{length}
 use borrow.Author.Tests.{le-leb, lt-leb}
-use Rattle.wire.specs.Message.{Record}
-use Rattle.wire.specs.Layout.{Listing, listing, listFrom, recordRead, recordAt, messageAt}
-use Rattle.wire.specs.declared.RecordAt.{RecordAt}
-use Rattle.wire.specs.declared.RecordRead.{RecordRead}
-use Rattle.wire.specs.declared.RecordRead.the-variants as r
-use Rattle.wire.specs.declared.Layout.{Layout}
-use Rattle.wire.proofs.Cursor.{Step, RecordHere, done, record-never-malformed, record-met, Sections, sections}
-use Rattle.entries.specs.Cache.{Cache, takeRecord, takeRecords, takeMessage, takeRead}
-use Rattle.entries.proofs.Shape.{Shaped, record-shape, records-append, records-shape}
+use Rattle.wire.specs.message.Message.{Record}
+use Rattle.wire.specs.message.Layout.{Listing, listing, listFrom, recordRead, recordAt, messageAt}
+use Rattle.wire.specs.declared.message.RecordAt.{RecordAt}
+use Rattle.wire.specs.declared.message.RecordRead.{RecordRead}
+use Rattle.wire.specs.declared.message.RecordRead.the-variants as r
+use Rattle.wire.specs.declared.message.Layout.{Layout}
+use Rattle.wire.proofs.message.Cursor.{Step, RecordHere, done, record-never-malformed, record-met, Sections, sections}
+use Rattle.cache.specs.entries.Cache.{Cache, takeRecord, takeRecords, takeMessage, takeRead}
+use Rattle.cache.proofs.entries.Shape.{Shaped, record-shape, records-append, records-shape}
 use Rattle.cache.specs.Kept.{Room, Lies, Checked, Read, saidBy, recordsIn}
 
 -- what is left of a section: its records still make of the cache what the whole section does, and there is room to count them

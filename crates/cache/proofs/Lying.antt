@@ -7,25 +7,25 @@ use native.Mathlib.Omega.{arith}
 use lib.ListN.{length, take, replicate, length-append}
 use lib.Seq.{take-at}
 use lib.Dec.{ltb, eqb}
-use Rattle.names.specs.Names.{nameAt}
-use Rattle.names.specs.Answers.{expanded}
-use Rattle.names.specs.declared.Expanded.{Expanded}
-use Rattle.names.proofs.Use.{at-most-255}
-use Rattle.rdata.specs.Rdata.{rdata, rdataAt}
-use Rattle.rdata.specs.Answers.{fits}
-use Rattle.expansion.specs.Opened.{openedAt, viewOf}
-use Rattle.expansion.specs.declared.Opened.{Opened}
-use Rattle.expansion.proofs.Views.{view-is}
-use Rattle.wire.specs.Message.{Record, topBit}
-use Rattle.wire.specs.Layout.{recordAt}
-use Rattle.wire.specs.declared.RecordAt.{RecordAt}
-use Rattle.wire.specs.declared.RecordRead.the-variants as r
-use Rattle.wire.proofs.Cursor.{RecordHere, record-here}
-use Rattle.entries.specs.Entries.{flushed}
-use Rattle.entries.specs.Tables.{each}
-use Rattle.entries.specs.Cache.{Cache, withEntries, isCached, rule1, goodbye, taken, renewed, equalSlot, freeSlot, rule23, afterRule1, takeRecord}
-use Rattle.entries.specs.declared.Slot.{Slot}
-use Rattle.entries.specs.declared.Slot.the-variants.{At, Nowhere}
+use Rattle.wire.specs.names.Names.{nameAt}
+use Rattle.wire.specs.names.Answers.{expanded}
+use Rattle.wire.specs.declared.names.Expanded.{Expanded}
+use Rattle.wire.proofs.names.Use.{at-most-255}
+use Rattle.wire.specs.rdata.Rdata.{rdata, rdataAt}
+use Rattle.wire.specs.rdata.Answers.{fits}
+use Rattle.wire.specs.expansion.Opened.{openedAt, viewOf}
+use Rattle.wire.specs.declared.expansion.Opened.{Opened}
+use Rattle.wire.proofs.expansion.Views.{view-is}
+use Rattle.wire.specs.message.Message.{Record, topBit}
+use Rattle.wire.specs.message.Layout.{recordAt}
+use Rattle.wire.specs.declared.message.RecordAt.{RecordAt}
+use Rattle.wire.specs.declared.message.RecordRead.the-variants as r
+use Rattle.wire.proofs.message.Cursor.{RecordHere, record-here}
+use Rattle.cache.specs.entries.Entries.{flushed}
+use Rattle.cache.specs.entries.Tables.{each}
+use Rattle.cache.specs.entries.Cache.{Cache, withEntries, isCached, rule1, goodbye, taken, renewed, equalSlot, freeSlot, rule23, afterRule1, takeRecord}
+use Rattle.cache.specs.declared.entries.Slot.{Slot}
+use Rattle.cache.specs.declared.entries.Slot.the-variants.{At, Nowhere}
 use Rattle.cache.specs.Kept.{recordFor, Room, Lies, saidBy}
 use Rattle.cache.proofs.Steps.{not-cached, cached}
 

@@ -7,13 +7,13 @@ use native.Mathlib.Omega.{arith}
 use lib.ListN.{length}
 use lib.Dec.{ltb, eqb}
 use borrow.Author.Tests.{lt-ltb, le-ltb, eq-eqb, ne-eqb}
-use Rattle.octets.specs.Octets.{word16}
-use Rattle.wire.specs.Message.{Question, Record}
-use Rattle.wire.specs.Layout.{Listing, listing, cut, listFrom, questionAt, recordAt, Reads, read, refused, plainHeader, additionalsOf, authoritiesOf, answersOf, questionsOf, messageAt}
-use Rattle.wire.specs.declared.Layout.{Layout}
-use Rattle.entries.specs.Cache.{Cache, atStart, entriesRefusal, storeRefusal, readRefusal, messageRefusal, firstOf, takeRefusal, takeRead, takeIn}
-use Rattle.entries.specs.declared.Entry.{Entry}
-use Rattle.lookup.proofs.Refusing.{not-late, first-of, next-of, store-good, store-bad}
+use Rattle.wire.specs.octets.Octets.{word16}
+use Rattle.wire.specs.message.Message.{Question, Record}
+use Rattle.wire.specs.message.Layout.{Listing, listing, cut, listFrom, questionAt, recordAt, Reads, read, refused, plainHeader, additionalsOf, authoritiesOf, answersOf, questionsOf, messageAt}
+use Rattle.wire.specs.declared.message.Layout.{Layout}
+use Rattle.cache.specs.entries.Cache.{Cache, atStart, entriesRefusal, storeRefusal, readRefusal, messageRefusal, firstOf, takeRefusal, takeRead, takeIn}
+use Rattle.cache.specs.declared.entries.Entry.{Entry}
+use Rattle.cache.proofs.lookup.Refusing.{not-late, first-of, next-of, store-good, store-bad}
 use Rattle.cache.specs.Kept.{Read, Room, cacheOf}
 use Rattle.cache.specs.Answers.{takenOf, refusedWith, afterTake}
 use Rattle.cache.specs.declared.AfterTake.{AfterTake}

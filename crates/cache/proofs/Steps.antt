@@ -8,14 +8,14 @@ use lib.ListN.{length, getD, set}
 use lib.Seq.{sets}
 use lib.Dec.{eqb}
 use borrow.Author.Tests.{lt-ltb, le-ltb, le-leb, lt-leb, eq-eqb, ne-eqb}
-use Rattle.wire.specs.Message.{Record}
-use Rattle.entries.specs.Entries.{blank, soon, flushed, refreshed}
-use Rattle.entries.specs.Tables.{lowest, each}
-use Rattle.entries.specs.Cache.{Cache, withEntries, isCached, rule1, goodbye, entryFor, slotFor, taken, renewed, equalSlot, freeSlot, rule23, afterRule1, takeRecord}
-use Rattle.entries.specs.declared.Entry.{Entry}
-use Rattle.entries.specs.declared.Slot.{Slot}
-use Rattle.entries.specs.declared.Slot.the-variants.{At, Nowhere}
-use Rattle.entries.proofs.Searches.{found-at}
+use Rattle.wire.specs.message.Message.{Record}
+use Rattle.cache.specs.entries.Entries.{blank, soon, flushed, refreshed}
+use Rattle.cache.specs.entries.Tables.{lowest, each}
+use Rattle.cache.specs.entries.Cache.{Cache, withEntries, isCached, rule1, goodbye, entryFor, slotFor, taken, renewed, equalSlot, freeSlot, rule23, afterRule1, takeRecord}
+use Rattle.cache.specs.declared.entries.Entry.{Entry}
+use Rattle.cache.specs.declared.entries.Slot.{Slot}
+use Rattle.cache.specs.declared.entries.Slot.the-variants.{At, Nowhere}
+use Rattle.cache.proofs.entries.Searches.{found-at}
 
 -- a slot that was found is one of the 64
 pub in-table : (test : ℕ → Entry → Bool) (es : List Entry) (s : Slot) (i : ℕ) → s ≡ lowest test 0 es → s ≡ At i → length es ≡ 64 → i < 64

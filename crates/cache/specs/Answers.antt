@@ -1,10 +1,10 @@
--- What `take` answers (paper 01, 'The cache'), and the table after it. Assumes nothing: these are definitions.
+-- What `take` answers (specification, 'The cache'), and the table after it. Assumes nothing: these are definitions.
 use Prim.Native.Nat.{ℕ}
 use mathlib.Core.List.{List}
 use mathlib.Core.Bool.{cond}
 use lib.Dec.{eqb}
-use Rattle.entries.specs.declared.Entry.{Entry}
-use Rattle.entries.specs.Cache.{Cache, takeRefusal, takeIn}
+use Rattle.cache.specs.declared.entries.Entry.{Entry}
+use Rattle.cache.specs.entries.Cache.{Cache, takeRefusal, takeIn}
 use Rattle.cache.specs.declared.Taken.{Taken}
 use Rattle.cache.specs.declared.Taken.the-variants as t
 use Rattle.cache.specs.declared.AfterTake.{AfterTake}

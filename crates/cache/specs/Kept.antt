@@ -3,12 +3,12 @@ use Prim.Native.Nat.{ℕ, _+_, _<_, _≤_, _^_}
 use mathlib.Core.Path.{_≡_}
 use mathlib.Core.List.{List, []}
 use lib.ListN.{length}
-use Rattle.wire.specs.Message.{Record, Message}
-use Rattle.wire.specs.Layout.{Item, item, broken, Listing, listing, cut, listFrom, recordRead, recordAt, read, messageAt}
-use Rattle.wire.specs.declared.RecordAt.{RecordAt}
-use Rattle.wire.specs.declared.Layout.{Layout}
-use Rattle.wire.specs.declared.RecordRead.the-variants as r
-use Rattle.entries.specs.Cache.{Cache}
+use Rattle.wire.specs.message.Message.{Record, Message}
+use Rattle.wire.specs.message.Layout.{Item, item, broken, Listing, listing, cut, listFrom, recordRead, recordAt, read, messageAt}
+use Rattle.wire.specs.declared.message.RecordAt.{RecordAt}
+use Rattle.wire.specs.declared.message.Layout.{Layout}
+use Rattle.wire.specs.declared.message.RecordRead.the-variants as r
+use Rattle.cache.specs.entries.Cache.{Cache}
 use Rattle.cache.specs.declared.Kept.{Kept}
 
 -- entries and counts, with a store, as the rules have them

@@ -1,2 +1,4 @@
 pub mod Kept
 pub mod Answers
+pub mod entries
+pub mod lookup

@@ -1,17 +1,21 @@
-// Taking the records of a message into the cache, on a table by value (paper 01, 'The cache'). The byte store is lent.
+// Taking the records of a message into the cache, on a table by value (specification, 'The cache'). The byte store is lent.
+pub mod entries;
+pub mod laws;
+pub mod lookup;
+
 ghost use mathlib.Core.Path.{_≡_};
 ghost use Prim.Native.Nat.{_+_, _*_, _≤_, _^_};
 ghost use mathlib.Core.List.{[]};
 ghost use lib.ListN.{length, replicate};
 ghost use lib.Seq.{sets};
-ghost use Rattle.entries.specs.Entries.{isFree, holds, flushed, refreshed};
-ghost use Rattle.entries.specs.Tables.{lowest, each};
-ghost use Rattle.entries.specs.Cache.{isCached, rule1, goodbye, taken, renewed, afterRule1, takeRecord, takeRecords, takeRead, takeIn, atStart};
-ghost use Rattle.wire.specs.Layout.{listFrom, recordAt, messageAt};
+ghost use Rattle.cache.specs.entries.Entries.{isFree, holds, flushed, refreshed};
+ghost use Rattle.cache.specs.entries.Tables.{lowest, each};
+ghost use Rattle.cache.specs.entries.Cache.{isCached, rule1, goodbye, taken, renewed, afterRule1, takeRecord, takeRecords, takeRead, takeIn, atStart};
+ghost use Rattle.wire.specs.message.Layout.{listFrom, recordAt, messageAt};
 ghost use Rattle.cache.specs.Kept.{cacheOf, recordFor, Room, Lies, Checked, Read, saidBy, recordsIn};
 ghost use Rattle.cache.specs.Answers.{refusedWith, afterTake};
-use entries::Entry;
-use entries::Slot;
+use crate::entries::Entry;
+use crate::entries::Slot;
 
 // The port of mDNS.
 pub const MDNS_PORT: u16 = 5353;
@@ -22,7 +26,7 @@ pub struct Counts {
     pub passed: u32,
 }
 
-// What taking a message answers. A refusal carries paper 01's number.
+// What taking a message answers. A refusal carries the specification's number.
 pub enum Taken {
     Refused(u8),
     Accepted(Counts),
@@ -55,7 +59,7 @@ fn equal_slot(
     let mut i = 0;
     while i < 64 {
         let e = es[i];
-        if entries::is_holding(e, i, store, time, owner, rtype, content) {
+        if crate::entries::is_holding(e, i, store, time, owner, rtype, content) {
             return Slot::At(i);
         }
         i += 1;
@@ -70,7 +74,7 @@ fn free_slot(es: [Entry; 64], time: u64) -> Slot
     let mut i = 0;
     while i < 64 {
         let e = es[i];
-        if !entries::is_live(e, time) {
+        if !crate::entries::is_live(e, time) {
             return Slot::At(i);
         }
         i += 1;
@@ -86,7 +90,7 @@ fn flush_all(es: [Entry; 64], store: &[u8], time: u64, owner: &[u8], rtype: u16)
     let mut i = 0;
     while i < 64 {
         let e = t[i];
-        t[i] = entries::flush_entry(e, i, store, time, owner, rtype);
+        t[i] = crate::entries::flush_entry(e, i, store, time, owner, rtype);
         i += 1;
     }
     t
@@ -98,9 +102,9 @@ fn write_slot(store: &mut [u8], i: usize, owner: &[u8], content: &[u8])
     ensures { λ _. ⌜ now (store .exit) ≡ sets (now (store .entry)) (1024 * i) (sets (sets (replicate 1024 0) 0 (now (owner .entry))) 256 (now (content .entry))) ⌝ }
 {
     let mut slot = [0u8; 1024];
-    lay::put(&mut slot, 0, owner);
-    lay::put(&mut slot, 256, content);
-    lay::put(store, 1024 * i, &slot);
+    wire::buffer::put(&mut slot, 0, owner);
+    wire::buffer::put(&mut slot, 256, content);
+    wire::buffer::put(store, 1024 * i, &slot);
 }
 
 // Rule 2.
@@ -111,7 +115,7 @@ fn say_goodbye(k: Kept, store: &[u8], time: u64, owner: &[u8], rtype: u16, conte
     match equal_slot(es, store, time, owner, rtype, content) {
         Slot::At(i) => {
             let e = es[i];
-            es[i] = entries::to_expire(e, time);
+            es[i] = crate::entries::to_expire(e, time);
             Kept {
                 entries: es,
                 turned: k.turned,
@@ -251,23 +255,23 @@ fn is_cached(class: u16, rtype: u16) -> bool
     if class % 32768 != 1 {
         return false;
     }
-    if rtype == rdata::A {
+    if rtype == wire::rdata::A {
         return true;
     }
-    if rtype == rdata::PTR {
+    if rtype == wire::rdata::PTR {
         return true;
     }
-    if rtype == rdata::TXT {
+    if rtype == wire::rdata::TXT {
         return true;
     }
-    if rtype == rdata::AAAA {
+    if rtype == wire::rdata::AAAA {
         return true;
     }
-    rtype == rdata::SRV
+    rtype == wire::rdata::SRV
 }
 
 // One record of a message that has been checked: the rules, on its owner and rdata expanded.
-fn take_record(k: Kept, store: &mut [u8], time: u64, p: &[u8], f: wire::RecordAt) -> Kept
+fn take_record(k: Kept, store: &mut [u8], time: u64, p: &[u8], f: wire::message::RecordAt) -> Kept
     requires { ⌜ Room time (now store) [] (k .turned) (k .passed) × Lies (now p) f ⌝ }
     ensures { λ r. ⌜ cacheOf r (now (store .exit)) ≡ takeRecord time (saidBy (recordAt (now (p .entry)) (f .owner))) (cacheOf k (now (store .entry))) ⌝ }
 {
@@ -276,13 +280,13 @@ fn take_record(k: Kept, store: &mut [u8], time: u64, p: &[u8], f: wire::RecordAt
     }
     let rtype = f.rtype;
     let span = f.span;
-    let expanded = names::expand(p, f.owner);
+    let expanded = wire::names::expand(p, f.owner);
     let name = expanded.bytes;
     let owner = &name[..span];
     let flushed = flush(k, store, time, owner, rtype, f.class);
-    let opened = expansion::open(p, rtype, f.rdata, f.rdlength);
+    let opened = wire::expansion::open(p, rtype, f.rdata, f.rdlength);
     let bytes = opened.bytes;
-    let content = expansion::view(p, &bytes, opened.len, rtype, f.rdata, f.rdlength);
+    let content = wire::expansion::view(p, &bytes, opened.len, rtype, f.rdata, f.rdlength);
     take_content(flushed, store, time, owner, rtype, f.ttl, content)
 }
 
@@ -295,12 +299,12 @@ fn take_section(k: Kept, store: &mut [u8], time: u64, p: &[u8], at: usize, count
     let mut here = at;
     let mut left = count;
     while 0 < left {
-        match wire::record_at(p, here) {
-            wire::RecordRead::Found(f) => {
+        match wire::message::record_at(p, here) {
+            wire::message::RecordRead::Found(f) => {
                 kept = take_record(kept, store, time, p, f);
                 here = f.next;
             }
-            wire::RecordRead::Malformed => {
+            wire::message::RecordRead::Malformed => {
                 return kept;
             }
         }
@@ -310,7 +314,13 @@ fn take_section(k: Kept, store: &mut [u8], time: u64, p: &[u8], at: usize, count
 }
 
 // The records of a message that has been checked: the Answer and Additional ones of a response, and none of a query.
-fn take_message(es: [Entry; 64], store: &mut [u8], time: u64, p: &[u8], l: wire::Layout) -> Kept
+fn take_message(
+    es: [Entry; 64],
+    store: &mut [u8],
+    time: u64,
+    p: &[u8],
+    l: wire::message::Layout,
+) -> Kept
     requires { ⌜ Room time (now store) [] 0 0 × Read (now p) l ⌝ }
     ensures { λ r. ⌜ cacheOf r (now (store .exit)) ≡ takeRead time (atStart es (now (store .entry))) (messageAt (now (p .entry))) ⌝ }
 {
@@ -348,24 +358,24 @@ pub fn take_by_value(
 ) -> AfterTake
     ensures { λ r. ⌜ (r ≡ afterTake time es (now (store .entry)) port (now (message .entry))) × (now (store .exit) ≡ takeIn time es (now (store .entry)) port (now (message .entry)) .store) ⌝ }
 {
-    let refusal = lookup::entries_refusal(es, time);
+    let refusal = crate::lookup::entries_refusal(es, time);
     if refusal != 0 {
         return refused(refusal, es);
     }
-    if store.len() != lookup::STORE {
+    if store.len() != crate::lookup::STORE {
         return refused(8, es);
     }
-    if message.len() < wire::LEAST_MESSAGE {
+    if message.len() < wire::message::LEAST_MESSAGE {
         return refused(4, es);
     }
-    if wire::MOST_MESSAGE < message.len() {
+    if wire::message::MOST_MESSAGE < message.len() {
         return refused(4, es);
     }
     if port != MDNS_PORT {
         return refused(5, es);
     }
-    match wire::read_message(message) {
-        wire::MessageRead::Read(l) => {
+    match wire::message::read_message(message) {
+        wire::message::MessageRead::Read(l) => {
             let k = take_message(es, store, time, message, l);
             let entries = k.entries;
             AfterTake {
@@ -376,6 +386,6 @@ pub fn take_by_value(
                 entries,
             }
         }
-        wire::MessageRead::Refused(n) => refused(n, es),
+        wire::message::MessageRead::Refused(n) => refused(n, es),
     }
 }

@@ -1,12 +1,12 @@
 // The TXT lookup for C and Rust, on byte slices, with the answer in numbers. A crate of its own, so that a program that only looks TXT pairs up links
-// nothing else. include/kurgashel.h declares the function.
+// nothing else. c/include/kurgashel.h declares the function.
 ghost use mathlib.Core.Path.{_≡_};
 ghost use Rattle.txt.specs.Lookup.{lookupOf};
 ghost use Rattle.capi_txt.specs.Numbers.{bufferNumber, pairOf};
 use txt::Answer;
 use txt::Buffer;
 
-// What a key says: paper 01's refusal number, or 0; 0 absent, 1 present without value, 2 empty value, 3 the value itself; and the part shown, by its
+// What a key says: the specification's refusal number, or 0; 0 absent, 1 present without value, 2 empty value, 3 the value itself; and the part shown, by its
 // buffer (0 received, 1 factory), its place there and its length: the empty part at the received TXT's start where no value is shown.
 #[repr(C)]
 pub struct Pair {

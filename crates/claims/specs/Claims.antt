@@ -1,4 +1,4 @@
--- A claim, and what moves it but for its own steps (paper 01, 'A claim's life'): the start, a conflict, a probe. Assumes nothing: these are
+-- A claim, and what moves it but for its own steps (specification, 'A claim's life'): the start, a conflict, a probe. Assumes nothing: these are
 -- definitions.
 use Prim.Native.Nat.{ℕ}
 use mathlib.Core.Bool.{Bool, true, false}

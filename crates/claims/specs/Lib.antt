@@ -2,3 +2,7 @@ pub mod Time
 pub mod Records
 pub mod Claims
 pub mod Refusals
+pub mod steps
+pub mod answers
+pub mod due
+pub mod runs

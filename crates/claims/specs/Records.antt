@@ -1,4 +1,4 @@
--- The own records by name (paper 01, 'Own records'), for statements about each of them: which claim a record goes with, and whether there is one.
+-- The own records by name (specification, 'Own records'), for statements about each of them: which claim a record goes with, and whether there is one.
 -- Assumes nothing: these are definitions.
 use mathlib.Core.Bool.{Bool, true}
 use Rattle.claims.specs.declared.Kind.{Kind}

@@ -1,4 +1,4 @@
--- The refusals that are tests on times and draws (paper 01, 'Refusal numbers' 1, 2, and of 7 the kept start draw). Assumes nothing: these are
+-- The refusals that are tests on times and draws (specification, 'Refusal numbers' 1, 2, and of 7 the kept start draw). Assumes nothing: these are
 -- definitions.
 use Prim.Native.Nat.{ℕ}
 use mathlib.Core.Bool.{Bool, true, not, _&&_, _||_}

@@ -1,4 +1,4 @@
--- Times and how long ago they are (paper 01, 'What the dock does'): "Time is in milliseconds, 64 bits, at most 2^62. A kept time ahead of now counts as
+-- Times and how long ago they are (specification, 'What the dock does'): "Time is in milliseconds, 64 bits, at most 2^62. A kept time ahead of now counts as
 -- 0 ms ago." Assumes nothing: these are definitions.
 use Prim.Native.Nat.{ℕ, _+_, _-_}
 use mathlib.Core.Bool.{Bool, false, cond}

@@ -1,5 +1,11 @@
-// The life of the two claims on numbers alone (paper 01, 'A claim's life'): start, and the claim after a conflict or a probe. A tick is in the crate
-// `steps`, what a message received does in `answers`, and the refusals that are tests on times and draws in `limits`.
+// The life of the two claims on numbers alone (specification, 'A claim's life'): start, and the claim after a conflict or a probe. A tick is in `steps`,
+// what a message received does in `answers`, and the refusals that are tests on times and draws in `refusal_tests`.
+pub mod answers;
+pub mod due;
+pub mod refusal_tests;
+pub mod runs;
+pub mod steps;
+
 ghost use mathlib.Core.Path.{_≡_};
 ghost use Rattle.claims.specs.Time.{afterMs, age, recently, marked, markedAll};
 ghost use Rattle.claims.specs.Claims.{stateNumber, heldNow, startOf, afterConflict, afterProbe};

@@ -1,5 +1,5 @@
-// A call by its first word, answered by the crate that has it.
-use entries::Entry;
+// A call by its first word, answered by the function that has it.
+use cache::entries::Entry;
 use responder::State;
 
 // What the console holds between calls, beside the out buffer and the cache's byte store: a responder, and the table of the cache.
@@ -11,8 +11,8 @@ pub struct Held {
 // What is held before the first call.
 pub fn at_first() -> Held {
     Held {
-        state: responder_calls::at_first(),
-        entries: cache_calls::no_entries(),
+        state: console_responder::at_first(),
+        entries: console_calls::cache_calls::no_entries(),
     }
 }
 
@@ -24,23 +24,23 @@ pub fn call(
     out: &mut [u8; 4096],
     text: &mut [u8; 4096],
 ) -> Held {
-    let word = lines::field(line, 0);
-    if responder_calls::is_call(word) {
+    let word = console_text::lines::field(line, 0);
+    if console_responder::is_call(word) {
         let state = held.state;
         let entries = held.entries;
         return Held {
-            state: responder_calls::call(line, state, out, text),
+            state: console_responder::call(line, state, out, text),
             entries,
         };
     }
-    if cache_calls::is_call(word) {
+    if console_calls::cache_calls::is_call(word) {
         let state = held.state;
         let entries = held.entries;
         return Held {
             state,
-            entries: cache_calls::call(line, entries, store, text),
+            entries: console_calls::cache_calls::call(line, entries, store, text),
         };
     }
-    reader_calls::call(line, text);
+    console_calls::reader_calls::call(line, text);
     held
 }

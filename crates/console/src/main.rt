@@ -1,5 +1,5 @@
 // The console: one line a call, one line an answer. This file reads the lines of standard input; `calls` has each answered at once.
-// A thin layer over the libraries: no rule of paper 01 is here.
+// A thin layer over the libraries: no rule of the specification is here.
 mod calls;
 
 use calls::Held;
@@ -60,7 +60,7 @@ fn answer_line(
         return held;
     }
     if MOST_LINE < line.len() {
-        output::bad_line(text);
+        console_calls::output::bad_line(text);
         return held;
     }
     calls::call(line, held, store, out, text)

@@ -1,22 +1,22 @@
--- A record that a query asks for is left out exactly for a cause of paper 01 ('Which answers go out'), said of the message and the set-up: (a) a known
+-- A record that a query asks for is left out exactly for a cause of the specification ('Which answers go out'), said of the message and the set-up: (a) a known
 -- answer, (b) a multicast too short a time ago. Of PTR the same decides whether a reply is set. Assumes nothing.
 use Prim.Native.Nat.{ℕ}
 use mathlib.Core.Path.{_≡_, refl}
 use mathlib.Core.Logic.{_⊎_, inl, inr}
 use mathlib.Core.Bool.{Bool, true, false}
-use Rattle.wire.specs.Message.{Message, isResponse}
-use Rattle.wire.specs.Layout.{read}
-use Rattle.wire.specs.declared.Layout.{Layout}
-use Rattle.records.specs.Records.{hasRecord}
+use Rattle.wire.specs.message.Message.{Message, isResponse}
+use Rattle.wire.specs.message.Layout.{read}
+use Rattle.wire.specs.declared.message.Layout.{Layout}
+use Rattle.own.specs.records.Records.{hasRecord}
 use Rattle.claims.specs.Time.{recently}
 use Rattle.claims.specs.Claims.{heldNow, claimOf}
 use Rattle.claims.specs.Records as own
 use Rattle.claims.specs.declared.Kind.{Kind}
 use Rattle.claims.specs.declared.Kind.the-variants.{Instance, Host}
-use Rattle.answers.specs.Answers.{gapOf, wantedOf}
-use Rattle.answers.proofs.Causes as causes
-use Rattle.probe.specs.Probe.{isProbe}
-use Rattle.scan.specs.Facts.{factsOf, queryFacts, isAsked, isKnown, claimName}
+use Rattle.claims.specs.answers.Answers.{gapOf, wantedOf}
+use Rattle.claims.proofs.answers.Causes as causes
+use Rattle.facts.specs.probe.Probe.{isProbe}
+use Rattle.facts.specs.Facts.{factsOf, queryFacts, isAsked, isKnown, claimName}
 use Rattle.responder.specs.Calls.{claimFor, heardOf}
 use Rattle.responder.specs.declared.State.{State}
 
@@ -82,7 +82,7 @@ module _ (s : State) (now : ℕ) (m : Message) (query : isResponse (m .flags) �
   due : (r : own.Own) → IsDue r → causes.IsDue (s .life) now (factsOf (s .setup) m) (s .setup .hasaaaa) r
   due r d = record { query = response-is; held = d .held; there = rw (there-is r) at (d .there); asked = rw (asked-is r) (d .asked) }
 
-  -- A record that is due and does not go out is left out for a cause of paper 01.
+  -- A record that is due and does not go out is left out for a cause of the specification.
   pub left-out-for-a-cause : (r : own.Own) → IsDue r → goesOut r ≡ false → Cause r
   left-out-for-a-cause r d h =
       go (causes.left-out-for-a-cause (s .life) now (factsOf (s .setup) m) (s .setup .hasaaaa) r (due r d) h)
@@ -91,7 +91,7 @@ module _ (s : State) (now : ℕ) (m : Message) (query : isResponse (m .flags) �
       go (inl known) = inl (rw (known-is r) at known)
       go (inr recent) = inr (rw (probe-is (own.claimFor r)) at recent)
 
-  -- A record with a cause of paper 01 does not go out.
+  -- A record with a cause of the specification does not go out.
   pub left-out-by-a-cause : (r : own.Own) → Cause r → goesOut r ≡ false
   left-out-by-a-cause r c = causes.left-out-by-a-cause (s .life) now (factsOf (s .setup) m) (s .setup .hasaaaa) r (go c)
     where

@@ -8,16 +8,16 @@ use native.Mathlib.Omega.{arith}
 use lib.Dec.{eqb, ltb}
 use borrow.Author.Tests.{ltb-false, eqb-true}
 use mathlib.Mathlib.Data.Bool.Basic.{or-eq-false-eq-eq-false-and-eq-false as neither}
-use Rattle.wire.specs.Layout.{Reads, read, refused, messageAt}
-use Rattle.records.specs.declared.Setup.{Setup}
-use Rattle.records.specs.Setups.{validSetup}
+use Rattle.wire.specs.message.Layout.{Reads, read, refused, messageAt}
+use Rattle.own.specs.declared.records.Setup.{Setup}
+use Rattle.own.specs.records.Setups.{validSetup}
 use Rattle.claims.specs.Claims as claims
 use Rattle.claims.specs.Refusals.{lateStart, wrongTime, wrongStartDraw, wrongReplyDraw, kept}
 use Rattle.claims.specs.declared.Life.{Life}
 use Rattle.claims.proofs.Keeping.{start-kept}
-use Rattle.steps.proofs.Ticks.{tick-kept, tick-draw}
-use Rattle.answers.proofs.Receives.{receive-kept, receive-draw}
-use Rattle.scan.specs.Facts.{factsOf}
+use Rattle.claims.proofs.steps.Ticks.{tick-kept, tick-draw}
+use Rattle.claims.proofs.answers.Receives.{receive-kept, receive-draw}
+use Rattle.facts.specs.Facts.{factsOf}
 use Rattle.responder.specs.Refusals.{smallBuffer, wrongState, orElse, readRefusal, byPort, startRefusal, receiveRefusal, tickRefusal}
 use Rattle.responder.specs.Calls.{startOf, heardOf, receiveOf, tickOf}
 use Rattle.responder.specs.Runs.{Call, received, ticked, refusalOfCall, stateAfter, run}

@@ -7,15 +7,15 @@ use native.Mathlib.Omega.{arith}
 use lib.Dec.{eqb, ltb}
 use lib.ListN.{length}
 use borrow.Author.Tests.{ne-eqb}
-use Rattle.octets.specs.Octets.{word16}
-use Rattle.wire.specs.Message.{Question, Record}
-use Rattle.wire.specs.Layout.{Reads, read, refused, Listing, listing, cut, questionAt, recordAt, listFrom, additionalsOf, authoritiesOf, answersOf, questionsOf, plainHeader, messageAt}
-use Rattle.records.specs.declared.Setup.{Setup}
-use Rattle.answers.specs.declared.Facts.{Facts}
-use Rattle.answers.specs.declared.Received as heard
-use Rattle.answers.specs.Answers as answers
-use Rattle.scan.specs.Facts.{factsOf, scannedOf}
-use Rattle.scan.specs.declared.Scanned.the-variants.{Said, Refused}
+use Rattle.wire.specs.octets.Octets.{word16}
+use Rattle.wire.specs.message.Message.{Question, Record}
+use Rattle.wire.specs.message.Layout.{Reads, read, refused, Listing, listing, cut, questionAt, recordAt, listFrom, additionalsOf, authoritiesOf, answersOf, questionsOf, plainHeader, messageAt}
+use Rattle.own.specs.declared.records.Setup.{Setup}
+use Rattle.claims.specs.declared.answers.Facts.{Facts}
+use Rattle.claims.specs.declared.answers.Received as heard
+use Rattle.claims.specs.answers.Answers as answers
+use Rattle.facts.specs.Facts.{factsOf, scannedOf}
+use Rattle.facts.specs.declared.Scanned.the-variants.{Said, Refused}
 use Rattle.responder.specs.Refusals.{readRefusal, byPort}
 use Rattle.responder.specs.Calls.{heardOf}
 use Rattle.responder.specs.declared.State.{State}

@@ -9,11 +9,11 @@ use native.Mathlib.Omega.{arith}
 use lib.Dec.{eqb}
 use borrow.Author.Tests.{ne-eqb}
 use lib.ListN.{length}
-use Rattle.wire.specs.Layout.{messageAt}
-use Rattle.records.specs.declared.Setup.{Setup}
-use Rattle.records.specs.Setups.{validSetup, labelFits}
+use Rattle.wire.specs.message.Layout.{messageAt}
+use Rattle.own.specs.declared.records.Setup.{Setup}
+use Rattle.own.specs.records.Setups.{validSetup, labelFits}
 use Rattle.claims.specs.Refusals.{lateStart, wrongTime, wrongStartDraw, wrongReplyDraw}
-use Rattle.compose.specs.Own.{unlessRefused, laidOver}
+use Rattle.writer.specs.own_packets.Own.{unlessRefused, laidOver}
 use Rattle.responder.specs.Refusals.{smallBuffer, wrongState, readRefusal, byPort, orElse, startRefusal, receiveRefusal, tickRefusal}
 use Rattle.responder.specs.Calls.{refusalOf, lengthOf, answerOf, packets, blank, startOf, receivedPacket, receiveOf, tickedPacket, tickOf}
 use Rattle.responder.specs.Runs.{Call, received, ticked, refusalOfCall, stateAfter, sentBy}

@@ -7,10 +7,10 @@ use native.Mathlib.Omega.{arith}
 use lib.Dec.{eqb}
 use lib.ListN.{length}
 use borrow.Author.Tests.{lt-ltb, le-ltb, eq-eqb, ne-eqb}
-use Rattle.wire.specs.Layout.{messageAt}
-use Rattle.records.specs.Setups.{validSetup}
+use Rattle.wire.specs.message.Layout.{messageAt}
+use Rattle.own.specs.records.Setups.{validSetup}
 use Rattle.claims.specs.Refusals.{wrongTime, wrongStartDraw, wrongReplyDraw}
-use Rattle.compose.specs.Own.{refusal}
+use Rattle.writer.specs.own_packets.Own.{refusal}
 use Rattle.responder.specs.Refusals.{wrongState, readRefusal, byPort, receiveRefusal, tickRefusal}
 use Rattle.responder.specs.declared.State.{State}
 

@@ -2,14 +2,14 @@
 use Prim.Native.Nat.{ℕ}
 use mathlib.Core.Path.{_≡_, refl}
 use mathlib.Core.List.{List, [], _∷_}
-use Rattle.records.specs.declared.Setup.{Setup}
-use Rattle.records.specs.declared.Claim.{Claim}
+use Rattle.own.specs.declared.records.Setup.{Setup}
+use Rattle.own.specs.declared.records.Claim.{Claim}
 use Rattle.claims.specs.declared.Kind.{Kind}
 use Rattle.claims.specs.declared.Records.{Records}
-use Rattle.steps.specs.declared.Output.{Output}
-use Rattle.steps.specs.declared.Output.the-variants.{Nothing, Probe, Response}
-use Rattle.compose.specs.Own.{responsePacket, probePacket, refusal, unlessRefused, sentOf, writtenOf, laidOver}
-use Rattle.compose.specs.declared.Written.{Written}
+use Rattle.claims.specs.declared.steps.Output.{Output}
+use Rattle.claims.specs.declared.steps.Output.the-variants.{Nothing, Probe, Response}
+use Rattle.writer.specs.own_packets.Own.{responsePacket, probePacket, refusal, unlessRefused, sentOf, writtenOf, laidOver}
+use Rattle.writer.specs.declared.own_packets.Written.{Written}
 use Rattle.responder.specs.Calls.{sentOr, answerFor, claimFor, listed, packetFor}
 use Rattle.responder.specs.declared.Answer.{Answer}
 use Rattle.responder.specs.declared.Answer.the-variants.{Quiet}

@@ -5,16 +5,16 @@ use mathlib.Core.Bool.{true, false}
 use mathlib.Core.List.{List}
 use lib.Dec.{eqb}
 use lib.ListN.{length}
-use Rattle.wire.specs.Layout.{messageAt}
-use Rattle.records.specs.declared.Setup.{Setup}
-use Rattle.records.specs.Setups.{validSetup}
+use Rattle.wire.specs.message.Layout.{messageAt}
+use Rattle.own.specs.declared.records.Setup.{Setup}
+use Rattle.own.specs.records.Setups.{validSetup}
 use Rattle.claims.specs.Refusals.{lateStart, wrongStartDraw}
 use Rattle.claims.specs.Claims as claims
 use Rattle.claims.specs.declared.Life.{Life}
-use Rattle.steps.specs.declared.Output.the-variants.{Response}
-use Rattle.steps.specs.declared.Ticked as walked
-use Rattle.answers.specs.declared.Received as heard
-use Rattle.compose.specs.Own.{laidOver}
+use Rattle.claims.specs.declared.steps.Output.the-variants.{Response}
+use Rattle.claims.specs.declared.steps.Ticked as walked
+use Rattle.claims.specs.declared.answers.Received as heard
+use Rattle.writer.specs.own_packets.Own.{laidOver}
 use Rattle.responder.specs.Refusals.{startRefusal, receiveRefusal, tickRefusal}
 use Rattle.responder.specs.Calls.{refusalOf, lengthOf, blank, startOf, heardOf, receivedPacket, receiveOf, walkedOf, tickedPacket, tickOf}
 use Rattle.responder.specs.declared.State.{State}
@@ -32,7 +32,7 @@ module _ (setup : Setup) (now draw : ℕ) where
   abbrev Starts : Started → Type 0
   Starts r = (r ≡ startOf setup now draw) × (refusalOf (r .answer) ≡ startRefusal setup now draw)
 
-  -- with 01's number for the answer
+  -- with the specification's number for the answer
   numbered : (r : Started) → r ≡ startOf setup now draw → Starts r
   numbered r e = (e, ap (λ (x : Started). refusalOf (x .answer)) e ∙ start-number setup now draw)
 
@@ -72,7 +72,7 @@ module _ (s : State) (now port draw : ℕ) (p out : List ℕ) where
       × ((refusalOf (r .answer) ≡ receiveRefusal s now port draw p (length out))
       × (lengthOf (r .answer) ≡ length (receivedPacket s now port draw p (length out)))))
 
-  -- with 01's number and length for the answer
+  -- with the specification's number and length for the answer
   received-numbered : (r : Received) (o : List ℕ) → r ≡ receiveOf s now port draw p (length out) → o ≡ laidOver (receivedPacket s now port draw p (length out)) out → Receives r o
   received-numbered r o e f =
       (e, (f, (ap (λ (x : Received). refusalOf (x .answer)) e ∙ receive-number s now port draw p (length out), ap (λ (x : Received). lengthOf (x .answer)) e ∙ receive-length s now port draw p (length out))))

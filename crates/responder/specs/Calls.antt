@@ -1,14 +1,14 @@
--- A start, a packet received and a tick (paper 01, 'Refusal numbers', 'A claim's life', 'Which answers go out'): the answer, the state after the call and
+-- A start, a packet received and a tick (specification, 'Refusal numbers', 'A claim's life', 'Which answers go out'): the answer, the state after the call and
 -- the packet that it sends, put together from what the parts below say. Assumes nothing: these are definitions.
 use Prim.Native.Nat.{ℕ}
 use mathlib.Core.Bool.{Bool, false, cond}
 use mathlib.Core.List.{List, [], _∷_}
 use lib.ListN.{length, replicate}
 use lib.Dec.{eqb}
-use Rattle.wire.specs.Layout.{Reads, read, refused, messageAt}
-use Rattle.records.specs.declared.Setup.{Setup}
-use Rattle.records.specs.declared.Claim.{Claim}
-use Rattle.records.specs.declared.Claim.the-variants as own
+use Rattle.wire.specs.message.Layout.{Reads, read, refused, messageAt}
+use Rattle.own.specs.declared.records.Setup.{Setup}
+use Rattle.own.specs.declared.records.Claim.{Claim}
+use Rattle.own.specs.declared.records.Claim.the-variants as own
 use Rattle.claims.specs.Claims as claims
 use Rattle.claims.specs.declared.Claim.the-variants.{Lost}
 use Rattle.claims.specs.declared.Kind.{Kind}
@@ -17,16 +17,16 @@ use Rattle.claims.specs.declared.Sent.the-variants.{Never}
 use Rattle.claims.specs.declared.Reply.the-variants.{Unset}
 use Rattle.claims.specs.declared.Records.{Records}
 use Rattle.claims.specs.declared.Life.{Life}
-use Rattle.steps.specs.Tick as steps
-use Rattle.steps.specs.declared.Output.{Output}
-use Rattle.steps.specs.declared.Output.the-variants.{Nothing, Probe, Response}
-use Rattle.steps.specs.declared.Ticked as walked
-use Rattle.answers.specs.Answers as answers
-use Rattle.answers.specs.declared.Received as heard
-use Rattle.scan.specs.Facts.{factsOf}
-use Rattle.compose.specs.Own.{responsePacket, probePacket, unlessRefused}
-use Rattle.compose.specs.declared.Written.{Written}
-use Rattle.compose.specs.declared.Written.the-variants as written
+use Rattle.claims.specs.steps.Tick as steps
+use Rattle.claims.specs.declared.steps.Output.{Output}
+use Rattle.claims.specs.declared.steps.Output.the-variants.{Nothing, Probe, Response}
+use Rattle.claims.specs.declared.steps.Ticked as walked
+use Rattle.claims.specs.answers.Answers as answers
+use Rattle.claims.specs.declared.answers.Received as heard
+use Rattle.facts.specs.Facts.{factsOf}
+use Rattle.writer.specs.own_packets.Own.{responsePacket, probePacket, unlessRefused}
+use Rattle.writer.specs.declared.own_packets.Written.{Written}
+use Rattle.writer.specs.declared.own_packets.Written.the-variants as written
 use Rattle.responder.specs.Refusals.{startRefusal, receiveRefusal, tickRefusal}
 use Rattle.responder.specs.declared.State.{State}
 use Rattle.responder.specs.declared.Answer.{Answer}
@@ -35,7 +35,7 @@ use Rattle.responder.specs.declared.Started.{Started}
 use Rattle.responder.specs.declared.Received.{Received}
 use Rattle.responder.specs.declared.Ticked.{Ticked}
 
--- 01's values for each answer: the number of the refusal, 0 for none, and the length of the packet
+-- The specification's values for each answer: the number of the refusal, 0 for none, and the length of the packet
 abbrev pub refusalOf : Answer → ℕ
 refusalOf (Refused n) = n
 refusalOf Quiet = 0
@@ -72,7 +72,7 @@ packets (b ∷ bs) = (b ∷ bs) ∷ []
 
 -- ---- a start
 
--- The state of a refused start, which the paper leaves free: every label and string is empty, both claims are lost, nothing was multicast.
+-- The state of a refused start, which the specification leaves free: every label and string is empty, both claims are lost, nothing was multicast.
 unfoldable pub blank : State
 blank = record {
   setup = record {

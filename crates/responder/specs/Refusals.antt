@@ -1,12 +1,12 @@
--- The refusals of a start, a packet received and a tick (paper 01, 'Refusal numbers'): each is the number of the first that applies, in 01's order, and
+-- The refusals of a start, a packet received and a tick (specification, 'Refusal numbers'): each is the number of the first that applies, in the specification's order, and
 -- 0 where nothing is refused. Assumes nothing: these are definitions.
 use Prim.Native.Nat.{ℕ}
 use mathlib.Core.Bool.{Bool, cond, not, _||_}
 use mathlib.Core.List.{List}
 use lib.Dec.{ltb, eqb}
-use Rattle.wire.specs.Layout.{Reads, read, refused, messageAt}
-use Rattle.records.specs.declared.Setup.{Setup}
-use Rattle.records.specs.Setups.{validSetup}
+use Rattle.wire.specs.message.Layout.{Reads, read, refused, messageAt}
+use Rattle.own.specs.declared.records.Setup.{Setup}
+use Rattle.own.specs.records.Setups.{validSetup}
 use Rattle.claims.specs.Refusals.{lateStart, wrongTime, wrongStartDraw, wrongReplyDraw}
 use Rattle.responder.specs.declared.State.{State}
 

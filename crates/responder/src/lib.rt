@@ -1,8 +1,8 @@
-// The responder (paper 01, 'Refusal numbers', 'A claim's life', 'Which answers go out'): start, packet received and tick, each on a state by value.
-// A call tests its refusals in 01's order, has the parts below read, judge and write, and answers with the state after it.
+// The responder (specification, 'Refusal numbers', 'A claim's life', 'Which answers go out'): start, packet received and tick, each on a state by value.
+// A call tests its refusals in the specification's order, has the parts below read, judge and write, and answers with the state after it.
 ghost use mathlib.Core.Path.{_≡_};
 ghost use lib.ListN.{length};
-ghost use Rattle.compose.specs.Own.{refusal, laidOver};
+ghost use Rattle.writer.specs.own_packets.Own.{refusal, laidOver};
 ghost use Rattle.responder.specs.Refusals.{wrongState, byPort, startRefusal, receiveRefusal, tickRefusal};
 ghost use Rattle.responder.specs.Calls.{refusalOf, lengthOf, blank, answerFor, sentOr, claimFor, packetFor, startOf, receiveOf, receivedPacket, tickOf, tickedPacket};
 use claims::Claim;
@@ -11,13 +11,13 @@ use claims::Life;
 use claims::Multicasts;
 use claims::Reply;
 use claims::Sent;
-use compose::Written;
-use records::Label;
-use records::Service;
-use records::Setup;
-use records::Strings;
-use scan::Scanned;
-use steps::Output;
+use claims::steps::Output;
+use facts::Scanned;
+use own::records::Label;
+use own::records::Service;
+use own::records::Setup;
+use own::records::Strings;
+use writer::own_packets::Written;
 
 // The port that messages come from.
 pub const MDNS_PORT: u16 = 5353;
@@ -103,19 +103,19 @@ pub fn start(setup: Setup, time: u64, draw: u64) -> Started
     ensures answer { λ r. ⌜ r ≡ startOf setup time draw ⌝ }
     ensures number { λ r. ⌜ refusalOf (r .answer) ≡ startRefusal setup time draw ⌝ }
 {
-    if limits::start_time_refused(time) {
+    if claims::refusal_tests::start_time_refused(time) {
         return Started {
             answer: Answer::Refused(1),
             state: blank_state(),
         };
     }
-    if limits::start_draw_refused(draw) {
+    if claims::refusal_tests::start_draw_refused(draw) {
         return Started {
             answer: Answer::Refused(2),
             state: blank_state(),
         };
     }
-    if !setups::check_setup(setup) {
+    if !own::setups::check_setup(setup) {
         return Started {
             answer: Answer::Refused(7),
             state: blank_state(),
@@ -136,8 +136,8 @@ fn state_refused(state: State) -> bool
 {
     let setup = state.setup;
     let life = state.life;
-    if setups::check_setup(setup) {
-        return limits::start_draw_refused(life.draw);
+    if own::setups::check_setup(setup) {
+        return claims::refusal_tests::start_draw_refused(life.draw);
     }
     true
 }
@@ -156,12 +156,12 @@ fn message_refusal(n: u8, port: u16) -> u8
 }
 
 // The claim of the own records that is meant.
-fn claim_for(k: Kind) -> records::Claim
+fn claim_for(k: Kind) -> own::records::Claim
     ensures { λ r. ⌜ r ≡ claimFor k ⌝ }
 {
     match k {
-        Kind::Instance => records::Claim::Instance,
-        Kind::Host => records::Claim::Host,
+        Kind::Instance => own::records::Claim::Instance,
+        Kind::Host => own::records::Claim::Host,
     }
 }
 
@@ -184,12 +184,12 @@ fn send(setup: Setup, output: Output, out: &mut [u8]) -> Answer
     match output {
         Output::Nothing => Answer::Quiet,
         Output::Probe(k) => {
-            let w = compose::probe(setup, claim_for(k), out);
+            let w = writer::own_packets::probe(setup, claim_for(k), out);
             answer_for(w)
         }
         Output::Response(set) => {
             let chosen = [set.ptr, set.srv, set.txt, set.a, set.aaaa];
-            let w = compose::respond(setup, chosen, out);
+            let w = writer::own_packets::respond(setup, chosen, out);
             answer_for(w)
         }
     }
@@ -211,25 +211,25 @@ pub fn receive(
 {
     let setup = state.setup;
     let life = state.life;
-    if limits::time_refused(life, time) {
+    if claims::refusal_tests::time_refused(life, time) {
         return Received {
             answer: Answer::Refused(1),
             state,
         };
     }
-    if limits::reply_draw_refused(draw) {
+    if claims::refusal_tests::reply_draw_refused(draw) {
         return Received {
             answer: Answer::Refused(2),
             state,
         };
     }
-    if out.len() < compose::LEAST_OUT {
+    if out.len() < writer::own_packets::LEAST_OUT {
         return Received {
             answer: Answer::Refused(3),
             state,
         };
     }
-    match scan::scan_packet(packet, setup) {
+    match facts::scan_packet(packet, setup) {
         Scanned::Refused(n) => Received {
             answer: Answer::Refused(message_refusal(n, port)),
             state,
@@ -247,7 +247,7 @@ pub fn receive(
                     state,
                 };
             }
-            let heard = answers::receive(life, time, draw, facts, setup.hasaaaa);
+            let heard = claims::answers::receive(life, time, draw, facts, setup.hasaaaa);
             let set = heard.answers;
             let after = heard.life;
             Received {
@@ -267,14 +267,14 @@ pub fn tick(state: State, time: u64, out: &mut [u8]) -> Ticked
 {
     let setup = state.setup;
     let life = state.life;
-    if limits::time_refused(life, time) {
+    if claims::refusal_tests::time_refused(life, time) {
         return Ticked {
             answer: Answer::Refused(1),
             more: false,
             state,
         };
     }
-    if out.len() < compose::LEAST_OUT {
+    if out.len() < writer::own_packets::LEAST_OUT {
         return Ticked {
             answer: Answer::Refused(3),
             more: false,
@@ -288,7 +288,7 @@ pub fn tick(state: State, time: u64, out: &mut [u8]) -> Ticked
             state,
         };
     }
-    let walked = steps::tick(life, time, setup.hasaaaa);
+    let walked = claims::steps::tick(life, time, setup.hasaaaa);
     let output = walked.output;
     let after = walked.life;
     let more = walked.more;

@@ -1,22 +1,22 @@
--- The two packets of paper 01's corner readings, and the instance's probe, as the checker computes them; and so a set-up that keeps the rules.
+-- The two packets of the specification's corner readings, and the instance's probe, as the checker computes them; and so a set-up that keeps the rules.
 -- Assumes nothing.
 use Prim.Native.Nat.{ℕ}
 use mathlib.Core.Path.{_≡_, refl}
 use mathlib.Core.List.{List, [], _∷_, _++_}
 use mathlib.Core.Bool.{Bool, true, false}
 use lib.ListN.{replicate}
-use Rattle.pieces.specs.Pieces.{pieceAt}
-use Rattle.names.specs.Names.{nameAt, fromRun, readFrom}
-use Rattle.rdata.specs.Rdata.{stringsFill}
-use Rattle.expansion.specs.Equal.{sameBytes}
-use Rattle.compression.specs.Compression.{standsAt, placeOf, cutFrom, nameBytes, starts, namePlaces}
-use Rattle.records.specs.declared.Setup.{Setup}
-use Rattle.records.specs.declared.Claim.the-variants.{Instance, Host}
-use Rattle.records.specs.Setups.{labelFits, isLetter, isNameByte, nameBytes as lettersOnly, someLetter, hyphensApart, serviceRule, serviceFits, protocolFits, domainFits, txtFits, validSetup, serviceLabels, instanceLabels, hostLabels}
-use Rattle.records.specs.Records.{hasRecord, ownLabels, ownName, ownType, ownClass, ownTtl, srvRdata, ownRdata}
+use Rattle.wire.specs.name_pieces.Pieces.{pieceAt}
+use Rattle.wire.specs.names.Names.{nameAt, fromRun, readFrom}
+use Rattle.wire.specs.rdata.Rdata.{stringsFill}
+use Rattle.wire.specs.expansion.Equal.{sameBytes}
+use Rattle.writer.specs.compression.Compression.{standsAt, placeOf, cutFrom, nameBytes, starts, namePlaces}
+use Rattle.own.specs.declared.records.Setup.{Setup}
+use Rattle.own.specs.declared.records.Claim.the-variants.{Instance, Host}
+use Rattle.own.specs.records.Setups.{labelFits, isLetter, isNameByte, nameBytes as lettersOnly, someLetter, hyphensApart, serviceRule, serviceFits, protocolFits, domainFits, txtFits, validSetup, serviceLabels, instanceLabels, hostLabels}
+use Rattle.own.specs.records.Records.{hasRecord, ownLabels, ownName, ownType, ownClass, ownTtl, srvRdata, ownRdata}
 use Rattle.writer.specs.Items.{putName, dataBytes, dataPlaces, putFields}
-use Rattle.compose.specs.Packets.{packetOf}
-use Rattle.compose.specs.Own.{ownRecord, picked, responseRecords, probeRecords, responseOf, probeOf, responsePacket, probePacket}
+use Rattle.writer.specs.own_packets.Packets.{packetOf}
+use Rattle.writer.specs.own_packets.Own.{ownRecord, picked, responseRecords, probeRecords, responseOf, probeOf, responsePacket, probePacket}
 
 -- host "dock", service "_x", instance "A", 10.0.0.7, an empty TXT string, no AAAA
 abbrev pub sample : Setup

@@ -8,20 +8,20 @@ use borrow.Author.Tests.{le-leb, lt-leb, eq-eqb, ne-eqb}
 use lib.ListN.{length, getD, take, drop, length-append, length-drop}
 use lib.Seq.{take-at, drop-at, drop-drop, getD-drop, length-take-le}
 use lib.Dec.{eqb, ltb, leb}
-use Rattle.octets.specs.Octets.{byteAt, word16, word32}
-use Rattle.names.specs.Names.{Reading, name, malformed, nameAt, isName}
-use Rattle.rdata.specs.Rdata.{Rdata, rdata, unfit, rdataAt}
-use Rattle.compression.specs.Compression.{nameBytes, namePlaces}
-use Rattle.compression.specs.Sentence.{Rising, empty, next}
-use Rattle.compression.proofs.Places.{rising-from, rising-to, rising-append}
-use Rattle.compression.proofs.Written.{written-rising}
-use Rattle.wire.specs.Message.{Question, Record, Message, ttlOf}
-use Rattle.wire.specs.Layout.{questionFrom, questionRead, recordFrom, recordRead, Item, item, broken, bytesOf, questionMeant, questionAt, recordOf, withRdata, recordMeant, recordAt, Listing, listing, cut, first, andOn, listFrom}
-use Rattle.wire.specs.declared.RecordAt.{RecordAt}
-use Rattle.rdata.specs.Answers.{targetIn}
-use Rattle.expansion.specs.Opened.{namesIn}
+use Rattle.wire.specs.octets.Octets.{byteAt, word16, word32}
+use Rattle.wire.specs.names.Names.{Reading, name, malformed, nameAt, isName}
+use Rattle.wire.specs.rdata.Rdata.{Rdata, rdata, unfit, rdataAt}
+use Rattle.writer.specs.compression.Compression.{nameBytes, namePlaces}
+use Rattle.writer.specs.compression.Sentence.{Rising, empty, next}
+use Rattle.writer.proofs.compression.Places.{rising-from, rising-to, rising-append}
+use Rattle.writer.proofs.compression.Written.{written-rising}
+use Rattle.wire.specs.message.Message.{Question, Record, Message, ttlOf}
+use Rattle.wire.specs.message.Layout.{questionFrom, questionRead, recordFrom, recordRead, Item, item, broken, bytesOf, questionMeant, questionAt, recordOf, withRdata, recordMeant, recordAt, Listing, listing, cut, first, andOn, listFrom}
+use Rattle.wire.specs.declared.message.RecordAt.{RecordAt}
+use Rattle.wire.specs.rdata.Answers.{targetIn}
+use Rattle.wire.specs.expansion.Opened.{namesIn}
 use Rattle.writer.specs.Items.{Writing, u16, u32, fields, dataBytes, dataPlaces, putBytes, putName, putFields, putRecord, putQuestion}
-use Rattle.compose.specs.Packets.{putAll}
+use Rattle.writer.specs.own_packets.Packets.{putAll}
 use Rattle.roundtrip.specs.Shapes.{Shaped, four, target, strings, sixteen, server, other, IsRecord, IsQuestion, Each, none, one}
 use Rattle.roundtrip.specs.Names.{word-at, name-here, data-back}
 

@@ -8,14 +8,14 @@ use borrow.Author.Tests.{le-leb, lt-leb, eq-eqb, ne-eqb}
 use lib.ListN.{length, getD, take, drop, length-append, length-drop, take-append-drop}
 use lib.Seq.{take-at, drop-at, drop-drop, getD-drop, length-take-le}
 use lib.Dec.{eqb, ltb, leb}
-use Rattle.octets.specs.Octets.{byteAt, word16, word32}
-use Rattle.names.specs.Names.{Reading, name, malformed, nameAt, isName}
-use Rattle.rdata.specs.Rdata.{Rdata, rdata, unfit, stringsFill, asItLies, endingName, rdataIn, rdataAt}
-use Rattle.rdata.specs.Answers.{targetIn}
-use Rattle.expansion.specs.Opened.{namesIn}
-use Rattle.compression.specs.Compression.{nameBytes, namePlaces}
-use Rattle.compression.specs.Sentence.{Rising}
-use Rattle.compression.proofs.Written.{name-back}
+use Rattle.wire.specs.octets.Octets.{byteAt, word16, word32}
+use Rattle.wire.specs.names.Names.{Reading, name, malformed, nameAt, isName}
+use Rattle.wire.specs.rdata.Rdata.{Rdata, rdata, unfit, stringsFill, asItLies, endingName, rdataIn, rdataAt}
+use Rattle.wire.specs.rdata.Answers.{targetIn}
+use Rattle.wire.specs.expansion.Opened.{namesIn}
+use Rattle.writer.specs.compression.Compression.{nameBytes, namePlaces}
+use Rattle.writer.specs.compression.Sentence.{Rising}
+use Rattle.writer.proofs.compression.Written.{name-back}
 use Rattle.writer.specs.Items.{dataBytes}
 use Rattle.roundtrip.specs.Shapes.{Shaped, four, target, strings, sixteen, server, other}
 

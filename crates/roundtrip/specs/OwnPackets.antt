@@ -7,22 +7,22 @@ use mathlib.Core.Bool.{Bool, true, false, cond, _&&_, _||_}
 use native.Mathlib.Omega.{arith}
 use lib.ListN.{length, drop, take, length-append}
 use lib.Dec.{eqb, leb}
-use Rattle.labels.proofs.Encoded.{is-name}
-use Rattle.labels.specs.Labels.{encode}
-use Rattle.wire.specs.Message.{Question, Record, Message}
-use Rattle.wire.specs.Layout.{Reads, read, messageAt}
-use Rattle.records.specs.declared.Setup.{Setup}
-use Rattle.records.specs.declared.Claim.{Claim}
-use Rattle.records.specs.Setups.{validSetup, instanceLabels, hostLabels}
-use Rattle.records.specs.Records.{ownName, ownType, ownTtl, ownRdata, srvRdata}
-use Rattle.records.proofs.Valid.{Valid, valid, instance-name, host-name, own-is-name}
+use Rattle.wire.proofs.labels.Encoded.{is-name}
+use Rattle.wire.specs.labels.Labels.{encode}
+use Rattle.wire.specs.message.Message.{Question, Record, Message}
+use Rattle.wire.specs.message.Layout.{Reads, read, messageAt}
+use Rattle.own.specs.declared.records.Setup.{Setup}
+use Rattle.own.specs.declared.records.Claim.{Claim}
+use Rattle.own.specs.records.Setups.{validSetup, instanceLabels, hostLabels}
+use Rattle.own.specs.records.Records.{ownName, ownType, ownTtl, ownRdata, srvRdata}
+use Rattle.own.proofs.records.Valid.{Valid, valid, instance-name, host-name, own-is-name}
 use Rattle.writer.specs.Items.{Writing, putRecord, putQuestion}
-use Rattle.compose.specs.Packets.{header, putAll, packetOf, written}
-use Rattle.compose.specs.Own.{ownRecord, responseRecords, probeRecords, claimIndex, responseOf, probeOf, noneIfEmpty, responsePacket, probePacket}
-use Rattle.compose.specs.Ready.{sizes, sizeOf}
+use Rattle.writer.specs.own_packets.Packets.{header, putAll, packetOf, written}
+use Rattle.writer.specs.own_packets.Own.{ownRecord, responseRecords, probeRecords, claimIndex, responseOf, probeOf, noneIfEmpty, responsePacket, probePacket}
+use Rattle.writer.specs.own_packets.Ready.{sizes, sizeOf}
 use Rattle.writer.proofs.Use.{question-size, record-size}
-use Rattle.compose.proofs.Owned.{own-names}
-use Rattle.compose.proofs.Room.{response-size, probe-size, claim-size}
+use Rattle.writer.proofs.own_packets.Owned.{own-names}
+use Rattle.writer.proofs.own_packets.Room.{response-size, probe-size, claim-size}
 use Rattle.roundtrip.specs.Shapes.{Shaped, four, target, strings, sixteen, server, IsRecord, IsQuestion, Each, none, one, Writable, layoutOf}
 use Rattle.roundtrip.specs.Sentence.{Composed, composed}
 use Rattle.roundtrip.specs.Whole.{message-back}
@@ -110,7 +110,7 @@ probe-back s h claim =
     ap messageAt (sym (append-nil (packetOf (probeOf s claim))))
     ∙ message-back (probeOf s claim) (probe-writable s (valid s h) claim) [] (omega (arith, probe-long s (valid s h) claim, ap length (append-nil (packetOf (probeOf s claim)))))
 
--- Every name of an own packet is cut as 01's sentence says.
+-- Every name of an own packet is cut as the specification's sentence says.
 pub own-composed : (s : Setup) → validSetup s ≡ true → (chosen : List Bool) (claim : Claim) → Composed (written (responseOf s chosen)) × Composed (written (probeOf s claim))
 own-composed s h chosen claim =
     (composed (responseOf s chosen) (response-writable s (valid s h) chosen), composed (probeOf s claim) (probe-writable s (valid s h) claim))

@@ -1,4 +1,4 @@
--- 01's sentence on compression for a whole packet: "Every name, SRV and PTR rdata too, is cut at its longest suffix of whole labels that stands earlier
+-- The specification's sentence on compression for a whole packet: "Every name, SRV and PTR rdata too, is cut at its longest suffix of whole labels that stands earlier
 -- byte for byte in a name of the packet (..), pointers there followed, and points to the smallest such offset; the root alone is never pointed to."
 -- `composed` says it of every message that can be written. Assumes nothing.
 use Prim.Native.Nat.{ℕ, _+_, _≤_}
@@ -10,17 +10,17 @@ use native.Mathlib.Omega.{arith}
 use borrow.Author.Tests.{ne-eqb}
 use lib.ListN.{length, take, drop, length-append}
 use lib.Seq.{length-take-le}
-use Rattle.names.specs.Names.{isName}
-use Rattle.labels.specs.Labels.{encode}
-use Rattle.labels.proofs.Encoded.{made-of}
-use Rattle.rdata.specs.Answers.{targetIn}
-use Rattle.expansion.specs.Opened.{namesIn}
-use Rattle.compression.specs.Compression.{nameBytes, namePlaces}
-use Rattle.compression.specs.Sentence.{Rising, empty, Cuts}
-use Rattle.compression.proofs.AsSaid.{is-cut}
-use Rattle.wire.specs.Message.{Question, Record, Message}
+use Rattle.wire.specs.names.Names.{isName}
+use Rattle.wire.specs.labels.Labels.{encode}
+use Rattle.wire.proofs.labels.Encoded.{made-of}
+use Rattle.wire.specs.rdata.Answers.{targetIn}
+use Rattle.wire.specs.expansion.Opened.{namesIn}
+use Rattle.writer.specs.compression.Compression.{nameBytes, namePlaces}
+use Rattle.writer.specs.compression.Sentence.{Rising, empty, Cuts}
+use Rattle.writer.proofs.compression.AsSaid.{is-cut}
+use Rattle.wire.specs.message.Message.{Question, Record, Message}
 use Rattle.writer.specs.Items.{Writing, u16, fields, dataBytes, dataPlaces, putBytes, putName, putFields, putRecord, putQuestion}
-use Rattle.compose.specs.Packets.{putAll, header, written}
+use Rattle.writer.specs.own_packets.Packets.{putAll, header, written}
 use Rattle.roundtrip.specs.Shapes.{Shaped, four, target, strings, sixteen, server, other, IsRecord, IsQuestion, Each, none, one, Writable}
 use Rattle.roundtrip.specs.Items.{Sound, name-sound, record-sound, question-sound}
 

@@ -4,13 +4,13 @@ use mathlib.Core.Path.{_≡_}
 use mathlib.Core.List.{List, [], _∷_}
 use mathlib.Core.Bool.{Bool, true}
 use lib.ListN.{length, drop}
-use Rattle.names.specs.Names.{isName}
-use Rattle.rdata.specs.Rdata.{stringsFill}
-use Rattle.wire.specs.Message.{Question, Record, Message}
-use Rattle.wire.specs.Layout.{plainHeader}
-use Rattle.wire.specs.declared.Layout.{Layout}
+use Rattle.wire.specs.names.Names.{isName}
+use Rattle.wire.specs.rdata.Rdata.{stringsFill}
+use Rattle.wire.specs.message.Message.{Question, Record, Message}
+use Rattle.wire.specs.message.Layout.{plainHeader}
+use Rattle.wire.specs.declared.message.Layout.{Layout}
 use Rattle.writer.specs.Items.{putQuestion, putRecord}
-use Rattle.compose.specs.Packets.{header, putAll, packetOf}
+use Rattle.writer.specs.own_packets.Packets.{header, putAll, packetOf}
 
 -- rdata as its type asks (1 A, 12 PTR, 16 TXT, 28 AAAA, 33 SRV)
 pub data Shaped : ℕ → List ℕ → Type 0 where

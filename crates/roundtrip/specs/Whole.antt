@@ -7,14 +7,14 @@ use native.Mathlib.Omega.{arith}
 use borrow.Author.Tests.{le-leb, le-ltb, lt-leb, eq-eqb, ne-eqb}
 use lib.ListN.{length, getD, take, drop, length-append}
 use lib.Dec.{eqb, ltb, leb}
-use Rattle.octets.specs.Octets.{byteAt, word16, word32}
-use Rattle.compression.specs.Sentence.{Rising, empty, next}
-use Rattle.wire.specs.Message.{Question, Record, Message}
-use Rattle.wire.specs.Layout.{questionAt, recordAt, Listing, listing, listFrom, Reads, read, refused, plainHeader, additionalsOf, authoritiesOf, answersOf, questionsOf, messageAt}
-use Rattle.wire.specs.declared.Section.{Section}
-use Rattle.wire.specs.declared.Layout.{Layout}
+use Rattle.wire.specs.octets.Octets.{byteAt, word16, word32}
+use Rattle.writer.specs.compression.Sentence.{Rising, empty, next}
+use Rattle.wire.specs.message.Message.{Question, Record, Message}
+use Rattle.wire.specs.message.Layout.{questionAt, recordAt, Listing, listing, listFrom, Reads, read, refused, plainHeader, additionalsOf, authoritiesOf, answersOf, questionsOf, messageAt}
+use Rattle.wire.specs.declared.message.Section.{Section}
+use Rattle.wire.specs.declared.message.Layout.{Layout}
 use Rattle.writer.specs.Items.{Writing, u16, putRecord, putQuestion}
-use Rattle.compose.specs.Packets.{putAll, header, packetOf}
+use Rattle.writer.specs.own_packets.Packets.{putAll, header, packetOf}
 use Rattle.roundtrip.specs.Shapes.{IsRecord, IsQuestion, Each, none, one, Writable, layoutOf}
 use Rattle.roundtrip.specs.Items.{Sound, record-back, record-sound, record-more, question-back, question-sound, question-more, More, all-sound, all-more, all-back}
 

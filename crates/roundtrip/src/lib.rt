@@ -1,1 +1,1 @@
-// The round trip: what writer and compose write, wire reads (paper 01, 'Writing a packet' and 'Reading a message'). Definitions and theorems alone.
+// The round trip: what `writer` writes, `wire` reads (specification, 'Writing a packet' and 'Reading a message'). Definitions and theorems alone.

@@ -1,9 +1,9 @@
--- Worked cases of the lookup, evaluated in one statement: those of RFC 6763, 6.4 and 6.5, paper 01's "PassReq", and the refusals. Assumes nothing.
+-- Worked cases of the lookup, evaluated in one statement: those of RFC 6763, 6.4 and 6.5, the specification's "PassReq", and the refusals. Assumes nothing.
 use mathlib.Core.Path.{_≡_, refl}
 use mathlib.Core.List.{List, [], _∷_, _++_}
 use Prim.Native.Nat.{ℕ}
-use Rattle.fold.specs.Fold.{sameName}
-use Rattle.rdata.specs.Rdata.{stringsFill}
+use Rattle.wire.specs.case_folding.Fold.{sameName}
+use Rattle.wire.specs.rdata.Rdata.{stringsFill}
 use Rattle.txt.specs.Txt.{stringsFrom, keyOf, valueOf, hasKey, firstWith}
 use Rattle.txt.specs.Lookup.{anyBad, badKey, refusalOf, givenBy, inTxt, lookupOf}
 use Rattle.txt.specs.declared.Buffer.{Buffer}

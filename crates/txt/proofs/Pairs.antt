@@ -10,7 +10,7 @@ use borrow.Author.Tests.{eq-eqb, ne-eqb}
 use lib.ListN.{length, getD, take, drop, drop-of-length-le}
 use lib.Seq.{drop-cons}
 use lib.Dec.{eqb, eqb·suc-zero}
-use Rattle.fold.specs.Fold.{sameName}
+use Rattle.wire.specs.case_folding.Fold.{sameName}
 use Rattle.txt.specs.Txt.{keyOf, valueOf, skipped, hasKey}
 
 -- the key's length so far, in a loop that stops at the first "="

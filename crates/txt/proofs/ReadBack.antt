@@ -7,7 +7,7 @@ use Prim.Native.Nat.{ℕ, zero, suc, _+_, _≤_}
 use native.Mathlib.Omega.{arith}
 use lib.ListN.{length, take, length-append}
 use lib.Seq.{length-take-le, take-append-seam, drop-append-seam}
-use Rattle.rdata.specs.Rdata.{stringsFill}
+use Rattle.wire.specs.rdata.Rdata.{stringsFill}
 use Rattle.txt.specs.Txt.{Text, text, stringsFrom, strings}
 use Rattle.txt.proofs.Strings.{passed}
 

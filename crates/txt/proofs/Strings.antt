@@ -10,8 +10,8 @@ use lib.ListN.{length, getD, take, drop, drop-of-length-le, length-drop}
 use lib.Seq.{drop-cons, drop-drop}
 use lib.Dec.{leb}
 use borrow.Author.Tests.{leb-true, leb-false}
-use Rattle.rdata.specs.Rdata.{stringsFill}
-use Rattle.rdata.proofs.Strings.{string-fits, string-over}
+use Rattle.wire.specs.rdata.Rdata.{stringsFill}
+use Rattle.wire.proofs.rdata.Strings.{string-fits, string-over}
 use Rattle.txt.specs.Txt.{Text, text, stringsFrom, hasKey, firstWith}
 use Rattle.txt.specs.Lookup.{answerOf, givenBy, inTxt}
 use Rattle.txt.specs.declared.Buffer.{Buffer}

@@ -6,7 +6,7 @@ use Prim.Native.Nat.{ℕ, zero, suc}
 use native.Mathlib.Omega.{arith}
 use types.Run.{OneOf, miss}
 use denote.Enum.Declared.{tagOf}
-use Rattle.rdata.specs.Rdata.{stringsFill}
+use Rattle.wire.specs.rdata.Rdata.{stringsFill}
 use Rattle.txt.specs.Lookup.{badKey, refusalOf, inTxt, whenAbsent, unlessRefused, lookupOf}
 use Rattle.txt.specs.declared.Buffer.the-variants.{Received, Factory}
 use Rattle.txt.specs.declared.Answer.{Answer}

@@ -1,4 +1,4 @@
--- The lookup of a key in a received and a factory TXT: its refusals, its answer and the part that is shown (paper 01, 'TXT pairs' and 'Refusal
+-- The lookup of a key in a received and a factory TXT: its refusals, its answer and the part that is shown (specification, 'TXT pairs' and 'Refusal
 -- numbers'). Assumes nothing: these are definitions.
 use Prim.Native.Nat.{ℕ, zero, suc, _+_}
 use mathlib.Core.List.{List, [], _∷_}
@@ -6,7 +6,7 @@ use mathlib.Core.Option.{Option, none, some}
 use mathlib.Core.Bool.{Bool, false, cond, _&&_, _||_}
 use lib.ListN.{length, take, drop}
 use lib.Dec.{ltb, eqb}
-use Rattle.rdata.specs.Rdata.{stringsFill}
+use Rattle.wire.specs.rdata.Rdata.{stringsFill}
 use Rattle.txt.specs.Txt.{Text, text, strings, keyOf, valueOf, firstWith}
 use Rattle.txt.specs.declared.Buffer.{Buffer}
 use Rattle.txt.specs.declared.Buffer.the-variants.{Received, Factory}

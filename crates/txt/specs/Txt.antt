@@ -1,4 +1,4 @@
--- The strings of a TXT, the key and the value of each, and the string that answers for a key (paper 01, 'TXT pairs'; RFC 6763, 6.3 and 6.4).
+-- The strings of a TXT, the key and the value of each, and the string that answers for a key (specification, 'TXT pairs'; RFC 6763, 6.3 and 6.4).
 -- Assumes nothing: these are definitions.
 use Prim.Native.Nat.{ℕ, zero, suc, _+_}
 use mathlib.Core.List.{List, [], _∷_}
@@ -6,7 +6,7 @@ use mathlib.Core.Option.{Option, none, some}
 use mathlib.Core.Bool.{Bool, true, false, cond}
 use lib.ListN.{take}
 use lib.Dec.{eqb}
-use Rattle.fold.specs.Fold.{sameName}
+use Rattle.wire.specs.case_folding.Fold.{sameName}
 
 -- A string of a TXT: the place where its text starts, and the text.
 pub data Text : Type 0 where

@@ -1,11 +1,11 @@
-// TXT pairs (paper 01, 'TXT pairs', refusals 6 and 9; RFC 6763, 6): what a key says in the TXT that was received and, when it is absent there, in
+// TXT pairs (specification, 'TXT pairs', refusals 6 and 9; RFC 6763, 6): what a key says in the TXT that was received and, when it is absent there, in
 // the factory TXT; and the value, shown as a part of whichever buffer held it. Nothing is written and nothing is copied.
 ghost use mathlib.Core.Path.{_≡_};
 ghost use mathlib.Core.Bool.{true};
 ghost use Prim.Native.Nat.{_-_, _≤_};
 ghost use lib.ListN.{length, take, drop};
 ghost use denote.Ref.{ptr};
-ghost use Rattle.rdata.specs.Rdata.{stringsFill};
+ghost use Rattle.wire.specs.rdata.Rdata.{stringsFill};
 ghost use Rattle.txt.specs.Txt.{keyOf, hasKey};
 ghost use Rattle.txt.specs.Lookup.{badByte, badKey, refusalOf, givenBy, inTxt, lookupOf, numberOf, shownOf, bytesOf, startOf};
 
@@ -74,10 +74,10 @@ fn refusal(key: &[u8], received: &[u8], factory: &[u8]) -> u8
     if bad_key(key) {
         return BAD_KEY;
     }
-    if !rdata::strings_fill(received) {
+    if !wire::rdata::strings_fill(received) {
         return MALFORMED;
     }
-    if !rdata::strings_fill(factory) {
+    if !wire::rdata::strings_fill(factory) {
         return MALFORMED;
     }
     0
@@ -105,7 +105,7 @@ fn has_key(s: &[u8], key: &[u8]) -> bool
     if n == 0 {
         return false;
     }
-    fold::same_name(&s[..n], key)
+    wire::case_folding::same_name(&s[..n], key)
 }
 
 // What the string from `start` to `end` of a TXT gives.

@@ -8,19 +8,19 @@ use native.Mathlib.Omega.{arith}
 use lib.Dec.{eqb, ltb}
 use borrow.Author.Tests.{eqb-true, ne-eqb, ltb-false}
 use mathlib.Mathlib.Data.Bool.Basic.{or-eq-false-eq-eq-false-and-eq-false as neither}
-use Rattle.wire.specs.Message.{Message}
-use Rattle.wire.specs.Layout.{Reads, read, refused, messageAt}
-use Rattle.records.specs.declared.Setup.{Setup}
-use Rattle.records.specs.Setups.{validSetup}
+use Rattle.wire.specs.message.Message.{Message}
+use Rattle.wire.specs.message.Layout.{Reads, read, refused, messageAt}
+use Rattle.own.specs.declared.records.Setup.{Setup}
+use Rattle.own.specs.records.Setups.{validSetup}
 use Rattle.claims.specs.Time.{lastTime, afterMs}
 use Rattle.claims.specs.Claims as claims
 use Rattle.claims.specs.Refusals.{lateStart, wrongTime, wrongStartDraw, kept}
 use Rattle.claims.specs.Records.{Own, PTR, SRV, TXT, A, AAAA}
 use Rattle.claims.proofs.Times.{after-exact}
 use Rattle.claims.specs.declared.Life.{Life}
-use Rattle.steps.specs.declared.Output.{Output}
-use Rattle.steps.specs.declared.Output.the-variants.{Response}
-use Rattle.compose.specs.Own.{unlessRefused}
+use Rattle.claims.specs.declared.steps.Output.{Output}
+use Rattle.claims.specs.declared.steps.Output.the-variants.{Response}
+use Rattle.writer.specs.own_packets.Own.{unlessRefused}
 use Rattle.responder.specs.Refusals.{wrongState, readRefusal, byPort, startRefusal, receiveRefusal, tickRefusal}
 use Rattle.responder.specs.Calls.{sentOr, answerOf, stateOf, packets, packetFor, startState, startOf, heardOf, receivedPacket, receiveOf, walkedOf, tickedPacket, tickOf}
 use Rattle.responder.specs.declared.State.{State}

@@ -8,25 +8,25 @@ use Prim.Native.Nat.{ℕ, _<_}
 use native.Mathlib.Omega.{arith}
 use lib.Dec.{eqb}
 use borrow.Author.Tests.{eq-eqb, ne-eqb}
-use Rattle.fold.specs.Fold.{sameName}
-use Rattle.fold.proofs.Equal.{same-refl, same-sym}
-use Rattle.expansion.specs.Equal.{sameBytes}
-use Rattle.expansion.proofs.Bytes.{same-equal}
-use Rattle.wire.specs.Message.{Question, Record, Message, classOf, isResponse, allRecords}
-use Rattle.records.specs.declared.Setup.{Setup}
-use Rattle.records.specs.declared.Claim.the-variants as own
-use Rattle.records.specs.Records.{hasRecord, ownLabels, ownName, ownType, ownTtl, ownClass, ownRdata}
+use Rattle.wire.specs.case_folding.Fold.{sameName}
+use Rattle.wire.proofs.case_folding.Equal.{same-refl, same-sym}
+use Rattle.wire.specs.expansion.Equal.{sameBytes}
+use Rattle.wire.proofs.expansion.Bytes.{same-equal}
+use Rattle.wire.specs.message.Message.{Question, Record, Message, classOf, isResponse, allRecords}
+use Rattle.own.specs.declared.records.Setup.{Setup}
+use Rattle.own.specs.declared.records.Claim.the-variants as own
+use Rattle.own.specs.records.Records.{hasRecord, ownLabels, ownName, ownType, ownTtl, ownClass, ownRdata}
 use Rattle.claims.specs.Records.{Own, PTR, SRV, TXT, A, AAAA}
-use Rattle.order.specs.declared.Verdict.{Verdict}
-use Rattle.order.specs.declared.Verdict.the-variants.{Earlier, Same, Later}
-use Rattle.order.specs.Later.{TieRecord, isLater, tie}
-use Rattle.probe.specs.Probe.{some as someOf, under, asksAll, isProbe}
-use Rattle.order.specs.Lists.{tieRecord, listUnder, theirs, ownList}
-use Rattle.order.proofs.Ties.{one-wins, perm-tie, perm-own, Rising, own-same, own-one, own-two, own-parts}
-use Rattle.order.proofs.Lists.{listed, spelling-list}
-use Rattle.probe.proofs.Probes.{spelling-probe}
-use Rattle.scan.specs.Facts.{conflicts as differs, conflicted, inConflict, firstOf, secondOf, twoOf, laterThan, theirsLater}
-use Rattle.compose.specs.Own.{ownRecord, picked, probeRecords, probeOf, claimIndex}
+use Rattle.facts.specs.declared.tiebreak.Verdict.{Verdict}
+use Rattle.facts.specs.declared.tiebreak.Verdict.the-variants.{Earlier, Same, Later}
+use Rattle.facts.specs.tiebreak.Later.{TieRecord, isLater, tie}
+use Rattle.facts.specs.probe.Probe.{some as someOf, under, asksAll, isProbe}
+use Rattle.facts.specs.tiebreak.Lists.{tieRecord, listUnder, theirs, ownList}
+use Rattle.facts.proofs.tiebreak.Ties.{one-wins, perm-tie, perm-own, Rising, own-same, own-one, own-two, own-parts}
+use Rattle.facts.proofs.tiebreak.Lists.{listed, spelling-list}
+use Rattle.facts.proofs.probe.Probes.{spelling-probe}
+use Rattle.facts.specs.Facts.{conflicts as differs, conflicted, inConflict, firstOf, secondOf, twoOf, laterThan, theirsLater}
+use Rattle.writer.specs.own_packets.Own.{ownRecord, picked, probeRecords, probeOf, claimIndex}
 use Rattle.link.specs.Responder.{Claim, instance, host}
 use Rattle.link.specs.Premises.{Among}
 use Rattle.uniqueness.specs.Responder.{ownClaim, indexOf, recordOf, rdata, name, conflicts, defeats}

@@ -6,11 +6,11 @@ use mathlib.Core.Option.{Option, none, some}
 use mathlib.Core.List.{List, [], _∷_}
 use Prim.Native.Nat.{ℕ, _+_, _≤_, _<_}
 use lib.Dec.{eqb}
-use Rattle.fold.specs.Fold.{sameName}
-use Rattle.wire.specs.Message.{Question, Message, isResponse}
-use Rattle.records.specs.declared.Setup.{Setup}
-use Rattle.records.specs.Setups.{validSetup}
-use Rattle.records.specs.Records.{hasRecord, ownName, ownType, ownRdata, ownTtl}
+use Rattle.wire.specs.case_folding.Fold.{sameName}
+use Rattle.wire.specs.message.Message.{Question, Message, isResponse}
+use Rattle.own.specs.declared.records.Setup.{Setup}
+use Rattle.own.specs.records.Setups.{validSetup}
+use Rattle.own.specs.records.Records.{hasRecord, ownName, ownType, ownRdata, ownTtl}
 use Rattle.claims.specs.Time.{lastTime, recently}
 use Rattle.claims.specs.Claims.{claimOf, heldNow}
 use Rattle.claims.specs.Records.{Own, PTR, SRV, TXT, A, AAAA, has, sentOf, claimFor, present}
@@ -19,13 +19,13 @@ use Rattle.claims.specs.declared.Kind.{Kind}
 use Rattle.claims.specs.declared.Sent.{Sent}
 use Rattle.claims.specs.declared.Sent.the-variants.{Never, At}
 use Rattle.claims.specs.declared.Records.{Records}
-use Rattle.probe.specs.Probe.{some as someOf, isProbe}
-use Rattle.answers.specs.Answers.{wantedOf, gapOf}
-use Rattle.answers.specs.declared.Heard.{Heard}
-use Rattle.answers.specs.declared.Facts.{Facts}
-use Rattle.answers.proofs.Causes.{heardFor, IsDue, Cause, left-out-for-a-cause, at-once}
-use Rattle.scan.specs.Facts.{asksFor, isAsked, suppresses, isKnown, each, queryTo, queryFacts, factsOf}
-use Rattle.compose.specs.Own.{probeOf, claimIndex}
+use Rattle.facts.specs.probe.Probe.{some as someOf, isProbe}
+use Rattle.claims.specs.answers.Answers.{wantedOf, gapOf}
+use Rattle.claims.specs.declared.answers.Heard.{Heard}
+use Rattle.claims.specs.declared.answers.Facts.{Facts}
+use Rattle.claims.proofs.answers.Causes.{heardFor, IsDue, Cause, left-out-for-a-cause, at-once}
+use Rattle.facts.specs.Facts.{asksFor, isAsked, suppresses, isKnown, each, queryTo, queryFacts, factsOf}
+use Rattle.writer.specs.own_packets.Own.{probeOf, claimIndex}
 use Rattle.responder.specs.declared.State.{State}
 use Rattle.link.specs.Responder.{Claim, instance, host}
 use Rattle.link.specs.Laws as law

@@ -8,31 +8,31 @@ use Prim.Native.Nat.{ℕ, _+_}
 use lib.ListN.{length}
 use lib.Dec.{leb, ltb}
 use borrow.Author.Tests.{leb-true, ltb-true}
-use Rattle.fold.specs.Fold.{sameName}
-use Rattle.pieces.specs.Pieces.{pieceAt}
-use Rattle.names.specs.Names.{nameAt, fromRun, readFrom}
-use Rattle.rdata.specs.Rdata.{stringsFill, rdataIn, rdataAt}
-use Rattle.expansion.specs.Equal.{sameBytes}
-use Rattle.wire.specs.Layout.{questionRead, recordRead, questionAt, recordAt, listFrom, messageAt}
-use Rattle.compression.specs.Compression.{standsAt, placeOf, cutFrom, nameBytes, starts, namePlaces}
-use Rattle.records.specs.declared.Setup.{Setup}
-use Rattle.records.specs.Setups.{labelFits, isLetter, isNameByte, nameBytes as lettersOnly, someLetter, hyphensApart, serviceRule, serviceFits, protocolFits, domainFits, txtFits, validSetup, serviceLabels, instanceLabels, hostLabels}
-use Rattle.records.specs.Records.{hasRecord, ownLabels, ownName, ownType, ownClass, ownTtl, srvRdata, ownRdata}
+use Rattle.wire.specs.case_folding.Fold.{sameName}
+use Rattle.wire.specs.name_pieces.Pieces.{pieceAt}
+use Rattle.wire.specs.names.Names.{nameAt, fromRun, readFrom}
+use Rattle.wire.specs.rdata.Rdata.{stringsFill, rdataIn, rdataAt}
+use Rattle.wire.specs.expansion.Equal.{sameBytes}
+use Rattle.wire.specs.message.Layout.{questionRead, recordRead, questionAt, recordAt, listFrom, messageAt}
+use Rattle.writer.specs.compression.Compression.{standsAt, placeOf, cutFrom, nameBytes, starts, namePlaces}
+use Rattle.own.specs.declared.records.Setup.{Setup}
+use Rattle.own.specs.records.Setups.{labelFits, isLetter, isNameByte, nameBytes as lettersOnly, someLetter, hyphensApart, serviceRule, serviceFits, protocolFits, domainFits, txtFits, validSetup, serviceLabels, instanceLabels, hostLabels}
+use Rattle.own.specs.records.Records.{hasRecord, ownLabels, ownName, ownType, ownClass, ownTtl, srvRdata, ownRdata}
 use Rattle.claims.specs.Time.{afterMs, markedAll}
 use Rattle.claims.specs.Claims as claims
 use Rattle.claims.specs.declared.Claim as life
 use Rattle.claims.specs.declared.Claim.the-variants.{Waiting, Probing1, Probing2, Probing3, Deferred, Announced, Held, Lost}
 use Rattle.claims.specs.Refusals.{multicastsKept, kept, wrongTime}
-use Rattle.steps.specs.Steps.{moreDue, stepOf, unsentOf}
-use Rattle.steps.specs.Tick as steps
-use Rattle.order.specs.Later.{compareNumbers, inTurn, compareRecords, insertBy, sortBy, tie}
-use Rattle.probe.specs.Probe.{some as someOf, isProbe}
-use Rattle.order.specs.Lists.{listUnder}
-use Rattle.answers.specs.Answers as answers
-use Rattle.scan.specs.Facts.{isAsked, isKnown, conflicted, laterThan, responseFacts, queryFacts, factsOf}
+use Rattle.claims.specs.steps.Steps.{moreDue, stepOf, unsentOf}
+use Rattle.claims.specs.steps.Tick as steps
+use Rattle.facts.specs.tiebreak.Later.{compareNumbers, inTurn, compareRecords, insertBy, sortBy, tie}
+use Rattle.facts.specs.probe.Probe.{some as someOf, isProbe}
+use Rattle.facts.specs.tiebreak.Lists.{listUnder}
+use Rattle.claims.specs.answers.Answers as answers
+use Rattle.facts.specs.Facts.{isAsked, isKnown, conflicted, laterThan, responseFacts, queryFacts, factsOf}
 use Rattle.writer.specs.Items.{putName, dataBytes, dataPlaces, putFields}
-use Rattle.compose.specs.Packets.{packetOf}
-use Rattle.compose.specs.Own.{ownRecord, picked, responseRecords, probeRecords, responseOf, probeOf, responsePacket, probePacket}
+use Rattle.writer.specs.own_packets.Packets.{packetOf}
+use Rattle.writer.specs.own_packets.Own.{ownRecord, picked, responseRecords, probeRecords, responseOf, probeOf, responsePacket, probePacket}
 use Rattle.responder.specs.Refusals.{wrongState, startRefusal, receiveRefusal, tickRefusal}
 use Rattle.responder.specs.Calls.{blank, startOf, packetFor, receivedPacket, receiveOf, tickedPacket, tickOf}
 use Rattle.responder.specs.declared.State.{State}

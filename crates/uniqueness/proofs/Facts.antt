@@ -3,9 +3,9 @@ use mathlib.Core.Path.{_≡_, refl, sym, ap, _∙_}
 use mathlib.Core.Bool.{Bool, true, false, cond, _||_}
 use mathlib.Core.List.{List, [], _∷_}
 use Prim.Native.Nat.{ℕ}
-use Rattle.wire.specs.Message.{Message, isResponse}
-use Rattle.records.specs.declared.Setup.{Setup}
-use Rattle.records.specs.Records.{hasRecord}
+use Rattle.wire.specs.message.Message.{Message, isResponse}
+use Rattle.own.specs.declared.records.Setup.{Setup}
+use Rattle.own.specs.records.Records.{hasRecord}
 use Rattle.claims.specs.Time.{afterMs, marked, markedAll}
 use Rattle.claims.specs.Claims.{heldNow}
 use Rattle.claims.specs.Records.{Own, PTR, SRV, TXT, A, AAAA, has, sentOf, claimFor}
@@ -14,12 +14,12 @@ use Rattle.claims.specs.declared.Claim.the-variants.{Waiting, Probing1, Probing
 use Rattle.claims.specs.declared.Kind.{Kind}
 use Rattle.claims.specs.declared.Multicasts.{Multicasts}
 use Rattle.claims.specs.declared.Records.{Records}
-use Rattle.steps.specs.Steps.{takenStep, recordsOf}
-use Rattle.steps.specs.Tick.{under}
-use Rattle.steps.specs.declared.Step.the-variants as step
-use Rattle.steps.proofs.Moves.{announces, repeats}
-use Rattle.scan.specs.Facts.{inConflict, responseFacts, queryFacts, factsOf}
-use Rattle.compose.specs.Own.{probeOf}
+use Rattle.claims.specs.steps.Steps.{takenStep, recordsOf}
+use Rattle.claims.specs.steps.Tick.{under}
+use Rattle.claims.specs.declared.steps.Step.the-variants as step
+use Rattle.claims.proofs.steps.Moves.{announces, repeats}
+use Rattle.facts.specs.Facts.{inConflict, responseFacts, queryFacts, factsOf}
+use Rattle.writer.specs.own_packets.Own.{probeOf}
 use Rattle.responder.specs.Calls as calls
 use Rattle.link.specs.Responder.{Claim, instance, host}
 use Rattle.link.specs.Premises.{Among}

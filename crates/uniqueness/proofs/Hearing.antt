@@ -5,22 +5,22 @@ use mathlib.Core.Bool.{Bool, true, false, cond, not, _&&_, _||_}
 use mathlib.Core.Option.{Option, none, some}
 use mathlib.Core.List.{List, [], _∷_}
 use Prim.Native.Nat.{ℕ}
-use Rattle.wire.specs.Message.{Message, isResponse}
-use Rattle.records.specs.declared.Setup.{Setup}
-use Rattle.records.specs.declared.Claim as own
+use Rattle.wire.specs.message.Message.{Message, isResponse}
+use Rattle.own.specs.declared.records.Setup.{Setup}
+use Rattle.own.specs.declared.records.Claim as own
 use Rattle.claims.specs.Time.{afterMs}
 use Rattle.claims.specs.Claims.{claimOf, heldNow, afterConflict, afterProbe}
 use Rattle.claims.specs.declared.Claim as life
 use Rattle.claims.specs.declared.Claim.the-variants.{Waiting, Probing1, Probing2, Probing3, Deferred, Announced, Held, Lost}
 use Rattle.claims.specs.declared.Kind.{Kind}
 use Rattle.claims.specs.declared.Kind.the-variants.{Instance, Host}
-use Rattle.probe.specs.Probe.{some as someOf, asksAll, under, isProbe}
-use Rattle.answers.specs.Answers.{heardOf}
-use Rattle.answers.specs.declared.Heard.{Heard}
-use Rattle.answers.specs.declared.Facts.{Facts}
-use Rattle.answers.proofs.Causes.{heardFor}
-use Rattle.answers.proofs.Receives.{receive-claim}
-use Rattle.scan.specs.Facts.{inConflict, theirsLater, responseTo, queryTo, responseFacts, queryFacts, factsOf}
+use Rattle.facts.specs.probe.Probe.{some as someOf, asksAll, under, isProbe}
+use Rattle.claims.specs.answers.Answers.{heardOf}
+use Rattle.claims.specs.declared.answers.Heard.{Heard}
+use Rattle.claims.specs.declared.answers.Facts.{Facts}
+use Rattle.claims.proofs.answers.Causes.{heardFor}
+use Rattle.claims.proofs.answers.Receives.{receive-claim}
+use Rattle.facts.specs.Facts.{inConflict, theirsLater, responseTo, queryTo, responseFacts, queryFacts, factsOf}
 use Rattle.responder.specs.Calls.{claimFor}
 use Rattle.responder.specs.declared.State.{State}
 use Rattle.link.specs.Responder.{Claim, instance, host}

@@ -5,11 +5,11 @@ use mathlib.Core.Bool.{Bool, true, false}
 use mathlib.Core.Option.{Option, none, some}
 use mathlib.Core.List.{List, [], _∷_, _++_}
 use Prim.Native.Nat.{ℕ, _+_, _≤_, _<_}
-use Rattle.fold.specs.Fold.{sameName}
-use Rattle.fold.proofs.Equal.{same-sym}
-use Rattle.wire.specs.Message.{Message}
-use Rattle.records.specs.declared.Setup.{Setup}
-use Rattle.records.specs.Setups.{validSetup}
+use Rattle.wire.specs.case_folding.Fold.{sameName}
+use Rattle.wire.proofs.case_folding.Equal.{same-sym}
+use Rattle.wire.specs.message.Message.{Message}
+use Rattle.own.specs.declared.records.Setup.{Setup}
+use Rattle.own.specs.records.Setups.{validSetup}
 use Rattle.claims.specs.Time.{lastTime}
 use Rattle.claims.specs.Claims.{dueOf, replyDueOf}
 use Rattle.claims.specs.declared.Claim as life

@@ -5,8 +5,8 @@ use mathlib.Core.Bool.{Bool, true, false, cond, not, _&&_, _||_}
 use mathlib.Core.List.{List, [], _∷_, _++_, map}
 use Prim.Native.Nat.{ℕ}
 use native.Mathlib.Omega.{arith}
-use Rattle.probe.specs.Probe.{some}
-use Rattle.compose.specs.Own.{picked}
+use Rattle.facts.specs.probe.Probe.{some}
+use Rattle.writer.specs.own_packets.Own.{picked}
 use Rattle.link.specs.Premises.{Among}
 
 pub clash : {A : Type 0} → _≡_ {A = ℕ} 0 1 → A

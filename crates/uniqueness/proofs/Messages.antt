@@ -7,21 +7,21 @@ use mathlib.Core.List.{List, [], _∷_, _++_, map}
 use Prim.Native.Nat.{ℕ}
 use native.Mathlib.Omega.{arith}
 use lib.ListN.{getD}
-use Rattle.fold.specs.Fold.{sameName}
-use Rattle.fold.proofs.Equal.{same-refl}
-use Rattle.wire.specs.Message.{Record, Message, isResponse, allRecords}
-use Rattle.wire.specs.Layout.{Reads, read, refused, messageAt}
-use Rattle.records.specs.declared.Setup.{Setup}
-use Rattle.records.specs.Setups.{validSetup}
-use Rattle.records.specs.Records.{hasRecord, ownLabels, ownName}
-use Rattle.records.proofs.Valid.{valid, instance-not-host, host-not-instance, service-not-instance, service-not-host}
+use Rattle.wire.specs.case_folding.Fold.{sameName}
+use Rattle.wire.proofs.case_folding.Equal.{same-refl}
+use Rattle.wire.specs.message.Message.{Record, Message, isResponse, allRecords}
+use Rattle.wire.specs.message.Layout.{Reads, read, refused, messageAt}
+use Rattle.own.specs.declared.records.Setup.{Setup}
+use Rattle.own.specs.records.Setups.{validSetup}
+use Rattle.own.specs.records.Records.{hasRecord, ownLabels, ownName}
+use Rattle.own.proofs.records.Valid.{valid, instance-not-host, host-not-instance, service-not-instance, service-not-host}
 use Rattle.claims.specs.Records.{Own, PTR, SRV, TXT, A, AAAA, has}
 use Rattle.claims.specs.declared.Records.{Records}
-use Rattle.steps.specs.declared.Output.{Output}
-use Rattle.steps.specs.declared.Output.the-variants.{Nothing, Probe, Response}
-use Rattle.steps.specs.Tick as steps
-use Rattle.probe.specs.Probe.{some as someOf, under}
-use Rattle.compose.specs.Own.{ownRecord, responseRecords, responseOf, noneIfEmpty, responsePacket, probePacket, probeOf}
+use Rattle.claims.specs.declared.steps.Output.{Output}
+use Rattle.claims.specs.declared.steps.Output.the-variants.{Nothing, Probe, Response}
+use Rattle.claims.specs.steps.Tick as steps
+use Rattle.facts.specs.probe.Probe.{some as someOf, under}
+use Rattle.writer.specs.own_packets.Own.{ownRecord, responseRecords, responseOf, noneIfEmpty, responsePacket, probePacket, probeOf}
 use Rattle.roundtrip.specs.OwnPackets.{response-back, probe-back}
 use Rattle.responder.specs.Calls.{claimFor, listed, packets, packetFor}
 use Rattle.link.specs.Responder.{Claim, instance, host}

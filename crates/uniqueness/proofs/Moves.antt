@@ -7,9 +7,9 @@ use mathlib.Core.List.{List}
 use Prim.Native.Nat.{ℕ, _+_, _≤_}
 use native.Mathlib.Omega.{arith}
 use borrow.Author.Tests.{leb-true}
-use Rattle.wire.specs.Message.{Message, isResponse}
-use Rattle.records.specs.Setups.{validSetup}
-use Rattle.records.specs.Records.{hasRecord}
+use Rattle.wire.specs.message.Message.{Message, isResponse}
+use Rattle.own.specs.records.Setups.{validSetup}
+use Rattle.own.specs.records.Records.{hasRecord}
 use Rattle.claims.specs.Time.{lastTime, afterMs, marked}
 use Rattle.claims.specs.Claims.{claimOf, heldNow}
 use Rattle.claims.specs.Records.{Own, has, sentOf, claimFor}
@@ -21,18 +21,18 @@ use Rattle.claims.specs.declared.Sent.{Sent}
 use Rattle.claims.specs.declared.Multicasts.{Multicasts}
 use Rattle.claims.specs.declared.Records.{Records}
 use Rattle.claims.specs.declared.Life.{Life}
-use Rattle.steps.specs.Steps.{claimDue, takenStep, recordsOf}
-use Rattle.steps.specs.Tick.{under, concerns}
-use Rattle.steps.specs.declared.Step.the-variants as step
-use Rattle.steps.specs.declared.Output.{Output}
-use Rattle.steps.specs.declared.Output.the-variants.{Nothing, Probe, Response}
-use Rattle.steps.proofs.Ticks.{sentBy, tick-sent}
-use Rattle.steps.proofs.Moves.{Move, stays, probes, announces, repeats, tick-move}
-use Rattle.answers.specs.Answers.{receiveOf}
-use Rattle.answers.specs.declared.Facts.{Facts}
-use Rattle.answers.proofs.Causes.{IsDue, only-due, at-once}
-use Rattle.scan.specs.Facts.{factsOf}
-use Rattle.compose.specs.Own.{responseRecords, responseOf, probeOf}
+use Rattle.claims.specs.steps.Steps.{claimDue, takenStep, recordsOf}
+use Rattle.claims.specs.steps.Tick.{under, concerns}
+use Rattle.claims.specs.declared.steps.Step.the-variants as step
+use Rattle.claims.specs.declared.steps.Output.{Output}
+use Rattle.claims.specs.declared.steps.Output.the-variants.{Nothing, Probe, Response}
+use Rattle.claims.proofs.steps.Ticks.{sentBy, tick-sent}
+use Rattle.claims.proofs.steps.Moves.{Move, stays, probes, announces, repeats, tick-move}
+use Rattle.claims.specs.answers.Answers.{receiveOf}
+use Rattle.claims.specs.declared.answers.Facts.{Facts}
+use Rattle.claims.proofs.answers.Causes.{IsDue, only-due, at-once}
+use Rattle.facts.specs.Facts.{factsOf}
+use Rattle.writer.specs.own_packets.Own.{responseRecords, responseOf, probeOf}
 use Rattle.responder.specs.Calls as calls
 use Rattle.responder.specs.Calls.{listed, walkedOf}
 use Rattle.responder.specs.declared.State.{State}

@@ -7,8 +7,8 @@ use Prim.Native.Nat.{ℕ}
 use native.Mathlib.Omega.{arith}
 use lib.Dec.{eqb}
 use borrow.Author.Tests.{eqb-true, eq-eqb}
-use Rattle.records.specs.declared.Setup.{Setup}
-use Rattle.records.specs.Records.{hasRecord, ownLabels, ownName, ownType, ownTtl, ownClass, ownRdata}
+use Rattle.own.specs.declared.records.Setup.{Setup}
+use Rattle.own.specs.records.Records.{hasRecord, ownLabels, ownName, ownType, ownTtl, ownClass, ownRdata}
 use Rattle.claims.specs.Records.{Own, PTR, SRV, TXT, A, AAAA, claimFor, present}
 use Rattle.link.specs.Responder.{Claim, instance, host}
 use Rattle.uniqueness.specs.Responder.{kindOf, indexOf, recordOf, dataOf, rdata, name}

@@ -13,9 +13,9 @@ use mathlib.Mathlib.Data.Bool.Basic.{or-eq-false-eq-eq-false-and-eq-false as nei
 use Rattle.claims.specs.Time.{lastTime}
 use Rattle.claims.specs.Claims.{dueOf, replyDueOf}
 use Rattle.claims.specs.Refusals.{lateStart, wrongTime}
-use Rattle.steps.specs.Steps.{dueBy, claimDue, replyDue, moreDue}
-use Rattle.steps.proofs.Ticks.{tick-last}
-use Rattle.steps.proofs.Settles.{three-ticks}
+use Rattle.claims.specs.steps.Steps.{dueBy, claimDue, replyDue, moreDue}
+use Rattle.claims.proofs.steps.Ticks.{tick-last}
+use Rattle.claims.proofs.steps.Settles.{three-ticks}
 use Rattle.responder.specs.Refusals.{smallBuffer, tickRefusal}
 use Rattle.responder.specs.Calls.{answerOf, packets, walkedOf, tickedPacket, tickOf}
 use Rattle.responder.specs.Runs.{ticked}

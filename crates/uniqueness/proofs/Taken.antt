@@ -7,8 +7,8 @@ use mathlib.Core.Option.{Option, some}
 use mathlib.Core.List.{List, [], _∷_}
 use Prim.Native.Nat.{ℕ, _≤_}
 use native.Mathlib.Omega.{arith}
-use Rattle.wire.specs.Message.{Message}
-use Rattle.wire.specs.Layout.{Reads, read, refused, messageAt}
+use Rattle.wire.specs.message.Message.{Message}
+use Rattle.wire.specs.message.Layout.{Reads, read, refused, messageAt}
 use Rattle.claims.specs.Refusals.{wrongTime, wrongReplyDraw}
 use Rattle.responder.specs.Refusals.{smallBuffer, wrongState, readRefusal, byPort, orElse, receiveRefusal}
 use Rattle.responder.specs.declared.State.{State}

@@ -4,9 +4,9 @@ use mathlib.Core.Bool.{Bool, true, false}
 use mathlib.Core.List.{List, [], _∷_}
 use lib.ListN.{replicate}
 use Prim.Native.Nat.{ℕ, _+_}
-use Rattle.records.specs.declared.Setup.{Setup}
-use Rattle.records.specs.declared.Claim.the-variants.{Instance, Host}
-use Rattle.compose.specs.Own.{responsePacket, probePacket}
+use Rattle.own.specs.declared.records.Setup.{Setup}
+use Rattle.own.specs.declared.records.Claim.the-variants.{Instance, Host}
+use Rattle.writer.specs.own_packets.Own.{responsePacket, probePacket}
 use Rattle.link.specs.Entries.{Call, starts, ticks, receives, cut, Entry}
 use Rattle.uniqueness.specs.Responder.{responder}
 

@@ -1,22 +1,22 @@
--- Our responder (the dock of paper 01) as a `Responder` of `link`: its calls are what the contracts of start, receive and tick give outright, its names and
+-- Our responder (the dock of the specification) as a `Responder` of `link`: its calls are what the contracts of start, receive and tick give outright, its names and
 -- data are the set-up's, and conflicting and later are the tests that receive itself makes. Assumes nothing: these are definitions.
 use mathlib.Core.Bool.{Bool, cond, _&&_}
 use mathlib.Core.Option.{Option, none, some}
 use mathlib.Core.List.{List, [], _∷_, _++_}
 use Prim.Native.Nat.{ℕ}
 use lib.Dec.{eqb}
-use Rattle.fold.specs.Fold.{sameName}
-use Rattle.wire.specs.Message.{Record, Message, isResponse, allRecords}
-use Rattle.wire.specs.Layout.{Reads, read, refused, messageAt}
-use Rattle.records.specs.declared.Setup.{Setup}
-use Rattle.records.specs.declared.Claim as own
-use Rattle.records.specs.Records.{hasRecord, ownRdata}
+use Rattle.wire.specs.case_folding.Fold.{sameName}
+use Rattle.wire.specs.message.Message.{Record, Message, isResponse, allRecords}
+use Rattle.wire.specs.message.Layout.{Reads, read, refused, messageAt}
+use Rattle.own.specs.declared.records.Setup.{Setup}
+use Rattle.own.specs.declared.records.Claim as own
+use Rattle.own.specs.records.Records.{hasRecord, ownRdata}
 use Rattle.claims.specs.Claims.{dueOf, replyDueOf}
 use Rattle.claims.specs.declared.Kind.{Kind}
 use Rattle.claims.specs.declared.Kind.the-variants.{Instance, Host}
 use Rattle.claims.specs.Records.{Own, PTR, SRV, TXT, A, AAAA}
-use Rattle.probe.specs.Probe.{some as someOf, isProbe, under}
-use Rattle.scan.specs.Facts.{inConflict, claimName, theirsLater}
+use Rattle.facts.specs.probe.Probe.{some as someOf, isProbe, under}
+use Rattle.facts.specs.Facts.{inConflict, claimName, theirsLater}
 use Rattle.responder.specs.Calls.{claimFor, startOf, receivedPacket, receiveOf, tickedPacket, tickOf}
 use Rattle.responder.specs.declared.State.{State}
 use Rattle.responder.specs.declared.Answer.{Answer}

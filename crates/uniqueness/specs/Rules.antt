@@ -5,10 +5,10 @@ use mathlib.Core.Bool.{Bool, true, false}
 use mathlib.Core.Option.{Option, none, some}
 use mathlib.Core.List.{List, [], _∷_}
 use Prim.Native.Nat.{ℕ, _≤_}
-use Rattle.wire.specs.Message.{Message, isResponse}
-use Rattle.records.specs.declared.Setup.{Setup}
-use Rattle.records.specs.Setups.{validSetup}
-use Rattle.records.specs.Records.{hasRecord}
+use Rattle.wire.specs.message.Message.{Message, isResponse}
+use Rattle.own.specs.declared.records.Setup.{Setup}
+use Rattle.own.specs.records.Setups.{validSetup}
+use Rattle.own.specs.records.Records.{hasRecord}
 use Rattle.claims.specs.Time.{lastTime}
 use Rattle.claims.specs.Claims as claims
 use Rattle.claims.specs.Records.{Own, sentOf}
@@ -18,12 +18,12 @@ use Rattle.claims.specs.declared.Sent.{Sent}
 use Rattle.claims.specs.declared.Sent.the-variants.{Never, At}
 use Rattle.claims.specs.declared.Multicasts.{Multicasts}
 use Rattle.claims.specs.declared.Life.{Life}
-use Rattle.steps.specs.declared.Output.{Output}
-use Rattle.steps.specs.declared.Output.the-variants.{Nothing, Probe, Response}
-use Rattle.answers.specs.Answers as answers
-use Rattle.answers.specs.declared.Received as heard
-use Rattle.scan.specs.Facts.{factsOf}
-use Rattle.compose.specs.Own.{ownRecord, responseRecords, responseOf, probeOf}
+use Rattle.claims.specs.declared.steps.Output.{Output}
+use Rattle.claims.specs.declared.steps.Output.the-variants.{Nothing, Probe, Response}
+use Rattle.claims.specs.answers.Answers as answers
+use Rattle.claims.specs.declared.answers.Received as heard
+use Rattle.facts.specs.Facts.{factsOf}
+use Rattle.writer.specs.own_packets.Own.{ownRecord, responseRecords, responseOf, probeOf}
 use Rattle.responder.specs.Calls.{claimFor, listed, walkedOf}
 use Rattle.responder.specs.declared.State.{State}
 use Rattle.link.specs.Responder.{Claim}

@@ -6,13 +6,13 @@ use Prim.Native.Nat.{ℕ, suc, _+_, _-_, _/_, _%_, _<_, _≤_}
 use native.Mathlib.Omega.{arith}
 use lib.ListN.{length, take, drop, set, length-append, length-take}
 use lib.Seq.{sets, length-take-le}
-use Rattle.names.specs.Names.{isName}
-use Rattle.octets.proofs.Sets.{sets-append}
-use Rattle.compression.specs.declared.Place.{Place}
-use Rattle.compression.specs.declared.Place.the-variants.{At, Nowhere}
-use Rattle.compression.specs.declared.Cut.{Cut}
-use Rattle.compression.specs.Compression.{cutFrom, cutOf, pointerTo, endOf, nameBytes, starts, namePlaces, labelsIn}
-use Rattle.compression.proofs.Written.{name-short, places-few, cut-within, kept-most}
+use Rattle.wire.specs.names.Names.{isName}
+use Rattle.wire.proofs.octets.Sets.{sets-append}
+use Rattle.writer.specs.declared.compression.Place.{Place}
+use Rattle.writer.specs.declared.compression.Place.the-variants.{At, Nowhere}
+use Rattle.writer.specs.declared.compression.Cut.{Cut}
+use Rattle.writer.specs.compression.Compression.{cutFrom, cutOf, pointerTo, endOf, nameBytes, starts, namePlaces, labelsIn}
+use Rattle.writer.proofs.compression.Written.{name-short, places-few, cut-within, kept-most}
 use Rattle.writer.specs.Items.{u16}
 use Rattle.writer.specs.Writer.{spotOf, Wrote, NameReady}
 

@@ -9,10 +9,10 @@ use lib.ListN.{length, take, drop, length-append}
 use lib.Seq.{sets, length-sets, length-take-le}
 use lib.Dec.{leb}
 use mathlib.Mathlib.Data.Bool.Basic.{and-eq-true-eq-eq-true-and-eq-true as both}
-use Rattle.octets.proofs.Sets.{sets-append}
-use Rattle.names.specs.Names.{isName}
-use Rattle.compression.specs.Compression.{nameBytes, namePlaces, labelsIn}
-use Rattle.compression.proofs.Written.{name-short, places-few}
+use Rattle.wire.proofs.octets.Sets.{sets-append}
+use Rattle.wire.specs.names.Names.{isName}
+use Rattle.writer.specs.compression.Compression.{nameBytes, namePlaces, labelsIn}
+use Rattle.writer.proofs.compression.Written.{name-short, places-few}
 use Rattle.writer.specs.declared.Spot.{Spot}
 use Rattle.writer.specs.Items.{u16, fields, dataBytes, dataPlaces, putName, putFields, putRecord, putQuestion}
 use Rattle.writer.specs.Writer.{heldIn, spotOf, questionOf, recordOf, namesFit, labelsFor, nameFits, recordFits, Wrote, Grown, NameReady, DataReady}

@@ -9,12 +9,12 @@ use lib.ListN.{length, take, drop, length-append, length-drop}
 use lib.Seq.{sets, length-sets, length-take-le, take-all}
 use lib.Dec.{leb}
 use mathlib.Mathlib.Data.Bool.Basic.{and-eq-true-eq-eq-true-and-eq-true as both}
-use Rattle.octets.proofs.Sets.{sets-append}
-use Rattle.names.specs.Names.{isName}
-use Rattle.rdata.specs.Answers.{targetIn}
-use Rattle.expansion.specs.Opened.{namesIn}
-use Rattle.compression.specs.Compression.{nameBytes, namePlaces, labelsIn}
-use Rattle.compression.proofs.Written.{name-short, places-few}
+use Rattle.wire.proofs.octets.Sets.{sets-append}
+use Rattle.wire.specs.names.Names.{isName}
+use Rattle.wire.specs.rdata.Answers.{targetIn}
+use Rattle.wire.specs.expansion.Opened.{namesIn}
+use Rattle.writer.specs.compression.Compression.{nameBytes, namePlaces, labelsIn}
+use Rattle.writer.proofs.compression.Written.{name-short, places-few}
 use Rattle.writer.specs.declared.Spot.{Spot}
 use Rattle.writer.specs.Items.{dataBytes, dataPlaces}
 use Rattle.writer.specs.Writer.{spotOf, namesFit, labelsFor, Wrote, NameReady, DataReady}

@@ -6,7 +6,7 @@ use native.Mathlib.Numerals.{add-one}
 use native.Mathlib.Omega.{arith}
 use lib.ListN.{length, getD, drop, set, drop-of-length-le}
 use lib.Seq.{sets, drop-cons, drop-drop}
-use Rattle.compression.specs.Compression.{starts, labelsIn}
+use Rattle.writer.specs.compression.Compression.{starts, labelsIn}
 
 -- the bytes of a label are passed over, also where it runs past the end
 past : (a k : ℕ) (bs : List ℕ) → starts a k bs ≡ starts (a + k) 0 (drop k bs)

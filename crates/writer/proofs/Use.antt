@@ -6,10 +6,10 @@ use Prim.Native.Nat.{ℕ, _+_, _≤_}
 use native.Mathlib.Omega.{arith}
 use lib.ListN.{length, take, drop, length-append}
 use lib.Seq.{take-at}
-use Rattle.names.specs.Names.{isName}
-use Rattle.compression.specs.Compression.{nameBytes, namePlaces, labelsIn}
-use Rattle.compression.proofs.Written.{name-short, places-few}
-use Rattle.wire.specs.Message.{Question, Record}
+use Rattle.wire.specs.names.Names.{isName}
+use Rattle.writer.specs.compression.Compression.{nameBytes, namePlaces, labelsIn}
+use Rattle.writer.proofs.compression.Written.{name-short, places-few}
+use Rattle.wire.specs.message.Message.{Question, Record}
 use Rattle.writer.specs.declared.Spot.{Spot}
 use Rattle.writer.specs.declared.Placed.{Placed}
 use Rattle.writer.specs.declared.Placed.the-variants.{Done}

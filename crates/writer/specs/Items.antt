@@ -1,14 +1,14 @@
--- A question and a record as bytes behind a packet (paper 01, 'Writing a packet': "Every name, SRV and PTR rdata too, is cut at its longest suffix of
+-- A question and a record as bytes behind a packet (specification, 'Writing a packet': "Every name, SRV and PTR rdata too, is cut at its longest suffix of
 -- whole labels that stands earlier byte for byte in a name of the packet (never in TXT or other data)"; RFC 1035, 4.1.2 and 4.1.3). Both are the
 -- reader's own: names and rdata expanded. Assumes nothing: these are definitions.
 use Prim.Native.Nat.{ℕ, _+_, _/_, _%_}
 use mathlib.Core.List.{List, [], _∷_, _++_}
 use mathlib.Core.Bool.{cond}
 use lib.ListN.{length, take, drop}
-use Rattle.rdata.specs.Answers.{targetIn}
-use Rattle.expansion.specs.Opened.{namesIn}
-use Rattle.compression.specs.Compression.{nameBytes, namePlaces}
-use Rattle.wire.specs.Message.{Question, Record}
+use Rattle.wire.specs.rdata.Answers.{targetIn}
+use Rattle.wire.specs.expansion.Opened.{namesIn}
+use Rattle.writer.specs.compression.Compression.{nameBytes, namePlaces}
+use Rattle.wire.specs.message.Message.{Question, Record}
 
 -- A packet under construction: its bytes, and the offsets at which labels of its names start.
 pub record Writing : Type 0 where

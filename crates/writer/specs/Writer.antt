@@ -1,4 +1,4 @@
--- The general writer (paper 01, 'Writing a packet', for any names): a question or a record, put into a lent buffer behind what was written before, or
+-- The general writer (specification, 'Writing a packet', for any names): a question or a record, put into a lent buffer behind what was written before, or
 -- the answer that it does not fit. Assumes nothing: these are definitions.
 use Prim.Native.Nat.{ℕ, _+_, _≤_}
 use mathlib.Core.Path.{_≡_}
@@ -7,11 +7,11 @@ use mathlib.Core.Bool.{Bool, true, cond, _&&_}
 use lib.ListN.{length, take, drop}
 use lib.Seq.{sets}
 use lib.Dec.{leb}
-use Rattle.names.specs.Names.{isName}
-use Rattle.rdata.specs.Answers.{targetIn}
-use Rattle.expansion.specs.Opened.{namesIn}
-use Rattle.compression.specs.Compression.{labelsIn}
-use Rattle.wire.specs.Message.{Question, Record}
+use Rattle.wire.specs.names.Names.{isName}
+use Rattle.wire.specs.rdata.Answers.{targetIn}
+use Rattle.wire.specs.expansion.Opened.{namesIn}
+use Rattle.writer.specs.compression.Compression.{labelsIn}
+use Rattle.wire.specs.message.Message.{Question, Record}
 use Rattle.writer.specs.Items.{Writing}
 use Rattle.writer.specs.declared.Spot.{Spot}
 use Rattle.writer.specs.declared.Placed.{Placed}

@@ -1,14 +1,17 @@
-// The general writer (paper 01, 'Writing a packet': "Every name, SRV and PTR rdata too, is cut at its longest suffix of whole labels that stands
+// The general writer (specification, 'Writing a packet': "Every name, SRV and PTR rdata too, is cut at its longest suffix of whole labels that stands
 // earlier"): puts a question or a record of any names behind the packet in a lent buffer, or answers that it does not fit.
-use compression::Place;
+pub mod compression;
+pub mod own_packets;
+
+use crate::compression::Place;
 ghost use mathlib.Core.Path.{_≡_};
 ghost use mathlib.Core.Bool.{true};
 ghost use Prim.Native.Nat.{_+_, _≤_, _<_};
 ghost use lib.ListN.{length, take};
 ghost use lib.Seq.{sets};
-ghost use Rattle.rdata.specs.Answers.{targetIn};
-ghost use Rattle.expansion.specs.Opened.{namesIn};
-ghost use Rattle.compression.specs.Compression.{nameBytes, namePlaces, starts, labelsIn};
+ghost use Rattle.wire.specs.rdata.Answers.{targetIn};
+ghost use Rattle.wire.specs.expansion.Opened.{namesIn};
+ghost use Rattle.writer.specs.compression.Compression.{nameBytes, namePlaces, starts, labelsIn};
 ghost use Rattle.writer.specs.Items.{u16, fields, dataBytes, dataPlaces, putQuestion, putRecord};
 ghost use Rattle.writer.specs.Writer.{heldIn, questionOf, recordOf, namesFit, labelsFor, nameFits, questionFits, recordFits, Placing, Wrote, Grown, NameReady, DataReady};
 
@@ -87,10 +90,10 @@ fn put_name(
         (namePlaces (take known (now (out .entry))) (take count (now (places .entry))) at (now (name .entry)))
         at count (now (out .entry)) (now (places .entry)) r (now (out .exit)) (now (places .exit)) ⌝ }
 {
-    let cut = compression::cut_of(&out[..known], &places[..count], name);
+    let cut = crate::compression::cut_of(&out[..known], &places[..count], name);
     let kept = cut.kept;
     let place = cut.place;
-    lay::put(out, at, &name[..kept]);
+    wire::buffer::put(out, at, &name[..kept]);
     let noted = note_starts(places, count, at, &name[..kept]);
     let end = at + kept;
     match place {
@@ -115,17 +118,17 @@ fn put_name(
 fn names_in(rtype: u16) -> bool
     ensures { λ r. ⌜ r ≡ namesIn rtype ⌝ }
 {
-    if rtype == rdata::PTR {
+    if rtype == wire::rdata::PTR {
         return true;
     }
-    rtype == rdata::SRV
+    rtype == wire::rdata::SRV
 }
 
 // Where the name in the rdata of a type starts.
 fn target_in(rtype: u16) -> usize
     ensures { λ r. ⌜ r ≡ targetIn rtype ⌝ }
 {
-    if rtype == rdata::SRV {
+    if rtype == wire::rdata::SRV {
         return 6;
     }
     0
@@ -148,10 +151,10 @@ fn put_data(
 {
     if names_in(rtype) {
         let head = target_in(rtype);
-        lay::put(out, at, &d[..head]);
+        wire::buffer::put(out, at, &d[..head]);
         return put_name(out, known, at + head, places, count, &d[head..]);
     }
-    lay::put(out, at, d);
+    wire::buffer::put(out, at, d);
     Spot {
         end: at + d.len(),
         count,
@@ -233,7 +236,7 @@ fn name_fits(
 ) -> bool
     ensures { λ r. ⌜ r ≡ nameFits at count (now (name .entry)) more also room slots ⌝ }
 {
-    if !names::is_name(name) {
+    if !wire::names::is_name(name) {
         return false;
     }
     if room < at {
@@ -272,7 +275,7 @@ fn names_fit(rtype: u16, d: &[u8]) -> bool
     if d.len() < head {
         return false;
     }
-    names::is_name(&d[head..])
+    wire::names::is_name(&d[head..])
 }
 
 // How many labels the name in the rdata of PTR and SRV has.

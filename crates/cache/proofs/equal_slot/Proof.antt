@@ -4,9 +4,9 @@ use mathlib.Core.Path.{_≡_, sym, _∙_}
 use Prim.Native.Nat.{_≤_, _-_}
 use native.Mathlib.Omega.{arith}
 use lib.ListN.{length, drop}
-use Rattle.entries.specs.Entries.{holds}
-use Rattle.entries.specs.Tables.{lowest}
-use Rattle.entries.proofs.Searches.{lowest-here, lowest-on, lowest-end}
+use Rattle.cache.specs.entries.Entries.{holds}
+use Rattle.cache.specs.entries.Tables.{lowest}
+use Rattle.cache.proofs.entries.Searches.{lowest-here, lowest-on, lowest-end}
 use Rattle.cache.proofs.equal_slot.Statement.{statement}
 use Rattle.cache.proofs.equal_slot.Tie as tie
 

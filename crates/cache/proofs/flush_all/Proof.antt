@@ -5,9 +5,9 @@ use Prim.Native.Nat.{_≤_, _-_}
 use native.Mathlib.Omega.{arith}
 use mathlib.Core.List.{_++_}
 use lib.ListN.{length, take, drop}
-use Rattle.entries.specs.Entries.{flushed}
-use Rattle.entries.specs.Tables.{each}
-use Rattle.entries.proofs.Searches.{each-on, each-end}
+use Rattle.cache.specs.entries.Entries.{flushed}
+use Rattle.cache.specs.entries.Tables.{each}
+use Rattle.cache.proofs.entries.Searches.{each-on, each-end}
 use Rattle.cache.proofs.flush_all.Statement.{statement}
 use Rattle.cache.proofs.flush_all.Tie as tie
 

@@ -1,13 +1,13 @@
 -- `cache::free_slot` meets its contract. Assumes nothing.
-use Rattle.entries.proofs.Single.{free-of}
+use Rattle.cache.proofs.entries.Single.{free-of}
 use borrow.Author.Needs.{needs}
 use mathlib.Core.Path.{_≡_, _∙_}
 use Prim.Native.Nat.{_≤_, _-_}
 use native.Mathlib.Omega.{arith}
 use lib.ListN.{length, drop}
-use Rattle.entries.specs.Entries.{isFree}
-use Rattle.entries.specs.Tables.{lowest}
-use Rattle.entries.proofs.Searches.{lowest-here, lowest-on, lowest-end}
+use Rattle.cache.specs.entries.Entries.{isFree}
+use Rattle.cache.specs.entries.Tables.{lowest}
+use Rattle.cache.proofs.entries.Searches.{lowest-here, lowest-on, lowest-end}
 use Rattle.cache.proofs.free_slot.Statement.{statement}
 use Rattle.cache.proofs.free_slot.Tie as tie
 

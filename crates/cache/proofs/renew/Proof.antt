@@ -1,6 +1,6 @@
 -- `cache::renew` meets its contract. Assumes nothing.
 use native.Mathlib.Omega.{arith}
-use Rattle.entries.specs.Cache.{freeSlot}
+use Rattle.cache.specs.entries.Cache.{freeSlot}
 use Rattle.cache.proofs.Steps.{in-table, renewed-at, renewed-none}
 use borrow.Author.Needs.{needs}
 use Rattle.cache.proofs.renew.Statement.{statement}

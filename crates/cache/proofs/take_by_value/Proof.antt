@@ -1,7 +1,7 @@
 -- `cache::take_by_value` meets its contract. Assumes nothing.
 use mathlib.Core.Path.{_≡_, sym, _∙_}
 use native.Mathlib.Omega.{arith}
-use Rattle.wire.proofs.Cursor.{as-read, as-refused}
+use Rattle.wire.proofs.message.Cursor.{as-read, as-refused}
 use Rattle.cache.proofs.Refusing.{bad-entries, bad-store, short, too-big, other-port, malformed, accepts, has-room}
 use borrow.Author.Needs.{needs}
 use Rattle.cache.proofs.take_by_value.Statement.{statement}

@@ -1,6 +1,6 @@
 -- `cache::take_content` meets its contract. Assumes nothing.
 use native.Mathlib.Omega.{arith}
-use Rattle.entries.specs.Cache.{equalSlot}
+use Rattle.cache.specs.entries.Cache.{equalSlot}
 use Rattle.cache.proofs.Steps.{too-long, says-goodbye, renews}
 use borrow.Author.Needs.{needs}
 use Rattle.cache.proofs.take_content.Statement.{statement}

@@ -2,8 +2,8 @@
 use borrow.Author.Needs.{needs}
 use native.Mathlib.Omega.{arith}
 use Prim.Native.Nat.{_+_}
-use Rattle.wire.specs.Layout.{listFrom, recordAt}
-use Rattle.entries.specs.Cache.{takeRecords}
+use Rattle.wire.specs.message.Layout.{listFrom, recordAt}
+use Rattle.cache.specs.entries.Cache.{takeRecords}
 use Rattle.cache.specs.Kept.{cacheOf, recordsIn}
 use Rattle.cache.proofs.Going.{Going, begins, room, ends, never, lies, on}
 use Rattle.cache.proofs.take_section.Statement.{statement}

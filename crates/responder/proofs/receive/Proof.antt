@@ -1,4 +1,4 @@
-use Rattle.wire.specs.Layout.{messageAt}
+use Rattle.wire.specs.message.Layout.{messageAt}
 use mathlib.Core.Path.{refl}
 use Rattle.responder.proofs.Reading.{refused-number, by-port-refuses, said-number, said-heard}
 use Rattle.responder.proofs.Refusing.{told, can-send, receive-1, receive-2, receive-3, receive-message, receive-5, receive-7, receive-0}

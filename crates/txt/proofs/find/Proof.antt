@@ -4,7 +4,7 @@ use mathlib.Core.Path.{_≡_, refl, sym, _∙_}
 use Prim.Native.Nat.{_≤_, _-_}
 use native.Mathlib.Omega.{arith}
 use lib.ListN.{length, drop}
-use Rattle.rdata.specs.Rdata.{stringsFill}
+use Rattle.wire.specs.rdata.Rdata.{stringsFill}
 use Rattle.txt.specs.Txt.{stringsFrom, firstWith}
 use Rattle.txt.specs.Lookup.{answerOf, inTxt}
 use Rattle.txt.proofs.Strings.{string-in, fill-rest, found, not-found, from-start, no-more}

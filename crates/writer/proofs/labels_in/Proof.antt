@@ -5,7 +5,7 @@ use native.Mathlib.Nat.{zero-add}
 use mathlib.Core.Path.{sym}
 use lib.ListN.{length, drop}
 use native.Mathlib.Omega.{arith}
-use Rattle.compression.specs.Compression.{starts, labelsIn}
+use Rattle.writer.specs.compression.Compression.{starts, labelsIn}
 use Rattle.writer.proofs.Starts.{count-end, count-root, count-on}
 use Rattle.writer.proofs.labels_in.Statement.{statement}
 use Rattle.writer.proofs.labels_in.Tie as tie

@@ -7,7 +7,7 @@ use Rattle.writer.proofs.name_fits.Tie as tie
 use Rattle.writer.proofs.name_fits.Reads as reads
 use Rattle.writer.proofs.name_fits.Lts as lts
 use Rattle.writer.proofs.labels_in.Reads as labels-in-reads
-use Rattle.names.proofs.is_name.Reads as is-name-reads
+use Rattle.wire.proofs.names.is_name.Reads as is-name-reads
 
 is-name-requires : tie.Need-is-name-requires
 is-name-requires c κs = search needs

@@ -7,7 +7,7 @@ use Rattle.writer.proofs.names_fit.Reads as reads
 use Rattle.writer.proofs.names_fit.Lts as lts
 use Rattle.writer.proofs.names_in.Reads as names-in-reads
 use Rattle.writer.proofs.target_in.Reads as target-in-reads
-use Rattle.names.proofs.is_name.Reads as is-name-reads
+use Rattle.wire.proofs.names.is_name.Reads as is-name-reads
 
 names-in-requires : tie.Need-names-in-requires
 names-in-requires c κs = search needs

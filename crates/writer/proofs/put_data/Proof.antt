@@ -8,7 +8,7 @@ use Rattle.writer.proofs.put_data.Tie as tie
 use Rattle.writer.proofs.put_data.Reads as reads
 use Rattle.writer.proofs.put_data.Lts as lts
 use Rattle.writer.proofs.names_in.Reads as names-in-reads
-use Rattle.lay.proofs.put.Reads as put-reads
+use Rattle.wire.proofs.buffer.put.Reads as put-reads
 use Rattle.writer.proofs.put_name.Reads as put-name-reads
 use Rattle.writer.proofs.target_in.Reads as target-in-reads
 

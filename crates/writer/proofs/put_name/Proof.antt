@@ -2,7 +2,7 @@ use native.Mathlib.Omega.{arith}
 use mathlib.Core.Path.{_≡_, sym, ap, _∙_}
 use lib.ListN.{length, take}
 use lib.Seq.{length-take-le, length-sets}
-use Rattle.compression.specs.declared.Place.the-variants.{At, Nowhere}
+use Rattle.writer.specs.declared.compression.Place.the-variants.{At, Nowhere}
 use Rattle.writer.proofs.Cutting.{kept-fits, kept-long, room-kept, room-noted, room-end, pointer-small, wrote-pointer, wrote-root}
 use borrow.Author.Needs.{needs}
 use Rattle.writer.proofs.put_name.Statement.{statement}
@@ -10,9 +10,9 @@ use Rattle.writer.proofs.put_name.Tie as tie
 use Rattle.writer.proofs.put_name.Reads as reads
 use Rattle.writer.proofs.put_name.Lts as lts
 use Rattle.writer.proofs.note_starts.Reads as note-starts-reads
-use Rattle.lay.proofs.put.Reads as put-reads
+use Rattle.wire.proofs.buffer.put.Reads as put-reads
 use Rattle.writer.proofs.put_u16.Reads as put-u16-reads
-use Rattle.compression.proofs.cut_of.Reads as cut-of-reads
+use Rattle.writer.proofs.compression.cut_of.Reads as cut-of-reads
 
 slice-reshare-prefix-cut-of : tie.Need-slice-reshare-prefix-cut-of
 slice-reshare-prefix-cut-of c = search needs

@@ -1,4 +1,0 @@
--- Laws of a packet received. For callers: Causes (a record asked for is left out exactly for a cause of paper 01), Receives (what every packet received
--- keeps).
-pub mod Causes
-pub mod Receives

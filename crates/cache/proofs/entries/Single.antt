@@ -1,0 +1,108 @@
+-- The tests and rules on one entry, from what the code has tested. Assumes nothing.
+use mathlib.Core.Path.{_≡_, refl, sym, ap, _∙_}
+use mathlib.Core.List.{List, []}
+use mathlib.Core.Bool.{Bool, true, false, not, and-false}
+use Prim.Native.Nat.{ℕ, _+_, _*_, _/_, _<_, _≤_}
+use native.Mathlib.Omega.{arith}
+use lib.ListN.{length, take, drop, drop-of-length-le}
+use lib.Dec.{ltb}
+use borrow.Author.Tests.{lt-ltb, le-ltb, le-leb, lt-leb, eq-eqb, ne-eqb}
+use Rattle.wire.specs.case_folding.Fold.{sameName}
+use Rattle.wire.specs.rdata.Answers.{startIn}
+use Rattle.wire.specs.expansion.Equal.{sameBytes}
+use Rattle.cache.specs.entries.Entries.{slotOf, isLive, isFree, isOf, liveOf, matches, holds, until, lesser, soon, flushed, tooLong}
+use Rattle.cache.specs.declared.entries.Entry.{Entry}
+
+-- a slot past the store's end has no bytes
+pub slot-past : (store : List ℕ) (i : ℕ) → length store / 1024 < i → [] ≡ slotOf store i
+slot-past store i h =
+    let l : length store ≤ 1024 * i = omega arith in
+    sym (ap (take 1024) (drop-of-length-le store l))
+
+pub start-past : (store : List ℕ) (i : ℕ) (place : ℕ × ℕ) → length store / 1024 < i → startIn store (length store) place ≡ startIn store (1024 * i) place
+start-past store i place h =
+    let l : length store < 1024 * i = omega arith in
+    rw (le-leb (length store) (length store) (omega arith), lt-leb (1024 * i) (length store) l) refl
+
+module _ (store name : List ℕ) (rtype i : ℕ) (e : Entry) where
+  pub of-type : (e .rtype ≡ rtype → ⊥) → false ≡ isOf store name rtype i e
+  unfolding isOf
+  of-type h = sym (simp (ne-eqb _ _ h))
+
+  pub of-length : e .rtype ≡ rtype → (e .owner ≡ length name → ⊥) → false ≡ isOf store name rtype i e
+  unfolding isOf
+  of-length t h = sym (simp (eq-eqb _ _ t, ne-eqb _ _ h))
+
+  pub of-name : e .rtype ≡ rtype → e .owner ≡ length name → (r : Bool) (slot part : List ℕ) → slot ≡ slotOf store i → part ≡ take (e .owner) slot → r ≡ sameName part name → r ≡ isOf store name rtype i e
+  unfolding isOf
+  of-name t l r slot part s p h =
+      h ∙ ap (λ (b : List ℕ). sameName b name) (p ∙ ap (take (e .owner)) s) ∙ sym (simp (eq-eqb _ _ t, eq-eqb _ _ l))
+
+module _ (now : ℕ) (store name : List ℕ) (rtype i : ℕ) (e : Entry) where
+  pub live-not : isLive now e ≡ false → false ≡ liveOf now store name rtype i e
+  unfolding liveOf
+  live-not h = sym (simp h)
+
+  pub live-of : isLive now e ≡ true → (r : Bool) → r ≡ isOf store name rtype i e → r ≡ liveOf now store name rtype i e
+  unfolding liveOf
+  live-of h r k = k ∙ sym (simp h)
+
+  pub holds-length : (d : List ℕ) → (e .rdata ≡ length d → ⊥) → false ≡ holds now store name rtype d i e
+  unfolding holds
+  holds-length d h = sym (simp (ne-eqb _ _ h) (and-false (liveOf now store name rtype i e)))
+
+  pub holds-not : (d : List ℕ) → liveOf now store name rtype i e ≡ false → false ≡ holds now store name rtype d i e
+  unfolding holds
+  holds-not d h = sym (simp h)
+
+  pub holds-bytes : (d : List ℕ) → e .rdata ≡ length d → liveOf now store name rtype i e ≡ true → (r : Bool) (slot part : List ℕ) → slot ≡ slotOf store i → part ≡ take (e .rdata) (drop 256 slot) → r ≡ sameBytes part d
+      → r ≡ holds now store name rtype d i e
+  unfolding holds
+  holds-bytes d l v r slot part s p h =
+      h ∙ ap (λ (b : List ℕ). sameBytes b d) (p ∙ ap (λ (b : List ℕ). take (e .rdata) (drop 256 b)) s) ∙ sym (simp (v, eq-eqb _ _ l))
+
+  pub flush-young : now ≤ e .received + 1000 → e ≡ flushed now store name rtype i e
+  unfolding flushed
+  flush-young h = sym (simp (le-ltb _ _ h, and-false (liveOf now store name rtype i e)))
+
+  pub flush-other : liveOf now store name rtype i e ≡ false → e ≡ flushed now store name rtype i e
+  unfolding flushed
+  flush-other h = sym (simp h)
+
+  pub flush-old : e .received + 1000 < now → liveOf now store name rtype i e ≡ true → soon now e ≡ flushed now store name rtype i e
+  unfolding flushed
+  flush-old h v = sym (simp (v, lt-ltb _ _ h))
+
+-- the lesser of the expiry and now plus 1,000
+pub soon-same : (now : ℕ) (e : Entry) → e .expiry ≤ now + 1000 → e ≡ soon now e
+unfolding soon
+soon-same now e h = sym (ap (λ (t : ℕ). until t e) (less (e .expiry) (now + 1000) h))
+  where
+    less : (a b : ℕ) → a ≤ b → lesser a b ≡ a
+    less a b h = simp (le-leb _ _ h)
+
+pub soon-less : (now : ℕ) (e : Entry) → now + 1000 < e .expiry → until (now + 1000) e ≡ soon now e
+unfolding soon
+soon-less now e h = sym (ap (λ (t : ℕ). until t e) (less (e .expiry) (now + 1000) h))
+  where
+    less : (a b : ℕ) → b < a → lesser a b ≡ b
+    less a b h = simp (lt-leb _ _ h)
+
+pub long-owner : (e : Entry) → 255 < e .owner → true ≡ tooLong e
+long-owner e h = sym (simp (lt-ltb _ _ h))
+
+pub long-rdata : (e : Entry) → e .owner ≤ 255 → ltb 768 (e .rdata) ≡ tooLong e
+long-rdata e h = sym (simp (le-ltb _ _ h))
+
+pub free-of : (now i : ℕ) (e : Entry) (b : Bool) → b ≡ isLive now e → isFree now i e ≡ not b
+unfolding isFree
+free-of now i e b h = ap not (sym h)
+
+-- a match from a slot on
+pub match-before : (now : ℕ) (store name : List ℕ) (rtype from i : ℕ) (e : Entry) → i < from → matches now store name rtype from i e ≡ false
+unfolding matches
+match-before now store name rtype from i e h = simp (lt-leb _ _ h)
+
+pub match-from : (now : ℕ) (store name : List ℕ) (rtype from i : ℕ) (e : Entry) → from ≤ i → matches now store name rtype from i e ≡ liveOf now store name rtype i e
+unfolding matches
+match-from now store name rtype from i e h = simp (le-leb _ _ h)

@@ -1,0 +1,50 @@
+-- A lookup's refusal and its answer, from what the code has tested. Assumes nothing.
+use mathlib.Core.Path.{_≡_, sym, ap, _∙_}
+use mathlib.Core.List.{List}
+use mathlib.Core.Bool.{true, false}
+use Prim.Native.Nat.{ℕ}
+use lib.ListN.{length}
+use borrow.Author.Tests.{ne-eqb}
+use Rattle.wire.specs.names.Names.{isName}
+use Rattle.cache.specs.entries.Cache.{entriesRefusal, storeRefusal, nameRefusal, firstOf, lookRefusal, lookIn}
+use Rattle.cache.specs.declared.entries.Entry.{Entry}
+use Rattle.cache.specs.declared.entries.Slot.{Slot}
+use Rattle.cache.specs.declared.entries.Slot.the-variants as s
+use Rattle.cache.specs.lookup.Answers.{lookedWith, lookedOf, lookedRefusal}
+use Rattle.cache.specs.declared.lookup.Looked.{Looked}
+use Rattle.cache.specs.declared.lookup.Looked.the-variants as l
+use Rattle.cache.proofs.lookup.Refusing.{first-of, next-of, store-good, store-bad}
+
+-- the refusals of a lookup
+module _ (n : ℕ) (store name : List ℕ) where
+  pub look-entries : (n ≡ 0 → ⊥) → n ≡ lookedRefusal n store name
+  look-entries z = sym (first-of n (firstOf (storeRefusal store) (nameRefusal name)) z)
+
+  pub look-store : n ≡ 0 → (length store ≡ 65536 → ⊥) → 8 ≡ lookedRefusal n store name
+  look-store z h = sym (next-of n (firstOf (storeRefusal store) (nameRefusal name)) z ∙ ap (λ (k : ℕ). firstOf k (nameRefusal name)) (store-bad store h))
+
+  pub look-name : n ≡ 0 → length store ≡ 65536 → isName name ≡ false → 6 ≡ lookedRefusal n store name
+  unfolding nameRefusal
+  look-name z h k = sym (next-of n (firstOf (storeRefusal store) (nameRefusal name)) z ∙ ap (λ (k : ℕ). firstOf k (nameRefusal name)) (store-good store h) ∙ simp k)
+
+  pub look-passes : n ≡ 0 → length store ≡ 65536 → isName name ≡ true → 0 ≡ lookedRefusal n store name
+  unfolding nameRefusal
+  look-passes z h k = sym (next-of n (firstOf (storeRefusal store) (nameRefusal name)) z ∙ ap (λ (k : ℕ). firstOf k (nameRefusal name)) (store-good store h) ∙ simp k)
+
+-- the answer of a lookup
+module _ (now : ℕ) (es : List Entry) (store name : List ℕ) (rtype from m : ℕ) (early : m ≡ entriesRefusal now es) (n : ℕ) (is : n ≡ lookedRefusal m store name) where
+  number : n ≡ lookRefusal now es store name
+  unfolding lookRefusal
+  number = is ∙ ap (λ (k : ℕ). lookedRefusal k store name) early
+
+  pub look-refused : (n ≡ 0 → ⊥) → l.Refused n ≡ lookedOf now es store name rtype from
+  unfolding lookedOf
+  look-refused z = go (lookIn now es store name rtype from) ∙ ap (λ (k : ℕ). lookedWith k (lookIn now es store name rtype from)) number
+    where
+      go : (x : Slot) → l.Refused n ≡ lookedWith n x
+      go (s.At i) = sym (simp (ne-eqb n 0 z))
+      go s.Nowhere = sym (simp (ne-eqb n 0 z))
+
+  pub look-slot : n ≡ 0 → (x : Slot) → x ≡ lookIn now es store name rtype from → (r : Looked) → r ≡ lookedWith 0 x → r ≡ lookedOf now es store name rtype from
+  unfolding lookedOf
+  look-slot z x h r k = k ∙ ap (λ (m : ℕ). lookedWith m x) (sym z ∙ number) ∙ ap (lookedWith (lookRefusal now es store name)) h

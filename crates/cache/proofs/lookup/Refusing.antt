@@ -1,0 +1,57 @@
+-- The refusals that both calls begin with, those of a table and of a byte store, from what the code has tested. Assumes nothing.
+use mathlib.Core.Path.{_≡_, refl, sym}
+use mathlib.Core.List.{List}
+use mathlib.Core.Bool.{Bool, true, false, cond, not, _||_}
+use Prim.Native.Nat.{ℕ, _<_, _≤_, _^_}
+use native.Mathlib.Omega.{arith}
+use lib.ListN.{length}
+use lib.Dec.{ltb, eqb}
+use borrow.Author.Tests.{lt-ltb, le-ltb, eq-eqb, ne-eqb, ltb-false}
+use Rattle.cache.specs.entries.Entries.{heardAhead, tooLong}
+use Rattle.cache.specs.entries.Tables.{some}
+use Rattle.cache.specs.entries.Cache.{entriesRefusal, storeRefusal, firstOf}
+use Rattle.cache.specs.declared.entries.Entry.{Entry}
+
+-- the entries of a table
+module _ (now : ℕ) (es : List Entry) where
+  pub late : 2 ^ 62 < now → 1 ≡ entriesRefusal now es
+  unfolding entriesRefusal
+  late h = sym (simp (lt-ltb _ _ h))
+
+  pub ahead : now ≤ 2 ^ 62 → some (heardAhead now) es ≡ true → 1 ≡ entriesRefusal now es
+  unfolding entriesRefusal
+  ahead h a = sym (simp (le-ltb _ _ h, a))
+
+  module _ (h : now ≤ 2 ^ 62) (a : some (heardAhead now) es ≡ false) (n : length es ≡ 64) where
+    pub long : some tooLong es ≡ true → 8 ≡ entriesRefusal now es
+    unfolding entriesRefusal
+    long l = sym (simp (le-ltb _ _ h, a, eq-eqb _ _ n, l))
+
+    pub passes : some tooLong es ≡ false → 0 ≡ entriesRefusal now es
+    unfolding entriesRefusal
+    passes l = sym (simp (le-ltb _ _ h, a, eq-eqb _ _ n, l))
+
+  -- a time that was not refused
+  pub not-late : entriesRefusal now es ≡ 0 → now ≤ 2 ^ 62
+  unfolding entriesRefusal
+  not-late e = go (ltb (2 ^ 62) now) refl e
+    where
+      go : (b : Bool) → ltb (2 ^ 62) now ≡ b → _≡_ {A = ℕ} (cond (b || some (heardAhead now) es) 1 (cond (not (eqb (length es) 64) || some tooLong es) 8 0)) 0 → now ≤ 2 ^ 62
+      go true h k = absurd (omega arith)
+      go false h k = ltb-false (2 ^ 62) now h
+
+-- the first of two numbers that is not 0
+pub first-of : (a b : ℕ) → (a ≡ 0 → ⊥) → firstOf a b ≡ a
+first-of a b z = simp (ne-eqb a 0 z)
+
+pub next-of : (a b : ℕ) → a ≡ 0 → firstOf a b ≡ b
+next-of a b z = simp (eq-eqb a 0 z)
+
+-- the byte store
+pub store-good : (store : List ℕ) → length store ≡ 65536 → storeRefusal store ≡ 0
+unfolding storeRefusal
+store-good store h = simp (eq-eqb _ _ h)
+
+pub store-bad : (store : List ℕ) → (length store ≡ 65536 → ⊥) → storeRefusal store ≡ 8
+unfolding storeRefusal
+store-bad store h = simp (ne-eqb _ _ h)

@@ -1,0 +1,23 @@
+-- What a lookup answers (specification, 'The cache'). Assumes nothing: these are definitions.
+use Prim.Native.Nat.{ℕ}
+use mathlib.Core.List.{List}
+use mathlib.Core.Bool.{cond}
+use lib.Dec.{eqb}
+use Rattle.cache.specs.declared.entries.Entry.{Entry}
+use Rattle.cache.specs.declared.entries.Slot.{Slot}
+use Rattle.cache.specs.declared.entries.Slot.the-variants as s
+use Rattle.cache.specs.entries.Cache.{firstOf, storeRefusal, nameRefusal, lookRefusal, lookIn}
+use Rattle.cache.specs.declared.lookup.Looked.{Looked}
+use Rattle.cache.specs.declared.lookup.Looked.the-variants as l
+
+-- the slot that a lookup gives, or none
+abbrev pub lookedWith : ℕ → Slot → Looked
+lookedWith number (s.At i) = cond (eqb number 0) (l.Found i) (l.Refused number)
+lookedWith number s.Nowhere = cond (eqb number 0) l.Nothing (l.Refused number)
+
+unfoldable pub lookedOf : ℕ → List Entry → List ℕ → List ℕ → ℕ → ℕ → Looked
+lookedOf now es store name rtype from = lookedWith (lookRefusal now es store name) (lookIn now es store name rtype from)
+
+-- a lookup's refusal, from that of its table's entries
+abbrev pub lookedRefusal : ℕ → List ℕ → List ℕ → ℕ
+lookedRefusal number store name = firstOf number (firstOf (storeRefusal store) (nameRefusal name))

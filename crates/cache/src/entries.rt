@@ -1,0 +1,145 @@
+// One entry of the cache by value (specification, 'The cache'): when it is live, whose record it holds, and what the rules make of it. The owner and the
+// rdata of entry i lie in slot i of the byte store.
+ghost use mathlib.Core.Path.{_≡_};
+ghost use denote.Ref.{ptr};
+ghost use Prim.Native.Nat.{_*_};
+ghost use Rattle.wire.specs.rdata.Answers.{startIn};
+ghost use Rattle.cache.specs.entries.Entries.{isLive, slotOf, isOf, liveOf, holds, soon, flushed, heardAhead, tooLong};
+
+// "type, lengths, received, expiry"; the times are in milliseconds. The length of rdata has four bytes, so that the entry has no padding and its values are
+// all its bytes.
+#[repr(C)]
+pub struct Entry {
+    pub rtype: u16,
+    pub owner: u16,
+    pub rdata: u32,
+    pub received: u64,
+    pub expiry: u64,
+}
+
+// A slot of the table, or that there is none.
+pub enum Slot {
+    At(usize),
+    Nowhere,
+}
+
+// The most bytes of an owner and of rdata that an entry may have.
+pub const MOST_OWNER: u16 = 255;
+
+pub const MOST_RDATA: u32 = 768;
+
+// Whether an entry is live.
+pub fn is_live(e: Entry, time: u64) -> bool
+    ensures { λ r. ⌜ r ≡ isLive time e ⌝ }
+{
+    time < e.expiry
+}
+
+// The bytes of slot i. What lies past the store's end is left out.
+pub fn slot_of<'a>(store: &'a [u8], i: usize) -> &'a [u8]
+    ensures bytes { λ r. ⌜ now r ≡ slotOf (now (store .entry)) i ⌝ }
+    ensures start { λ r. ⌜ ptr r ≡ startIn (now (store .entry)) (1024 * i) (ptr (store .entry)) ⌝ }
+{
+    if store.len() / 1024 < i {
+        return wire::rdata::part(store, store.len(), 0);
+    }
+    wire::rdata::part(store, 1024 * i, 1024)
+}
+
+// Whether the entry in slot i is of a name and a type. The type and the lengths are compared before any byte is folded.
+pub fn is_of(e: Entry, i: usize, store: &[u8], name: &[u8], rtype: u16) -> bool
+    ensures { λ r. ⌜ r ≡ isOf (now (store .entry)) (now (name .entry)) rtype i e ⌝ }
+{
+    if e.rtype != rtype {
+        return false;
+    }
+    let len = e.owner as usize;
+    if len != name.len() {
+        return false;
+    }
+    wire::case_folding::same_name(wire::rdata::part(slot_of(store, i), 0, len), name)
+}
+
+// Whether the entry in slot i is a live one of a name and a type.
+pub fn is_live_of(e: Entry, i: usize, store: &[u8], time: u64, name: &[u8], rtype: u16) -> bool
+    ensures { λ r. ⌜ r ≡ liveOf time (now (store .entry)) (now (name .entry)) rtype i e ⌝ }
+{
+    if !is_live(e, time) {
+        return false;
+    }
+    is_of(e, i, store, name, rtype)
+}
+
+// Whether the entry in slot i is live and holds a record: of its name and type, and with equal rdata.
+pub fn is_holding(
+    e: Entry,
+    i: usize,
+    store: &[u8],
+    time: u64,
+    name: &[u8],
+    rtype: u16,
+    content: &[u8],
+) -> bool
+    ensures { λ r. ⌜ r ≡ holds time (now (store .entry)) (now (name .entry)) rtype (now (content .entry)) i e ⌝ }
+{
+    let len = e.rdata as usize;
+    if len != content.len() {
+        return false;
+    }
+    if !is_live_of(e, i, store, time, name, rtype) {
+        return false;
+    }
+    wire::expansion::same_bytes(wire::rdata::part(slot_of(store, i), 256, len), content)
+}
+
+// The lesser of the expiry and now plus 1,000.
+pub fn to_expire(e: Entry, time: u64) -> Entry
+    ensures { λ r. ⌜ r ≡ soon time e ⌝ }
+{
+    if e.expiry <= time {
+        return e;
+    }
+    if e.expiry - time <= 1000 {
+        return e;
+    }
+    Entry {
+        rtype: e.rtype,
+        owner: e.owner,
+        rdata: e.rdata,
+        received: e.received,
+        expiry: time + 1000,
+    }
+}
+
+// Rule 1 on the entry in slot i.
+pub fn flush_entry(e: Entry, i: usize, store: &[u8], time: u64, name: &[u8], rtype: u16) -> Entry
+    ensures { λ r. ⌜ r ≡ flushed time (now (store .entry)) (now (name .entry)) rtype i e ⌝ }
+{
+    if time <= e.received {
+        return e;
+    }
+    if time - e.received <= 1000 {
+        return e;
+    }
+    if !is_live_of(e, i, store, time, name, rtype) {
+        return e;
+    }
+    to_expire(e, time)
+}
+
+// Whether an entry was received after now.
+pub fn is_ahead(e: Entry, time: u64) -> bool
+    ensures { λ r. ⌜ r ≡ heardAhead time e ⌝ }
+{
+    time < e.received
+}
+
+// Whether a length of an entry is over what a slot has room for.
+pub fn is_too_long(e: Entry) -> bool
+    ensures { λ r. ⌜ r ≡ tooLong e ⌝ }
+{
+    if MOST_OWNER < e.owner {
+        return true;
+    }
+    MOST_RDATA < e.rdata
+}

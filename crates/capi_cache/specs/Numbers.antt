@@ -1,0 +1,61 @@
+-- The answers in numbers: the specification's number and values for each case ('The cache'). Assumes nothing: these are definitions.
+use Prim.Native.Nat.{ℕ}
+use mathlib.Core.Bool.{Bool, true, false}
+use Rattle.cache.specs.declared.lookup.Looked.{Looked}
+use Rattle.cache.specs.declared.lookup.Looked.the-variants as l
+use Rattle.cache.specs.declared.Taken.{Taken}
+use Rattle.cache.specs.declared.Taken.the-variants as t
+use Rattle.capi_cache.specs.declared.TakenNumbers.{TakenNumbers}
+use Rattle.capi_cache.specs.declared.LookedNumbers.{LookedNumbers}
+
+-- The specification's number for each answer of `take`: 0 where nothing is refused
+abbrev pub takenNumber : Taken → ℕ
+takenNumber (t.Refused number) = number
+takenNumber (t.Accepted c) = 0
+
+-- The specification's values: the two counts, of an answer without them 0
+abbrev pub turnedAway : Taken → ℕ
+turnedAway (t.Refused number) = 0
+turnedAway (t.Accepted c) = c .turned
+
+abbrev pub passedOver : Taken → ℕ
+passedOver (t.Refused number) = 0
+passedOver (t.Accepted c) = c .passed
+
+-- the number and the values of an answer together
+abbrev pub takenNumbers : Taken → TakenNumbers
+takenNumbers answer = record { refusal = takenNumber answer; turned = turnedAway answer; passed = passedOver answer }
+
+-- The specification's number for each answer of a lookup: 0 where nothing is refused
+abbrev pub lookedNumber : Looked → ℕ
+lookedNumber (l.Refused number) = number
+lookedNumber (l.Found i) = 0
+lookedNumber l.Nothing = 0
+
+-- The specification's values: whether a slot was found, and the slot, of an answer without it 0
+abbrev pub isFound : Looked → Bool
+isFound (l.Refused number) = false
+isFound (l.Found i) = true
+isFound l.Nothing = false
+
+abbrev pub foundSlot : Looked → ℕ
+foundSlot (l.Refused number) = 0
+foundSlot (l.Found i) = i
+foundSlot l.Nothing = 0
+
+-- the number and the values of an answer together
+abbrev pub lookedNumbers : Looked → LookedNumbers
+lookedNumbers answer = record { refusal = lookedNumber answer; found = isFound answer; slot = foundSlot answer }
+
+-- the answers of `take` and of a lookup, case by case
+abbrev pub refusedTake : ℕ → TakenNumbers
+refusedTake number = record { refusal = number; turned = 0; passed = 0 }
+
+abbrev pub refusedLook : ℕ → LookedNumbers
+refusedLook number = record { refusal = number; found = false; slot = 0 }
+
+abbrev pub foundLook : ℕ → LookedNumbers
+foundLook i = record { refusal = 0; found = true; slot = i }
+
+abbrev pub nothingLook : LookedNumbers
+nothingLook = record { refusal = 0; found = false; slot = 0 }

@@ -1,0 +1,26 @@
+use borrow.Author.Tests.{eq-eqb, ne-eqb}
+use Rattle.capi_responder.specs.codec.Codec.{decode}
+use borrow.Author.Needs.{needs}
+use Rattle.capi_responder.proofs.codec.read_state.Statement.{statement}
+use Rattle.capi_responder.proofs.codec.read_state.Tie as tie
+
+setup-at-requires : tie.Need-setup-at-requires
+setup-at-requires c κs = search needs
+
+life-at-requires : tie.Need-life-at-requires
+life-at-requires c κs = search needs
+
+returns : tie.Need-returns
+unfolding decode
+returns c = let e : _ = eq-eqb _ 667 (c .before .before .if1 .taken) in simp e (cc)
+
+blank-state-requires : tie.Need-blank-state-requires
+blank-state-requires c κs = search needs
+
+returns-2 : tie.Need-returns-2
+unfolding decode
+returns-2 c = let e : _ = ne-eqb _ 667 (c .before .if1 .left) in simp e (c .blank-state .ensures)
+
+pub read-state-spec : {M : Type 1} → statement M
+read-state-spec =
+    tie.close (tie.spec setup-at-requires life-at-requires returns blank-state-requires returns-2)

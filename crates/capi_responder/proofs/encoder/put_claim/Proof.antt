@@ -1,0 +1,24 @@
+use Rattle.capi_responder.proofs.encoder.Written.{case-as}
+use borrow.Author.Needs.{needs}
+use Rattle.capi_responder.proofs.encoder.put_claim.Statement.{statement}
+use Rattle.capi_responder.proofs.encoder.put_claim.Tie as tie
+
+claim-tag-requires : tie.Need-claim-tag-requires
+claim-tag-requires c κs = search needs
+
+claim-due-requires : tie.Need-claim-due-requires
+claim-due-requires c κs = search needs
+
+put-case-requires : tie.Need-put-case-requires
+put-case-requires c κs = search needs
+
+same-length : tie.Need-same-length
+same-length c = search needs
+
+returns : tie.Need-returns
+returns c = case-as _ _ _ _ _ _ _ (c .before .before .put-case .ensures) (c .before .before .before .before .claim-tag .ensures) (c .before .before .before .claim-due .ensures)
+
+pub put-claim-spec : {M : Type 1} → statement M
+put-claim-spec =
+    tie.close
+    (tie.spec claim-tag-requires claim-due-requires put-case-requires same-length returns)

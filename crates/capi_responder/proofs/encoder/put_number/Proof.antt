@@ -1,0 +1,23 @@
+use Rattle.capi_responder.proofs.encoder.Parts.{laid-as}
+use borrow.Author.Needs.{needs}
+use Rattle.capi_responder.proofs.encoder.put_number.Statement.{statement}
+use Rattle.capi_responder.proofs.encoder.put_number.Tie as tie
+
+number-bytes-requires : tie.Need-number-bytes-requires
+number-bytes-requires c κs = search needs
+
+slice-aggregate-put : tie.Need-slice-aggregate-put
+slice-aggregate-put c = search needs
+
+put-requires : tie.Need-put-requires
+put-requires c κs = search needs
+
+same-length : tie.Need-same-length
+same-length c = search needs
+
+returns : tie.Need-returns
+returns c = (laid-as _ _ _ _ _ (c .before .before .put .ensures) (c .before .before .before .before .before .number-bytes .ensures .0), c .before .before .before .before .before .number-bytes .ensures .1)
+
+pub put-number-spec : {M : Type 1} → statement M
+put-number-spec =
+    tie.close (tie.spec number-bytes-requires slice-aggregate-put put-requires same-length returns)

@@ -1,0 +1,59 @@
+-- Start, packet received and tick on lent bytes: the answer in numbers, the bytes that the state then has, and what they say. Assumes nothing: these
+-- are definitions.
+use Prim.Native.Nat.{ℕ}
+use mathlib.Core.Bool.{Bool, cond}
+use mathlib.Core.List.{List}
+use lib.ListN.{length}
+use lib.Dec.{eqb}
+use Rattle.own.specs.declared.records.Setup.{Setup}
+use Rattle.responder.specs.declared.State.{State}
+use Rattle.responder.specs.declared.Answer.{Answer}
+use Rattle.responder.specs.declared.Started.{Started}
+use Rattle.responder.specs.declared.Received.{Received}
+use Rattle.responder.specs.declared.Ticked.{Ticked}
+use Rattle.responder.specs.Calls.{blank, refusalOf, lengthOf, startOf, receiveOf, receivedPacket, tickOf, tickedPacket}
+use Rattle.capi_responder.specs.codec.Layout.{stateSize}
+use Rattle.capi_responder.specs.codec.Codec.{setupOf, decode, withLife, withSetup}
+use Rattle.capi_responder.specs.declared.Called.{Called}
+
+-- The specification's values for an answer
+abbrev pub calledWith : Answer → Bool → Called
+calledWith answer more = record { refusal = refusalOf answer; more = more; length = lengthOf answer }
+
+-- "A refusal returns the number alone .. state .. keep every byte."
+abbrev pub unlessRefused : {A : Type 0} → Answer → A → A → A
+unlessRefused answer after before = cond (eqb (refusalOf answer) 0) after before
+
+-- ---- a start
+
+-- The set-up that is started with: where either buffer has another length, one that a start refuses as 7.
+unfoldable pub setupFor : List ℕ → ℕ → Setup
+setupFor setup room = cond (eqb room stateSize) (setupOf setup) (blank .setup)
+
+abbrev pub started : List ℕ → List ℕ → ℕ → ℕ → Started
+started b setup now draw = startOf (setupFor setup (length b)) now draw
+
+-- the state's bytes after a start, and the state that they say
+unfoldable pub startedBytes : List ℕ → List ℕ → ℕ → ℕ → List ℕ
+startedBytes b setup now draw =
+    unlessRefused (started b setup now draw .answer) (withLife (withSetup b setup) (started b setup now draw .state .life)) b
+
+unfoldable pub startedState : List ℕ → List ℕ → ℕ → ℕ → State
+startedState b setup now draw = unlessRefused (started b setup now draw .answer) (started b setup now draw .state) (decode b)
+
+-- ---- a packet received
+
+abbrev pub received : List ℕ → ℕ → ℕ → ℕ → List ℕ → ℕ → Received
+received b now port draw p room = receiveOf (decode b) now port draw p room
+
+unfoldable pub receivedBytes : List ℕ → ℕ → ℕ → ℕ → List ℕ → ℕ → List ℕ
+receivedBytes b now port draw p room =
+    unlessRefused (received b now port draw p room .answer) (withLife b (received b now port draw p room .state .life)) b
+
+-- ---- a tick
+
+abbrev pub ticked : List ℕ → ℕ → ℕ → Ticked
+ticked b now room = tickOf (decode b) now room
+
+unfoldable pub tickedBytes : List ℕ → ℕ → ℕ → List ℕ
+tickedBytes b now room = unlessRefused (ticked b now room .answer) (withLife b (ticked b now room .state .life)) b

@@ -1,0 +1,4 @@
+pub mod Exported
+pub mod codec
+pub mod encoder
+pub mod state

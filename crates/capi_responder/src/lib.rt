@@ -1,0 +1,136 @@
+// The responder for C and Rust: start, packet received and tick on a state that the caller lends as 667 bytes (module `codec`), with the answer in
+// numbers. What a state says is in `state`. c/include/kurgashel.h declares these functions.
+pub mod codec;
+pub mod encoder;
+pub mod state;
+
+ghost use mathlib.Core.Path.{_≡_};
+ghost use mathlib.Core.Bool.{false};
+ghost use lib.ListN.{length};
+ghost use Rattle.writer.specs.own_packets.Own.{laidOver};
+ghost use Rattle.responder.specs.Calls.{refusalOf, lengthOf, receivedPacket, tickedPacket};
+ghost use Rattle.capi_responder.specs.codec.Codec.{decode};
+ghost use Rattle.capi_responder.specs.Exported.{calledWith, setupFor, started, startedBytes, startedState, received, receivedBytes, ticked, tickedBytes};
+use own::records::Setup;
+use responder::Answer;
+
+// A call's answer: the specification's refusal number, or 0; whether more is due, after a tick; the length of the packet that was written, or 0.
+#[repr(C)]
+pub struct Called {
+    pub refusal: u8,
+    pub more: bool,
+    pub length: usize,
+}
+
+fn refusal_of(answer: Answer) -> u8
+    ensures { λ r. ⌜ r ≡ refusalOf answer ⌝ }
+{
+    match answer {
+        Answer::Refused(number) => number,
+        Answer::Quiet => 0,
+        Answer::Sent(_) => 0,
+    }
+}
+
+fn length_of(answer: Answer) -> usize
+    ensures { λ r. ⌜ r ≡ lengthOf answer ⌝ }
+{
+    match answer {
+        Answer::Refused(_) => 0,
+        Answer::Quiet => 0,
+        Answer::Sent(length) => length,
+    }
+}
+
+fn answered(answer: Answer, more: bool) -> Called
+    ensures { λ r. ⌜ r ≡ calledWith answer more ⌝ }
+{
+    Called {
+        refusal: refusal_of(answer),
+        more,
+        length: length_of(answer),
+    }
+}
+
+// The set-up that a state of `room` bytes starts with.
+fn setup_for(setup: &[u8], room: usize) -> Setup
+    ensures { λ r. ⌜ r ≡ setupFor (now (setup .entry)) room ⌝ }
+{
+    if room == crate::codec::STATE_SIZE {
+        return crate::codec::read_setup(setup);
+    }
+    let blank = responder::blank_state();
+    blank.setup
+}
+
+// Begins a responder in lent bytes, with a set-up of 579 bytes.
+#[no_mangle]
+pub extern "C" fn kurgashel_start(state: &mut [u8], setup: &[u8], time: u64, draw: u64) -> Called
+    ensures { λ r. ⌜ r ≡ calledWith (started (now (state .entry)) (now (setup .entry)) time draw .answer) false ⌝ }
+    ensures { λ _. ⌜ now (state .exit) ≡ startedBytes (now (state .entry)) (now (setup .entry)) time draw ⌝ }
+    ensures { λ _. ⌜ decode (now (state .exit)) ≡ startedState (now (state .entry)) (now (setup .entry)) time draw ⌝ }
+{
+    let begun = responder::start(setup_for(setup, state.len()), time, draw);
+    let answer = begun.answer;
+    if refusal_of(answer) != 0 {
+        return answered(answer, false);
+    }
+    let after = begun.state;
+    let life = after.life;
+    crate::encoder::put_setup(state, setup);
+    crate::encoder::put_life(state, life);
+    answered(answer, false)
+}
+
+// Takes a packet that came from `port`, with the draw for a PTR reply, and writes the answers that go out at once.
+#[no_mangle]
+pub extern "C" fn kurgashel_receive(
+    state: &mut [u8],
+    time: u64,
+    port: u16,
+    draw: u64,
+    packet: &[u8],
+    out: &mut [u8],
+) -> Called
+    ensures { λ r. ⌜ r ≡ calledWith (received (now (state .entry)) time port draw (now (packet .entry)) (length (now (out .entry))) .answer) false ⌝ }
+    ensures { λ _. ⌜ now (state .exit) ≡ receivedBytes (now (state .entry)) time port draw (now (packet .entry)) (length (now (out .entry))) ⌝ }
+    ensures { λ _. ⌜ decode (now (state .exit)) ≡ received (now (state .entry)) time port draw (now (packet .entry)) (length (now (out .entry))) .state ⌝ }
+    ensures { λ _. ⌜ now (out .exit) ≡ laidOver (receivedPacket (decode (now (state .entry))) time port draw (now (packet .entry)) (length (now (out .entry)))) (now (out .entry)) ⌝ }
+{
+    let heard = responder::receive(
+        crate::codec::read_state(state),
+        time,
+        port,
+        draw,
+        packet,
+        out,
+    );
+    let answer = heard.answer;
+    if refusal_of(answer) != 0 {
+        return answered(answer, false);
+    }
+    let after = heard.state;
+    let life = after.life;
+    crate::encoder::put_life(state, life);
+    answered(answer, false)
+}
+
+// Walks the due steps, and writes the packet of the first that sends.
+#[no_mangle]
+pub extern "C" fn kurgashel_tick(state: &mut [u8], time: u64, out: &mut [u8]) -> Called
+    ensures { λ r. ⌜ r ≡ calledWith (ticked (now (state .entry)) time (length (now (out .entry))) .answer) (ticked (now (state .entry)) time (length (now (out .entry))) .more) ⌝ }
+    ensures { λ _. ⌜ now (state .exit) ≡ tickedBytes (now (state .entry)) time (length (now (out .entry))) ⌝ }
+    ensures { λ _. ⌜ decode (now (state .exit)) ≡ ticked (now (state .entry)) time (length (now (out .entry))) .state ⌝ }
+    ensures { λ _. ⌜ now (out .exit) ≡ laidOver (tickedPacket (decode (now (state .entry))) time (length (now (out .entry)))) (now (out .entry)) ⌝ }
+{
+    let walked = responder::tick(crate::codec::read_state(state), time, out);
+    let answer = walked.answer;
+    let more = walked.more;
+    if refusal_of(answer) != 0 {
+        return answered(answer, more);
+    }
+    let after = walked.state;
+    let life = after.life;
+    crate::encoder::put_life(state, life);
+    answered(answer, more)
+}

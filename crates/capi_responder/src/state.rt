@@ -1,0 +1,43 @@
+// What a responder's state says, for C and Rust: how a claim stands, and when the next step is due. Both only read the lent bytes (module `codec`);
+// include/kurgashel.h declares them.
+ghost use mathlib.Core.Path.{_≡_};
+ghost use Rattle.capi_responder.specs.state.Told.{claimNumber, nextStep};
+use claims::due::Due;
+
+// Whether a step is due at all, and when.
+#[repr(C)]
+pub struct NextStep {
+    pub due: bool,
+    pub time: u64,
+}
+
+// The state of a claim: 0 waiting, 1 probing, 2 deferred, 3 held, 4 lost; of the instance's where `claim` is 0, else of the host's.
+#[no_mangle]
+pub extern "C" fn kurgashel_claim(state: &[u8], claim: u8) -> u8
+    ensures { λ r. ⌜ r ≡ claimNumber (now (state .entry)) claim ⌝ }
+{
+    let read = crate::codec::read_state(state);
+    let life = read.life;
+    if claim == 0 {
+        let instance = life.instance;
+        return claims::state_number(instance);
+    }
+    let host = life.host;
+    claims::state_number(host)
+}
+
+// When the next step is due: until then a tick sends nothing.
+#[no_mangle]
+pub extern "C" fn kurgashel_due(state: &[u8]) -> NextStep
+    ensures { λ r. ⌜ r ≡ nextStep (now (state .entry)) ⌝ }
+{
+    let read = crate::codec::read_state(state);
+    let life = read.life;
+    match claims::due::next_due(life) {
+        Due::Never => NextStep {
+            due: false,
+            time: 0,
+        },
+        Due::At(time) => NextStep { due: true, time },
+    }
+}

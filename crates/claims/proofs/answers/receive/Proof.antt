@@ -1,0 +1,50 @@
+use Rattle.claims.specs.answers.Answers.{receiveOf}
+use borrow.Author.Needs.{needs}
+use Rattle.claims.proofs.answers.receive.Statement.{statement}
+use Rattle.claims.proofs.answers.receive.Tie as tie
+
+after-requires : tie.Need-after-requires
+after-requires c κs = search needs
+
+after-requires-2 : tie.Need-after-requires-2
+after-requires-2 c κs = search needs
+
+wanted-requires : tie.Need-wanted-requires
+wanted-requires c κs = search needs
+
+without-ptr-requires : tie.Need-without-ptr-requires
+without-ptr-requires c κs = search needs
+
+heard-by-requires : tie.Need-heard-by-requires
+heard-by-requires c κs = search needs
+
+heard-by-requires-2 : tie.Need-heard-by-requires-2
+heard-by-requires-2 c κs = search needs
+
+mark-all-requires : tie.Need-mark-all-requires
+mark-all-requires c κs = search needs
+
+after-requires-3 : tie.Need-after-requires-3
+after-requires-3 c κs = search needs
+
+set-reply-requires : tie.Need-set-reply-requires
+set-reply-requires c κs = search needs
+
+returns : tie.Need-returns
+unfolding receiveOf
+returns c = simp (c .set-reply .ensures, c .before .after3 .ensures, c .before .before .mark-all .ensures, c .before .before .before .heard-by2 .ensures, c .before .before .before .before .heard-by .ensures, c .before .before .before .before .before .without-ptr .ensures, c .before .before .before .before .before .before .wanted .ensures, c .before .before .before .before .before .before .before .after2 .ensures, c .before .before .before .before .before .before .before .before .after .ensures)
+
+pub receive-spec : {M : Type 1} → statement M
+receive-spec =
+    tie.close
+    (tie.spec
+    after-requires
+    after-requires-2
+    wanted-requires
+    without-ptr-requires
+    heard-by-requires
+    heard-by-requires-2
+    mark-all-requires
+    after-requires-3
+    set-reply-requires
+    returns)

@@ -1,0 +1,21 @@
+use borrow.Author.Needs.{needs}
+use Rattle.claims.proofs.answers.set_reply.Statement.{statement}
+use Rattle.claims.proofs.answers.set_reply.Tie as tie
+
+enum-told : tie.Need-enum-told
+enum-told c = search needs
+
+returns : tie.Need-returns
+returns c = simp (c .before .enum-told .given .1, c .if1 .taken)
+
+enum-known-r : tie.Need-enum-known-r
+enum-known-r c = search needs
+
+returns-2 : tie.Need-returns-2
+returns-2 c = search needs
+
+returns-3 : tie.Need-returns-3
+returns-3 c = rw (c .before .r .given .1)
+
+pub set-reply-spec : {M : Type 1} → statement M
+set-reply-spec = tie.close (tie.spec enum-told returns enum-known-r returns-2 returns-3)

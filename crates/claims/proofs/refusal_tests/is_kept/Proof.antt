@@ -1,0 +1,34 @@
+use Rattle.claims.specs.Refusals.{kept}
+use borrow.Author.Needs.{needs}
+use Rattle.claims.proofs.refusal_tests.is_kept.Statement.{statement}
+use Rattle.claims.proofs.refusal_tests.is_kept.Tie as tie
+
+claim-kept-requires : tie.Need-claim-kept-requires
+claim-kept-requires c κs = search needs
+
+claim-kept-requires-2 : tie.Need-claim-kept-requires-2
+claim-kept-requires-2 c κs = search needs
+
+multicasts-kept-requires : tie.Need-multicasts-kept-requires
+multicasts-kept-requires c κs = search needs
+
+reply-kept-requires : tie.Need-reply-kept-requires
+reply-kept-requires c κs = search needs
+
+all-five-requires : tie.Need-all-five-requires
+all-five-requires c κs = search needs
+
+returns : tie.Need-returns
+unfolding kept
+returns c = simp (c .all-five .ensures, c .before .before .before .before .claim-kept .ensures, c .before .before .before .claim-kept2 .ensures, c .before .before .multicasts-kept .ensures, c .before .reply-kept .ensures)
+
+pub is-kept-spec : {M : Type 1} → statement M
+is-kept-spec =
+    tie.close
+    (tie.spec
+    claim-kept-requires
+    claim-kept-requires-2
+    multicasts-kept-requires
+    reply-kept-requires
+    all-five-requires
+    returns)

@@ -1,0 +1,24 @@
+use borrow.Author.Needs.{needs}
+use native.Mathlib.Omega.{arith}
+use mathlib.Core.Path.{sym}
+use lib.Seq.{length-take-le}
+use Rattle.console_responder.proofs.sending.step.Statement.{statement}
+use Rattle.console_responder.proofs.sending.step.Tie as tie
+
+slice-relend-prefix-tick : tie.Need-slice-relend-prefix-tick
+slice-relend-prefix-tick c = search needs
+
+slice-aggregate-tick : tie.Need-slice-aggregate-tick
+slice-aggregate-tick c = sym (length-take-le _ (c .before .before .args .out .now) (omega arith))
+
+tick-requires : tie.Need-tick-requires
+tick-requires c κs = search needs
+
+same-length : tie.Need-same-length
+same-length c = search needs
+
+returns : tie.Need-returns
+returns c = search needs
+
+pub step-spec : {M : Type 1} → statement M
+step-spec = tie.close (tie.spec slice-relend-prefix-tick slice-aggregate-tick tick-requires same-length returns)

@@ -1,0 +1,165 @@
+// The calls by which the responder goes on, each with the state after it: `recv NOW PORT DRAW PACKET` and `tick NOW`, both with OUT, the length of the
+// part of the out buffer that is lent, or without. What they send is shown.
+use console_calls::output::bad_line;
+use console_calls::output::bytes;
+use console_calls::output::finish;
+use console_calls::output::first;
+use console_calls::output::only;
+use console_calls::output::refused;
+use console_calls::output::word;
+use console_text::fields::is_number;
+use console_text::fields::number;
+use console_text::fields::number_of_16;
+use responder::Answer;
+use responder::Received;
+use responder::State;
+use responder::Ticked;
+ghost use Prim.Native.Nat.{_≤_};
+ghost use lib.ListN.{length};
+
+// The bytes of the out buffer that are lent where a line does not say how many.
+const USUAL_OUT: usize = 1452;
+
+// Whether the last field of a line, which may be missing, is a number.
+fn is_number_or_missing(line: &[u8], index: usize) -> bool {
+    if console_text::lines::arguments(line) < index {
+        return true;
+    }
+    is_number(line, index)
+}
+
+// How many bytes of the out buffer a line asks to lend.
+fn lent(line: &[u8], index: usize) -> usize {
+    if console_text::lines::arguments(line) < index {
+        return USUAL_OUT;
+    }
+    number(line, index) as usize
+}
+
+// Shows the packet that was sent, and whether more is due.
+fn sent(packet: &[u8], more: bool, text: &mut [u8; 4096]) {
+    let used = first(text, b"sent");
+    let used = bytes(text, used, packet);
+    if more {
+        let used = word(text, used, b"more");
+        finish(text, used);
+        return;
+    }
+    finish(text, used);
+}
+
+// The answer of a call that may send what stands at the start of the out buffer.
+fn shown(answer: Answer, more: bool, out: &[u8], text: &mut [u8; 4096]) {
+    match answer {
+        Answer::Refused(n) => refused(text, n as u64),
+        Answer::Quiet => only(text, b"quiet"),
+        Answer::Sent(n) => sent(console_text::lines::front(out, n), more, text),
+    }
+}
+
+// Takes a packet over the first bytes of the out buffer, `n` of them.
+fn receive(
+    held: State,
+    time: u64,
+    from: u16,
+    draw: u64,
+    packet: &[u8],
+    out: &mut [u8],
+    n: usize,
+) -> Received
+    requires { ⌜ n ≤ length (now out) ⌝ }
+{
+    responder::receive(held, time, from, draw, packet, &mut out[..n])
+}
+
+// Ticks over the first bytes of the out buffer, `n` of them.
+fn step(held: State, time: u64, out: &mut [u8], n: usize) -> Ticked
+    requires { ⌜ n ≤ length (now out) ⌝ }
+{
+    responder::tick(held, time, &mut out[..n])
+}
+
+// Whether a line is of the form of `recv`.
+fn is_recv(line: &[u8]) -> bool {
+    if console_text::lines::arguments(line) < 4 {
+        return false;
+    }
+    if 5 < console_text::lines::arguments(line) {
+        return false;
+    }
+    if !is_number(line, 1) {
+        return false;
+    }
+    if !is_number(line, 2) {
+        return false;
+    }
+    if !is_number(line, 3) {
+        return false;
+    }
+    if !console_text::hex::is_bytes(console_text::lines::field(line, 4)) {
+        return false;
+    }
+    is_number_or_missing(line, 5)
+}
+
+// `recv NOW PORT DRAW PACKET` or `recv NOW PORT DRAW PACKET OUT`. A port that is too great is no 5353, as 0 is none.
+pub fn recv(line: &[u8], held: State, out: &mut [u8], text: &mut [u8; 4096]) -> State {
+    if !is_recv(line) {
+        bad_line(text);
+        return held;
+    }
+    let time = number(line, 1);
+    let from = number_of_16(line, 2);
+    let draw = number(line, 3);
+    let mut packet = [0u8; 20000];
+    let k = console_text::hex::fill(console_text::lines::field(line, 4), &mut packet);
+    let n = lent(line, 5);
+    if out.len() < n {
+        bad_line(text);
+        return held;
+    }
+    let received = receive(
+        held,
+        time,
+        from,
+        draw,
+        console_text::lines::front(&packet, k),
+        out,
+        n,
+    );
+    let answer = received.answer;
+    shown(answer, false, out, text);
+    received.state
+}
+
+// Whether a line is of the form of `tick`.
+fn is_tick(line: &[u8]) -> bool {
+    if console_text::lines::arguments(line) < 1 {
+        return false;
+    }
+    if 2 < console_text::lines::arguments(line) {
+        return false;
+    }
+    if !is_number(line, 1) {
+        return false;
+    }
+    is_number_or_missing(line, 2)
+}
+
+// `tick NOW` or `tick NOW OUT`
+pub fn tick(line: &[u8], held: State, out: &mut [u8], text: &mut [u8; 4096]) -> State {
+    if !is_tick(line) {
+        bad_line(text);
+        return held;
+    }
+    let time = number(line, 1);
+    let n = lent(line, 2);
+    if out.len() < n {
+        bad_line(text);
+        return held;
+    }
+    let ticked = step(held, time, out, n);
+    let answer = ticked.answer;
+    shown(answer, ticked.more, out, text);
+    ticked.state
+}

@@ -1,0 +1,108 @@
+// The calls that only show what is held: `claims`, the times and states of the responder, and `out AT LEN`, a part of the out buffer.
+use claims::Claim;
+use claims::Reply;
+use console_calls::output::bad_line;
+use console_calls::output::bytes;
+use console_calls::output::finish;
+use console_calls::output::first;
+use console_calls::output::word;
+use console_text::fields::is_number;
+use console_text::fields::number;
+use responder::State;
+
+// Begins an answer with a number.
+fn first_number(text: &mut [u8; 4096], n: u64) -> usize {
+    let mut digits = [0u8; 20];
+    let k = io::decimal(n, &mut digits);
+    first(text, &digits[..k])
+}
+
+// Adds a state and the time at which its next step is due.
+fn timed(text: &mut [u8; 4096], used: usize, state: &[u8], due: u64) -> usize {
+    let used = word(text, used, state);
+    console_calls::output::number(text, used, due)
+}
+
+// Adds a state that has no next step.
+fn untimed(text: &mut [u8; 4096], used: usize, state: &[u8]) -> usize {
+    let used = word(text, used, state);
+    word(text, used, b"-")
+}
+
+// Adds a claim: ` STATE DUE`.
+fn claim(text: &mut [u8; 4096], used: usize, c: Claim) -> usize {
+    match c {
+        Claim::Waiting(due) => timed(text, used, b"waiting", due),
+        Claim::Probing1(due) => timed(text, used, b"probing", due),
+        Claim::Probing2(due) => timed(text, used, b"probing", due),
+        Claim::Probing3(due) => timed(text, used, b"probing", due),
+        Claim::Deferred(due) => timed(text, used, b"deferred", due),
+        Claim::Announced(due) => timed(text, used, b"held", due),
+        Claim::Held => untimed(text, used, b"held"),
+        Claim::Lost => untimed(text, used, b"lost"),
+    }
+}
+
+// Adds the PTR reply: ` reply DUE`.
+fn reply(text: &mut [u8; 4096], used: usize, r: Reply) -> usize {
+    match r {
+        Reply::Due(due) => timed(text, used, b"reply", due),
+        Reply::Unset => untimed(text, used, b"reply"),
+    }
+}
+
+// `claims`: `LAST instance STATE DUE host STATE DUE reply DUE`
+pub fn claims(line: &[u8], held: State, text: &mut [u8; 4096]) {
+    if console_text::lines::arguments(line) != 0 {
+        return bad_line(text);
+    }
+    let life = held.life;
+    let instance = life.instance;
+    let host = life.host;
+    let due = life.reply;
+    let used = first_number(text, life.last);
+    let used = word(text, used, b"instance");
+    let used = claim(text, used, instance);
+    let used = word(text, used, b"host");
+    let used = claim(text, used, host);
+    let used = reply(text, used, due);
+    finish(text, used);
+}
+
+// The answer `out BYTES`, of bytes of the out buffer from an offset on.
+fn part(out: &[u8], at: usize, n: usize, text: &mut [u8; 4096]) {
+    if out.len() < at {
+        return bad_line(text);
+    }
+    if out.len() - at < n {
+        return bad_line(text);
+    }
+    let end = at + n;
+    let used = first(text, b"out");
+    let used = bytes(text, used, &out[at..end]);
+    finish(text, used);
+}
+
+// Whether a line is of the form `out AT LEN`.
+fn is_out(line: &[u8]) -> bool {
+    if console_text::lines::arguments(line) != 2 {
+        return false;
+    }
+    if !is_number(line, 1) {
+        return false;
+    }
+    is_number(line, 2)
+}
+
+// `out AT LEN`
+pub fn out(line: &[u8], lent: &[u8], text: &mut [u8; 4096]) {
+    if !is_out(line) {
+        return bad_line(text);
+    }
+    part(
+        lent,
+        number(line, 1) as usize,
+        number(line, 2) as usize,
+        text,
+    )
+}

@@ -1,0 +1,68 @@
+-- `facts::probe::some_asks` meets its contract. Assumes nothing.
+use Rattle.facts.proofs.probe.Turns.{some-found, some-on, some-broken, some-done}
+use Rattle.facts.proofs.probe.Walk.{question-found, question-broken}
+use mathlib.Core.Path.{_∙_}
+use borrow.Author.Needs.{needs}
+use mathlib.Core.Path.{_≡_}
+use native.Mathlib.Omega.{arith}
+use Rattle.wire.specs.message.Layout.{questionAt}
+use Rattle.facts.specs.probe.Probe.{some, asksAll, readable}
+use Rattle.facts.proofs.probe.some_asks.Statement.{statement}
+use Rattle.facts.proofs.probe.some_asks.Tie as tie
+
+abbrev Inv-loop : tie.InvT-loop
+Inv-loop p name here₀ left₀ here left = some (asksAll name) (readable (questionAt p) left₀ here₀) ≡ some (asksAll name) (readable (questionAt p) left here)
+
+abbrev μ-loop : tie.MeasureT-loop
+μ-loop p name here₀ left₀ here left = left
+
+loop-holds : tie.Need-loop-holds Inv-loop μ-loop
+loop-holds c = search needs
+
+question-at-requires : tie.Need-question-at-requires Inv-loop μ-loop
+question-at-requires c κs = search needs
+
+enum-known-q : tie.Need-enum-known-q Inv-loop μ-loop
+enum-known-q c = search needs
+
+asks-requires : tie.Need-asks-requires Inv-loop μ-loop
+asks-requires c κs = search needs
+
+returns : tie.Need-returns Inv-loop μ-loop
+returns c = let a = c .before .before .before .before .before .before .before .before .before .before .args in let l = c .before .before .before .before .before .before .before .loop in let m = question-found (a .p .now) (l .here) _ (c .before .before .before .before .before .question-at .ensures) _ (c .before .before .before .q .given .1) (a .name .now) in some-found (asksAll (a .name .now)) (questionAt (a .p .now)) _ (l .left) (l .here) (l .inv) (omega arith) (m .said) _ (m .here) _ (c .before .asks .ensures ∙ m .asked) (c .if1 .taken)
+
+enum-told : tie.Need-enum-told Inv-loop μ-loop
+enum-told c = search needs
+
+returns-2 : tie.Need-returns-2 Inv-loop μ-loop
+returns-2 c = let a = c .before .before .before .before .before .before .before .args in let l = c .before .before .before .before .loop in some-broken (asksAll (a .name .now)) (questionAt (a .p .now)) _ (l .left) (l .here) (l .inv) (question-broken (a .p .now) (l .here) _ (c .before .before .question-at .ensures) (c .enum-told .given .1))
+
+sub-left : tie.Need-sub-left Inv-loop μ-loop
+sub-left c = search needs
+
+loop-less : tie.Need-loop-less Inv-loop μ-loop
+loop-less c = search needs
+
+loop-again : tie.Need-loop-again Inv-loop μ-loop
+loop-again c = let a = c .before .before .before .before .before .before .before .before .before .before .args in let l = c .before .before .before .before .before .before .before .loop in let m = question-found (a .p .now) (l .here) _ (c .before .before .before .before .before .question-at .ensures) _ (c .before .before .before .q .given .1) (a .name .now) in some-on (asksAll (a .name .now)) (questionAt (a .p .now)) _ (l .left) (l .here) (l .inv) (omega arith) (m .said) _ (m .here) _ (c .before .asks .ensures ∙ m .asked) (c .if1 .left)
+
+returns-3 : tie.Need-returns-3 Inv-loop μ-loop
+returns-3 c = let a = c .before .before .before .before .args in let l = c .before .loop in some-done (asksAll (a .name .now)) (questionAt (a .p .now)) _ (l .left) (l .here) (l .inv) (omega arith)
+
+pub some-asks-spec : {M : Type 1} → statement M
+some-asks-spec =
+    tie.close
+    (tie.spec
+    Inv-loop
+    μ-loop
+    loop-holds
+    question-at-requires
+    enum-known-q
+    asks-requires
+    returns
+    enum-told
+    returns-2
+    sub-left
+    loop-less
+    loop-again
+    returns-3)

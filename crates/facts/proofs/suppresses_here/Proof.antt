@@ -1,0 +1,50 @@
+use borrow.Author.Tests.{not-true, not-false}
+use Rattle.facts.proofs.Tests.{suppresses-type, suppresses-class, suppresses-ttl, suppresses-name, suppresses-rdata}
+use borrow.Author.Needs.{needs}
+use Rattle.facts.proofs.suppresses_here.Statement.{statement}
+use Rattle.facts.proofs.suppresses_here.Tie as tie
+use Rattle.facts.proofs.suppresses_here.Reads as reads
+use Rattle.facts.proofs.suppresses_here.Lts as lts
+use Rattle.wire.proofs.expansion.rdata_is.Reads as rdata-is-reads
+use Rattle.wire.proofs.names.name_is.Reads as name-is-reads
+
+returns : tie.Need-returns
+returns c = suppresses-type _ _ _ _ _ _ (c .if1 .taken)
+
+returns-2 : tie.Need-returns-2
+returns-2 c = suppresses-class _ _ _ _ _ _ (c .if2 .taken)
+
+cast-if3 : tie.Need-cast-if3
+cast-if3 c = search needs
+
+mul-if3 : tie.Need-mul-if3
+mul-if3 c = search needs
+
+returns-3 : tie.Need-returns-3
+returns-3 c = suppresses-ttl _ _ _ _ _ _ (c .if3 .taken)
+
+name-is-requires : tie.Need-name-is-requires
+name-is-requires c κs = search needs
+
+returns-4 : tie.Need-returns-4
+returns-4 c = suppresses-name _ _ _ _ _ _ _ (c .before .name-is .ensures) (not-true _ (c .if4 .taken))
+
+rdata-is-requires : tie.Need-rdata-is-requires
+rdata-is-requires c κs = search needs
+
+returns-5 : tie.Need-returns-5
+returns-5 c = suppresses-rdata _ _ _ _ _ _ _ (c .before .before .name-is .ensures) (not-false _ (c .before .if4 .left)) (c .before .before .before .before .before .if2 .left) (c .before .before .before .before .before .before .before .if1 .left) (c .before .before .before .if3 .left) _ (c .rdata-is .ensures)
+
+pub suppresses-here-spec : {M : Type 1} → statement M
+suppresses-here-spec =
+    tie.close
+    (tie.spec
+    returns
+    returns-2
+    cast-if3
+    mul-if3
+    returns-3
+    name-is-requires
+    returns-4
+    rdata-is-requires
+    returns-5)

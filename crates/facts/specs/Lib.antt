@@ -1,0 +1,4 @@
+pub mod Facts
+pub mod Walked
+pub mod probe
+pub mod tiebreak

@@ -1,0 +1,106 @@
+// Whether a message is a probe for a name (specification, 'A claim's life', "A probe is .."; RFC 6762, 8.2), and the records of a section as far as they
+// are well formed. How a probe's records stand to the own ones is in the module `tiebreak`.
+ghost use mathlib.Core.Path.{_≡_};
+ghost use Rattle.wire.specs.message.Layout.{questionAt, recordAt, recordRead};
+ghost use Rattle.wire.specs.names.Answers.{nameIs};
+ghost use Rattle.facts.specs.probe.Probe.{readable, under, asksAll, some, isProbe, messageIn};
+ghost use Rattle.facts.specs.probe.Walked.{unbroken, asksAt};
+
+// Own records are of class 1.
+const INTERNET: u16 = 1;
+
+// The type and the class that ask for all.
+const ANY: u16 = 255;
+
+// The record at an offset, if its rdata is as its type asks.
+pub fn whole_record(p: &[u8], at: usize) -> wire::message::RecordRead
+    ensures { λ r. ⌜ r ≡ unbroken (recordAt (now (p .entry)) at) (recordRead (now (p .entry)) at) ⌝ }
+{
+    match wire::message::record_at(p, at) {
+        wire::message::RecordRead::Found(f) => {
+            if wire::rdata::rdata_fits(p, f.rtype, f.rdata, f.rdlength) {
+                return wire::message::RecordRead::Found(f);
+            }
+            wire::message::RecordRead::Malformed
+        }
+        wire::message::RecordRead::Malformed => wire::message::RecordRead::Malformed,
+    }
+}
+
+// Whether a question asks for all that a name has, in class 1 or in any.
+fn asks(p: &[u8], q: wire::message::QuestionAt, name: &[u8]) -> bool
+    ensures { λ r. ⌜ r ≡ asksAt (nameIs (now (p .entry)) (q .name) (now (name .entry))) q ⌝ }
+{
+    if q.rtype != ANY {
+        return false;
+    }
+    let class = q.class % 32768;
+    if class == INTERNET {
+        return wire::names::name_is(p, q.name, name);
+    }
+    if class == ANY {
+        return wire::names::name_is(p, q.name, name);
+    }
+    false
+}
+
+// Whether a question of a section asks for all that a name has.
+fn some_asks(p: &[u8], s: wire::message::Section, name: &[u8]) -> bool
+    ensures { λ r. ⌜ r ≡ some (asksAll (now (name .entry))) (readable (questionAt (now (p .entry))) (s .count) (s .at)) ⌝ }
+{
+    let mut here = s.at;
+    let mut left = s.count;
+    while 0 < left {
+        match wire::message::question_at(p, here) {
+            wire::message::QuestionRead::Found(q) => {
+                if asks(p, q, name) {
+                    return true;
+                }
+                here = q.next;
+            }
+            wire::message::QuestionRead::Malformed => {
+                return false;
+            }
+        }
+        left -= 1;
+    }
+    false
+}
+
+// Whether a record of a section is under a name.
+fn some_under(p: &[u8], s: wire::message::Section, name: &[u8]) -> bool
+    ensures { λ r. ⌜ r ≡ some (under (now (name .entry))) (readable (recordAt (now (p .entry))) (s .count) (s .at)) ⌝ }
+{
+    let mut here = s.at;
+    let mut left = s.count;
+    while 0 < left {
+        match whole_record(p, here) {
+            wire::message::RecordRead::Found(f) => {
+                if wire::names::name_is(p, f.owner, name) {
+                    return true;
+                }
+                here = f.next;
+            }
+            wire::message::RecordRead::Malformed => {
+                return false;
+            }
+        }
+        left -= 1;
+    }
+    false
+}
+
+// Whether the message is a probe for a name: a query with a question for all that the name has, and an Authority record under it.
+pub fn is_probe(p: &[u8], l: wire::message::Layout, name: &[u8]) -> bool
+    ensures { λ r. ⌜ r ≡ isProbe (now (name .entry)) (messageIn (now (p .entry)) l) ⌝ }
+{
+    let questions = l.questions;
+    let authorities = l.authorities;
+    if 32768 <= l.flags {
+        return false;
+    }
+    if !some_asks(p, questions, name) {
+        return false;
+    }
+    some_under(p, authorities, name)
+}

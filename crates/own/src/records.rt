@@ -1,0 +1,252 @@
+// Own records (specification, 'Own records'): the set-up, and the names and the rdata of the five records by index. Their types, classes and TTLs are in
+// `fields`, and whether a set-up keeps the rules in `setups`.
+ghost use mathlib.Core.Path.{_≡_};
+ghost use mathlib.Core.Bool.{true};
+ghost use mathlib.Core.List.{_∷_, []};
+ghost use Prim.Native.Nat.{_+_, _≤_, _<_};
+ghost use lib.ListN.{length, take};
+ghost use lib.Seq.{sets};
+ghost use Rattle.wire.specs.labels.Labels.{encode};
+ghost use Rattle.own.specs.records.Setups.{local, labelHeld, serviceHeld, protocolLabel, serviceLabels, instanceLabels, hostLabels};
+ghost use Rattle.own.specs.records.Records.{labelBytes, Laid, ownOf, ownName, ownRdata, srvRdata};
+
+// The most bytes of a label, of a service label with its "_", and of a TXT record.
+pub const MOST_LABEL: usize = 63;
+
+pub const MOST_SERVICE: usize = 16;
+
+pub const MOST_TXT: usize = 400;
+
+// An instance or host label: the first `len` of the bytes.
+pub struct Label {
+    pub bytes: [u8; 63],
+    pub len: usize,
+}
+
+// A service label, its "_" with it: the first `len` of the bytes.
+pub struct Service {
+    pub bytes: [u8; 16],
+    pub len: usize,
+}
+
+// TXT strings: the first `len` of the bytes.
+pub struct Strings {
+    pub bytes: [u8; 400],
+    pub len: usize,
+}
+
+// What a responder is set up with: five labels and the data of its records. Bytes past a length, and `aaaa` without `hasaaaa`, say nothing.
+pub struct Setup {
+    pub instance: Label,
+    pub service: Service,
+    pub protocol: [u8; 4],
+    pub host: Label,
+    pub domain: [u8; 5],
+    pub port: u16,
+    pub txt: Strings,
+    pub a: [u8; 4],
+    pub hasaaaa: bool,
+    pub aaaa: [u8; 16],
+}
+
+// The most bytes that an own name or own rdata has.
+pub const MOST_OWN: usize = 400;
+
+// An own name or own rdata: the first `len` of the bytes, zeros after them.
+pub struct Own {
+    pub bytes: [u8; 400],
+    pub len: usize,
+}
+
+// The own records by index.
+pub const RECORDS: usize = 5;
+
+pub const PTR: usize = 0;
+
+pub const SRV: usize = 1;
+
+pub const TXT: usize = 2;
+
+pub const A: usize = 3;
+
+pub const AAAA: usize = 4;
+
+// The two claims.
+pub enum Claim {
+    Instance,
+    Host,
+}
+
+// Writes `s` into `out` from index `at` on.
+fn put(out: &mut [u8; 400], at: usize, s: &[u8])
+    requires { ⌜ at + length (now s) ≤ 400 ⌝ }
+    ensures { λ _. ⌜ now (out .exit) ≡ sets (now (out .entry)) at (now (s .entry)) ⌝ }
+{
+    let mut i = 0;
+    while i < s.len() {
+        out[at + i] = s[i];
+        i += 1;
+    }
+}
+
+// Writes a label after its length byte, and answers the offset past it.
+fn put_label(out: &mut [u8; 400], at: usize, label: &[u8]) -> usize
+    requires { ⌜ (at + 1 + length (now label) ≤ 400) × (length (now label) < 256) ⌝ }
+    ensures { λ r. ⌜ Laid at (labelBytes (now (label .entry))) (1 + length (now (label .entry))) (now (out .entry)) r (now (out .exit)) ⌝ }
+{
+    let n = label.len();
+    out[at] = n as u8;
+    put(out, at + 1, label);
+    at + 1 + n
+}
+
+// The label of an instance or a host.
+fn put_held(out: &mut [u8; 400], at: usize, l: Label) -> usize
+    requires { ⌜ at + 64 ≤ 400 ⌝ }
+    ensures { λ r. ⌜ Laid at (labelBytes (labelHeld l)) 64 (now (out .entry)) r (now (out .exit)) ⌝ }
+{
+    let bytes = l.bytes;
+    let len = l.len;
+    if len < MOST_LABEL {
+        return put_label(out, at, &bytes[..len]);
+    }
+    put_label(out, at, &bytes)
+}
+
+// The label of a service.
+fn put_service(out: &mut [u8; 400], at: usize, l: Service) -> usize
+    requires { ⌜ at + 17 ≤ 400 ⌝ }
+    ensures { λ r. ⌜ Laid at (labelBytes (serviceHeld l)) 17 (now (out .entry)) r (now (out .exit)) ⌝ }
+{
+    let bytes = l.bytes;
+    let len = l.len;
+    if len < MOST_SERVICE {
+        return put_label(out, at, &bytes[..len]);
+    }
+    put_label(out, at, &bytes)
+}
+
+// The label of a protocol: one of the two fixed strings.
+fn put_protocol(out: &mut [u8; 400], at: usize, p: [u8; 4]) -> usize
+    requires { ⌜ at + 5 ≤ 400 ⌝ }
+    ensures { λ r. ⌜ Laid at (labelBytes (protocolLabel p)) 5 (now (out .entry)) r (now (out .exit)) ⌝ }
+{
+    if wire::expansion::same_bytes(&p, b"_udp") {
+        return put_label(out, at, b"_udp");
+    }
+    put_label(out, at, b"_tcp")
+}
+
+// The label "local" and the zero byte, with which every own name ends.
+fn put_local(out: &mut [u8; 400], at: usize) -> usize
+    requires { ⌜ at + 7 ≤ 400 ⌝ }
+    ensures { λ r. ⌜ Laid at (encode (local ∷ [])) 7 (now (out .entry)) r (now (out .exit)) ⌝ }
+{
+    let end = put_label(out, at, b"local");
+    out[end] = 0;
+    end + 1
+}
+
+// The service's name.
+fn put_service_name(out: &mut [u8; 400], at: usize, s: Setup) -> usize
+    requires { ⌜ at + 29 ≤ 400 ⌝ }
+    ensures { λ r. ⌜ Laid at (encode (serviceLabels s)) 29 (now (out .entry)) r (now (out .exit)) ⌝ }
+{
+    let service = s.service;
+    let protocol = s.protocol;
+    let a = put_service(out, at, service);
+    let b = put_protocol(out, a, protocol);
+    put_local(out, b)
+}
+
+// The instance's name.
+fn put_instance_name(out: &mut [u8; 400], at: usize, s: Setup) -> usize
+    requires { ⌜ at + 93 ≤ 400 ⌝ }
+    ensures { λ r. ⌜ Laid at (encode (instanceLabels s)) 93 (now (out .entry)) r (now (out .exit)) ⌝ }
+{
+    let instance = s.instance;
+    let a = put_held(out, at, instance);
+    put_service_name(out, a, s)
+}
+
+// The host's name.
+fn put_host_name(out: &mut [u8; 400], at: usize, s: Setup) -> usize
+    requires { ⌜ at + 71 ≤ 400 ⌝ }
+    ensures { λ r. ⌜ Laid at (encode (hostLabels s)) 71 (now (out .entry)) r (now (out .exit)) ⌝ }
+{
+    let host = s.host;
+    let a = put_held(out, at, host);
+    put_local(out, a)
+}
+
+// The owner of the own record of an index.
+pub fn own_name(s: Setup, i: usize) -> Own
+    ensures { λ r. ⌜ r ≡ ownOf (ownName s i) ⌝ }
+{
+    let mut bytes = [0u8; 400];
+    if i == PTR {
+        let len = put_service_name(&mut bytes, 0, s);
+        return Own { bytes, len };
+    }
+    if i <= TXT {
+        let len = put_instance_name(&mut bytes, 0, s);
+        return Own { bytes, len };
+    }
+    let len = put_host_name(&mut bytes, 0, s);
+    Own { bytes, len }
+}
+
+// Priority 0, weight 0, the port, and the host's name.
+fn srv_rdata(s: Setup) -> Own
+    ensures { λ r. ⌜ r ≡ ownOf (srvRdata s) ⌝ }
+{
+    let mut bytes = [0u8; 400];
+    let port = s.port;
+    bytes[4] = (port / 256) as u8;
+    bytes[5] = (port % 256) as u8;
+    let len = put_host_name(&mut bytes, 6, s);
+    Own { bytes, len }
+}
+
+// The TXT strings.
+fn txt_rdata(t: Strings) -> Own
+    ensures { λ r. ⌜ r ≡ ownOf (take (t .len) (t .bytes)) ⌝ }
+{
+    let held = t.bytes;
+    let len = t.len;
+    if MOST_TXT <= len {
+        return Own {
+            bytes: held,
+            len: MOST_TXT,
+        };
+    }
+    let mut bytes = [0u8; 400];
+    put(&mut bytes, 0, &held[..len]);
+    Own { bytes, len }
+}
+
+// The rdata, names expanded, of the own record of an index.
+pub fn own_rdata(s: Setup, i: usize) -> Own
+    ensures { λ r. ⌜ r ≡ ownOf (ownRdata s i) ⌝ }
+{
+    if i == SRV {
+        return srv_rdata(s);
+    }
+    if i == TXT {
+        let txt = s.txt;
+        return txt_rdata(txt);
+    }
+    let mut bytes = [0u8; 400];
+    if i == PTR {
+        let len = put_instance_name(&mut bytes, 0, s);
+        return Own { bytes, len };
+    }
+    if i == A {
+        let a = s.a;
+        put(&mut bytes, 0, &a);
+        return Own { bytes, len: 4 };
+    }
+    let aaaa = s.aaaa;
+    put(&mut bytes, 0, &aaaa);
+    Own { bytes, len: 16 }
+}

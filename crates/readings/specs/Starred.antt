@@ -1,0 +1,63 @@
+-- Specification, 'Corner readings': the twelve starred ones as one table, evaluated by a single statement. Each row is about the definitions that the
+-- contracts cite. Assumes nothing.
+use mathlib.Core.Path.{_≡_, refl}
+use mathlib.Core.List.{List, [], _∷_, _++_}
+use mathlib.Core.Bool.{true, false}
+use Prim.Native.Nat.{ℕ}
+use lib.IntN.{pos, negsuc}
+use lib.ListN.{length, replicate}
+use Rattle.wire.specs.case_folding.Fold.{sameName}
+use Rattle.wire.specs.name_pieces.Pieces.{pieceAt}
+use Rattle.wire.specs.names.Names.{readFrom, fromRun, nameAt}
+use Rattle.wire.specs.rdata.Rdata.{stringsFill, rdataIn, rdataAt}
+use Rattle.wire.specs.expansion.Equal.{sameBytes}
+use Rattle.wire.specs.message.Layout.{questionRead, questionAt, recordRead, recordAt, listFrom, refused, messageAt}
+use Rattle.txt.specs.Txt.{stringsFrom, keyOf, valueOf, hasKey, firstWith}
+use Rattle.txt.specs.Lookup.{anyBad, badKey, refusalOf, givenBy, inTxt, lookupOf}
+use Rattle.txt.specs.declared.Answer.the-variants.{Present}
+use Rattle.own.specs.records.Setups.{serviceLabels, instanceLabels, hostLabels}
+use Rattle.own.specs.records.Records.{hasRecord, ownLabels, ownName, ownType, ownClass, ownTtl, srvRdata, ownRdata}
+use Rattle.facts.specs.tiebreak.Later.{numberOf, compareNumbers, inTurn, compareRecords, insertBy, sortBy, tie}
+use Rattle.facts.specs.probe.Probe.{some, isProbe}
+use Rattle.facts.specs.tiebreak.Lists.{ownRecord, listUnder}
+use Rattle.claims.specs.answers.Answers.{omittedOf}
+use Rattle.facts.specs.Facts.{isAsked, isKnown, laterThan, queryFacts, factsOf}
+use Rattle.cache.specs.entries.Tables.{each}
+use Rattle.cache.specs.entries.Entries.{isOf, liveOf, soon, flushed}
+use Rattle.cache.specs.entries.Cache.{rule1}
+use Rattle.writer.specs.compression.Compression.{standsAt, placeOf, cutFrom, nameBytes, starts, namePlaces}
+use Rattle.writer.specs.Items.{putName, dataBytes, dataPlaces, putFields}
+use Rattle.writer.specs.own_packets.Packets.{packetOf}
+use Rattle.writer.specs.own_packets.Own as own
+use Rattle.writer.specs.own_packets.Own.{responsePacket, responseRecords, picked, responseOf}
+use Rattle.readings.specs.Examples.{address, example, holding, knowing, cached, announced, selfPointing, announcement}
+
+abbrev pub Starred : Type 0
+Starred =
+    -- "169.254.200.50 is later than 169.254.99.200."
+    (numberOf (tie (ownRecord 1 (169 ∷ (254 ∷ (200 ∷ (50 ∷ [])))) ∷ []) (ownRecord 1 (169 ∷ (254 ∷ (99 ∷ (200 ∷ [])))) ∷ [])) ≡ pos 1)
+    -- "Equal lists give 0."
+    × (numberOf (tie (ownRecord 1 address ∷ []) (ownRecord 1 address ∷ [])) ≡ pos 0)
+    -- "{A} before {A, AAAA} with the same A."
+    × (numberOf (tie (ownRecord 1 address ∷ []) (ownRecord 1 address ∷ (ownRecord 28 (replicate 16 0) ∷ []))) ≡ negsuc 0)
+    -- "Known PTR TTL 2250 omits, 2249 doesn't."
+    × (omittedOf holding (factsOf example (knowing 0 2250)) 0 .ptr ≡ true)
+    × (omittedOf holding (factsOf example (knowing 0 2249)) 0 .ptr ≡ false)
+    -- "A at 60 omits, at 59 doesn't."
+    × (omittedOf holding (factsOf example (knowing 3 60)) 0 .a ≡ true)
+    × (omittedOf holding (factsOf example (knowing 3 59)) 0 .a ≡ false)
+    -- "At 5000, a flush leaves an entry received at 4000, and sets one received at 3999 to expire by 6000."
+    × (rule1 5000 announced (cached 4000) .entries ≡ cached 4000 .entries)
+    × (rule1 5000 announced (cached 3999) .entries ≡ record { rtype = 1; owner = 12; rdata = 4; received = 3999; expiry = 6000 } ∷ [])
+    -- "Strings "PassReq", "PASSREQ=1": present without value."
+    × (lookupOf (112 ∷ (97 ∷ (115 ∷ (115 ∷ (114 ∷ (101 ∷ (113 ∷ [])))))))
+    (7 ∷ (80 ∷ (97 ∷ (115 ∷ (115 ∷ (82 ∷ (101 ∷ (113 ∷ (9 ∷ (80 ∷ (65 ∷ (83 ∷ (83 ∷ (82 ∷ (69 ∷ (81 ∷ (61 ∷ (49 ∷ [])))))))))))))))))) []
+    ≡ Present)
+    -- "Pointer at 12 to 12: refusal 6."
+    × (messageAt selfPointing ≡ refused 6)
+    -- "dock.local, 10.0.0.7 announced, 38 bytes"
+    × (responsePacket example (false ∷ (false ∷ (false ∷ (true ∷ (true ∷ []))))) ≡ announcement)
+
+pub starred : Starred
+unfolding example knowing cached announced tie sortBy insertBy compareRecords inTurn compareNumbers some isProbe listUnder isAsked isKnown laterThan queryFacts factsOf omittedOf holding sameName sameBytes hasRecord ownLabels ownName ownType ownClass ownTtl srvRdata ownRdata serviceLabels instanceLabels hostLabels rule1 each flushed liveOf isOf soon lookupOf refusalOf badKey anyBad stringsFill inTxt firstWith stringsFrom hasKey keyOf valueOf givenBy messageAt listFrom questionAt questionRead recordAt recordRead nameAt fromRun readFrom pieceAt rdataAt rdataIn responsePacket responseRecords picked responseOf own.ownRecord packetOf putName dataBytes dataPlaces putFields nameBytes namePlaces starts cutFrom placeOf standsAt
+starred = (refl, refl, refl, refl, refl, refl, refl, refl, refl, refl, refl, refl)

@@ -1,0 +1,72 @@
+-- A whole name: it has at most 255 bytes, so the buffer of zeros in which it is written holds it and zeros.
+-- Assumes nothing.
+use mathlib.Core.Path.{_≡_, refl, sym, ap, _∙_}
+use mathlib.Core.List.{List, [], _∷_, _++_}
+use Prim.Native.Nat.{ℕ, zero, suc, _+_, _-_, _<_, _≤_}
+use native.Mathlib.Nat.{zero-add}
+use native.Mathlib.Omega.{arith}
+use lib.ListN.{length, take, drop, replicate, length-append, length-take, length-replicate}
+use lib.Seq.{sets, sets-eq}
+use Rattle.wire.specs.declared.name_pieces.Piece.{Piece}
+use Rattle.wire.specs.declared.name_pieces.Piece.the-variants.{Root, Label, Pointer, Bad}
+use Rattle.wire.specs.name_pieces.Pieces.{pieceAt}
+use Rattle.wire.specs.names.Names.{Reading, name, malformed, before, ending, readPiece, readFrom, fromRun, nameAt}
+use Rattle.wire.specs.names.Answers.{spanOf, answerOf, Filled, Wrote, expanded, foundOf}
+use Rattle.wire.specs.declared.names.Span.{Span}
+use Rattle.wire.specs.declared.names.Name.{Name}
+use Rattle.wire.specs.declared.names.Name.the-variants.{Found, Malformed}
+use Rattle.wire.specs.declared.names.Expanded.{Expanded}
+use Rattle.wire.proofs.name_pieces.Pieces.{label-room}
+use Rattle.wire.proofs.octets.Sets.{drop-replicate}
+
+-- a name of which `used` bytes were read before has at most 255 in all
+abbrev pub Short : ℕ → Reading → Type 0
+Short used (name bs e) = used + length bs ≤ 255
+Short used malformed = Unit {0}
+
+short-before : (used n : ℕ) (xs : List ℕ) → length (take (n + 1) xs) ≤ n + 1 → (x : Reading) → Short (used + 1 + n) x → Short used (before (take (n + 1) xs) x)
+short-before used n xs h (name ys e) s = omega (arith, length-append (take (n + 1) xs) ys)
+short-before used n xs h malformed s = tt
+
+short-ending : (used e : ℕ) (x : Reading) → Short used x → Short used (ending e x)
+short-ending used e (name ys d) s = s
+short-ending used e malformed s = tt
+
+short-piece : (rest : ℕ → ℕ → ℕ → Reading) → ((s a u : ℕ) → u < 255 → Short u (rest s a u)) → (p : List ℕ) (start at used : ℕ) → used < 255
+    → (x : Piece) → pieceAt p start at used ≡ x → Short used (readPiece rest p start at used x)
+short-piece rest ih p start at used h Root e = omega arith
+short-piece rest ih p start at used h (Label n) e =
+    short-before used n (drop at p) (omega (arith, length-take (n + 1) (drop at p))) (rest start (at + 1 + n) (used + 1 + n)) (ih start (at + 1 + n) (used + 1 + n) (label-room p start at used n e))
+short-piece rest ih p start at used h (Pointer t) e = short-ending used (at + 2) (rest t t used) (ih t t used h)
+short-piece rest ih p start at used h Bad e = tt
+
+pub short : (f : ℕ) (p : List ℕ) (start at used : ℕ) → used < 255 → Short used (readFrom f p start at used)
+unfolding readFrom
+short zero p start at used h = tt
+short (suc f) p start at used h = short-piece (readFrom f p) (short f p) p start at used h (pieceAt p start at used) refl
+
+-- bytes written into zeros from the front
+filled : (n : ℕ) (bs : List ℕ) → length bs ≤ n → sets (replicate n 0) 0 bs ≡ bs ++ replicate (n - length bs) 0
+filled n bs h =
+    sets-eq bs (replicate n 0) 0 (omega (arith, length-replicate {A = ℕ} n 0))
+    ∙ ap (λ (k : ℕ). bs ++ drop k (replicate n 0)) (zero-add (length bs)) ∙ ap (λ (l : List ℕ). bs ++ l) (drop-replicate (length bs) n 0)
+
+module _ (p : List ℕ) (at : ℕ) (r : Name) (o′ : List ℕ) (w : Wrote (fromRun p at at 0) 0 (replicate 255 0) r o′) where
+  pub whole-found : (s : Span) → r ≡ Found s → _≡_ {A = Expanded} (record { name = Found s; bytes = o′ }) (expanded (nameAt p at))
+  unfolding nameAt fromRun
+  whole-found s is = go (fromRun p at at 0) w (short (at + 256) p at at 0 (omega arith))
+    where
+      go : (x : Reading) → Wrote x 0 (replicate 255 0) r o′ → Short 0 x → _≡_ {A = Expanded} (record { name = Found s; bytes = o′ }) (expanded x)
+      go (name bs e) g b =
+          let head : Found s ≡ Found (spanOf e (length bs)) = sym is ∙ g .answer ∙ ap (λ (k : ℕ). Found (spanOf e k)) (zero-add (length bs)) in
+          let body : o′ ≡ bs ++ replicate (255 - length bs) 0 = g .bytes ∙ filled 255 bs (omega arith) in
+          λ i. record { name = head i; bytes = body i }
+      go malformed g b = let h : r ≡ Malformed = g .answer in let z : _≡_ {A = ℕ} 0 1 = cc in absurd (omega arith)
+
+  pub whole-bad : r ≡ Malformed → _≡_ {A = Expanded} (record { name = Malformed; bytes = replicate 255 0 }) (expanded (nameAt p at))
+  unfolding nameAt fromRun
+  whole-bad is = go (fromRun p at at 0) w
+    where
+      go : (x : Reading) → Wrote x 0 (replicate 255 0) r o′ → _≡_ {A = Expanded} (record { name = Malformed; bytes = replicate 255 0 }) (expanded x)
+      go (name bs e) g = let h : r ≡ Found (spanOf e (0 + length bs)) = g .answer in let z : _≡_ {A = ℕ} 0 1 = cc in absurd (omega arith)
+      go malformed g = refl

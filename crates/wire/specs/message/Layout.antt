@@ -1,0 +1,155 @@
+-- How a message lies in a packet (specification, 'Reading a message'; RFC 1035, 4): "Header of 12 bytes, then the four sections by their counts; bytes
+-- after the last record are ignored." Assumes nothing: these are definitions.
+use Prim.Native.Nat.{ℕ, zero, suc, _+_, _/_, _%_}
+use mathlib.Core.List.{List, [], _∷_}
+use mathlib.Core.Bool.{Bool, true, false, cond, _&&_, _||_}
+use lib.ListN.{length}
+use lib.Dec.{leb, ltb, eqb}
+use Rattle.wire.specs.octets.Octets.{word16, word32}
+use Rattle.wire.specs.names.Names.{Reading, name, malformed, nameAt}
+use Rattle.wire.specs.rdata.Rdata.{Rdata, rdata, unfit, rdataAt}
+use Rattle.wire.specs.message.Message.{Question, Record, Message, ttlOf}
+use Rattle.wire.specs.declared.message.QuestionAt.{QuestionAt}
+use Rattle.wire.specs.declared.message.QuestionRead.{QuestionRead}
+use Rattle.wire.specs.declared.message.QuestionRead.the-variants as q
+use Rattle.wire.specs.declared.message.RecordAt.{RecordAt}
+use Rattle.wire.specs.declared.message.RecordRead.{RecordRead}
+use Rattle.wire.specs.declared.message.RecordRead.the-variants as r
+use Rattle.wire.specs.declared.message.Section.{Section}
+use Rattle.wire.specs.declared.message.Layout.{Layout}
+use Rattle.wire.specs.declared.message.MessageRead.{MessageRead}
+use Rattle.wire.specs.declared.message.MessageRead.the-variants as m
+
+-- A question: a name, two bytes of type and two of class.
+abbrev pub questionFrom : List ℕ → ℕ → Reading → QuestionRead
+questionFrom p at (name bs e) =
+    cond (leb (e + 4) (length p))
+    (q.Found (record { name = at; span = length bs; rtype = word16 p e; class = word16 p (e + 2); next = e + 4 }))
+    q.Malformed
+questionFrom p at malformed = q.Malformed
+
+unfoldable pub questionRead : List ℕ → ℕ → QuestionRead
+questionRead p at = questionFrom p at (nameAt p at)
+
+-- A record: a name, then type, class, TTL and the length of the rdata, in ten bytes, and the rdata "starting where the record's length field ends".
+abbrev pub recordFrom : List ℕ → ℕ → Reading → RecordRead
+recordFrom p at (name bs e) =
+    cond (leb (e + 10) (length p) && leb (e + 10 + word16 p (e + 8)) (length p))
+    (r.Found (record {
+      owner = at;
+      span = length bs;
+      rtype = word16 p e;
+      class = word16 p (e + 2);
+      ttl = ttlOf (word32 p (e + 4));
+      rdata = e + 10;
+      rdlength = word16 p (e + 8);
+      next = e + 10 + word16 p (e + 8);
+    }))
+    r.Malformed
+recordFrom p at malformed = r.Malformed
+
+unfoldable pub recordRead : List ℕ → ℕ → RecordRead
+recordRead p at = recordFrom p at (nameAt p at)
+
+-- What stands at an offset of a section, with the offset past it; or what no well-formed message has there.
+pub data Item (A : Type 0) : Type 0 where
+  item : A → ℕ → Item A
+  broken : Item A
+
+-- the bytes of a name that was read
+abbrev pub bytesOf : Reading → List ℕ
+bytesOf (name bs e) = bs
+bytesOf malformed = []
+
+-- the question at an offset
+abbrev pub questionMeant : List ℕ → QuestionRead → Item Question
+questionMeant bs (q.Found f) = item (record { name = bs; rtype = f .rtype; class = f .class }) (f .next)
+questionMeant bs q.Malformed = broken
+
+unfoldable pub questionAt : List ℕ → ℕ → Item Question
+questionAt p at = questionMeant (bytesOf (nameAt p at)) (questionRead p at)
+
+-- the record at an offset, its rdata as its type asks
+abbrev pub recordOf : List ℕ → RecordAt → List ℕ → Record
+recordOf bs f d = record { owner = bs; rtype = f .rtype; class = f .class; ttl = f .ttl; rdata = d }
+
+abbrev pub withRdata : List ℕ → RecordAt → Rdata → Item Record
+withRdata bs f (rdata d) = item (recordOf bs f d) (f .next)
+withRdata bs f unfit = broken
+
+abbrev pub recordMeant : List ℕ → List ℕ → RecordRead → Item Record
+recordMeant p bs (r.Found f) = withRdata bs f (rdataAt p (f .rtype) (f .rdata) (f .rdlength))
+recordMeant p bs r.Malformed = broken
+
+unfoldable pub recordAt : List ℕ → ℕ → Item Record
+recordAt p at = recordMeant p (bytesOf (nameAt p at)) (recordRead p at)
+
+-- A section: so many items one after the other, and the offset past the last; or that one of them is broken.
+pub data Listing (A : Type 0) : Type 0 where
+  listing : List A → ℕ → Listing A
+  cut : Listing A
+
+abbrev pub first : {A : Type 0} → A → Listing A → Listing A
+first x (listing xs e) = listing (x ∷ xs) e
+first x cut = cut
+
+abbrev pub andOn : {A : Type 0} → (ℕ → Listing A) → Item A → Listing A
+andOn rest (item x next) = first x (rest next)
+andOn rest broken = cut
+
+unfoldable pub listFrom : {A : Type 0} → (ℕ → Item A) → ℕ → ℕ → Listing A
+listFrom part zero at = listing [] at
+listFrom part (suc n) at = andOn (listFrom part n) (part at)
+
+-- the whole packet: what it says and where, or the number of its refusal
+pub data Reads : Type 0 where
+  read : Layout → Message → Reads
+  refused : ℕ → Reads
+
+-- the header's opcode (4 bits) and RCODE (4 bits) are zero
+abbrev pub plainHeader : ℕ → Bool
+plainHeader flags = eqb (flags / 2048 % 16) 0 && eqb (flags % 16) 0
+
+-- the sections in turn: each begins where the one before it ends
+abbrev pub additionalsOf : List ℕ → List Question → List Record → List Record → ℕ → ℕ → ℕ → Listing Record → Reads
+additionalsOf p qs an ns a b c (listing ar e) =
+    read
+    (record {
+      id = word16 p 0;
+      flags = word16 p 2;
+      questions = record { at = 12; count = word16 p 4 };
+      answers = record { at = a; count = word16 p 6 };
+      authorities = record { at = b; count = word16 p 8 };
+      additionals = record { at = c; count = word16 p 10 };
+      end = e;
+    })
+    (record { id = word16 p 0; flags = word16 p 2; questions = qs; answers = an; authorities = ns; additionals = ar })
+additionalsOf p qs an ns a b c cut = refused 6
+
+abbrev pub authoritiesOf : List ℕ → List Question → List Record → ℕ → ℕ → Listing Record → Reads
+authoritiesOf p qs an a b (listing ns c) = additionalsOf p qs an ns a b c (listFrom (recordAt p) (word16 p 10) c)
+authoritiesOf p qs an a b cut = refused 6
+
+abbrev pub answersOf : List ℕ → List Question → ℕ → Listing Record → Reads
+answersOf p qs a (listing an b) = authoritiesOf p qs an a b (listFrom (recordAt p) (word16 p 8) b)
+answersOf p qs a cut = refused 6
+
+abbrev pub questionsOf : List ℕ → Listing Question → Reads
+questionsOf p (listing qs a) = answersOf p qs a (listFrom (recordAt p) (word16 p 6) a)
+questionsOf p cut = refused 6
+
+-- 4: "message under 12 or over 8,972 bytes"; 5: "opcode or RCODE not zero, or ..", where the port is the caller's; 6: malformed; in this order
+unfoldable pub messageAt : List ℕ → Reads
+messageAt p =
+    cond (ltb (length p) 12 || ltb 8972 (length p)) (refused 4)
+    (cond (plainHeader (word16 p 2)) (questionsOf p (listFrom (questionAt p) (word16 p 4) 12)) (refused 5))
+
+-- the answer of `read_message`
+abbrev pub readOf : Reads → MessageRead
+readOf (read l says) = m.Read l
+readOf (refused n) = m.Refused n
+
+-- The specification's number for each answer: 0 where nothing is refused
+abbrev pub refusalOf : MessageRead → ℕ
+refusalOf (m.Read l) = 0
+refusalOf (m.Refused n) = n

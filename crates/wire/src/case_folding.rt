@@ -1,0 +1,33 @@
+// Equality of uncompressed names: ASCII letters folded, and nothing else (specification, 'Reading a message'; RFC 6762, 16).
+ghost use mathlib.Core.Path.{_≡_};
+ghost use Rattle.wire.specs.case_folding.Fold.{lower, sameName};
+
+// A byte with an ASCII capital letter made small.
+pub fn lowered(b: u8) -> u8
+    ensures { λ r. ⌜ r ≡ lower b ⌝ }
+{
+    if b < b'A' {
+        return b;
+    }
+    if b'Z' < b {
+        return b;
+    }
+    b + 32
+}
+
+// Whether two uncompressed names are equal. The lengths are compared before any byte is folded.
+pub fn same_name(a: &[u8], b: &[u8]) -> bool
+    ensures { λ r. ⌜ r ≡ sameName (now (a .entry)) (now (b .entry)) ⌝ }
+{
+    if a.len() != b.len() {
+        return false;
+    }
+    let mut i = 0;
+    while i < a.len() {
+        if lowered(a[i]) != lowered(b[i]) {
+            return false;
+        }
+        i += 1;
+    }
+    true
+}

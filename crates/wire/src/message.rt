@@ -1,0 +1,275 @@
+// Reads a message (specification, 'Reading a message'; RFC 1035, 4): a header, then questions and records by their counts. A caller checks the whole
+// message once, and then walks a section with a cursor.
+ghost use mathlib.Core.Path.{_≡_};
+ghost use Rattle.wire.specs.octets.Octets.{word16};
+ghost use Rattle.wire.specs.message.Message.{ttlOf};
+ghost use Rattle.wire.specs.message.Layout.{questionRead, recordRead, questionAt, recordAt, listFrom, questionsOf, plainHeader, messageAt, readOf};
+ghost use Rattle.wire.specs.message.Places.{pastItem, pastList};
+
+pub const LEAST_MESSAGE: usize = 12;
+
+pub const MOST_MESSAGE: usize = 8972;
+
+// A question as it lies: where its name starts and how long that is uncompressed, its type and class, and the offset past it.
+pub struct QuestionAt {
+    pub name: usize,
+    pub span: usize,
+    pub rtype: u16,
+    pub class: u16,
+    pub next: usize,
+}
+
+pub enum QuestionRead {
+    Found(QuestionAt),
+    Malformed,
+}
+
+// A record as it lies: where its owner starts and how long that is uncompressed; its type; its class as on the wire; its TTL as it counts; where
+// its rdata starts and how long it is; and the offset past it.
+pub struct RecordAt {
+    pub owner: usize,
+    pub span: usize,
+    pub rtype: u16,
+    pub class: u16,
+    pub ttl: u32,
+    pub rdata: usize,
+    pub rdlength: usize,
+    pub next: usize,
+}
+
+pub enum RecordRead {
+    Found(RecordAt),
+    Malformed,
+}
+
+// A section: where it starts, and how many questions or records it has.
+pub struct Section {
+    pub at: usize,
+    pub count: u16,
+}
+
+// A message as it lies: the header's ID and flags, the four sections, and the offset past the last record.
+pub struct Layout {
+    pub id: u16,
+    pub flags: u16,
+    pub questions: Section,
+    pub answers: Section,
+    pub authorities: Section,
+    pub additionals: Section,
+    pub end: usize,
+}
+
+// What reading a whole message finds. A refusal carries the specification's number: 4, 5 or 6.
+pub enum MessageRead {
+    Read(Layout),
+    Refused(u8),
+}
+
+// Where a section ends.
+pub enum Place {
+    At(usize),
+    Malformed,
+}
+
+// The question at an offset.
+pub fn question_at(p: &[u8], at: usize) -> QuestionRead
+    ensures { λ r. ⌜ r ≡ questionRead (now (p .entry)) at ⌝ }
+{
+    match crate::names::name_at(p, at) {
+        crate::names::Name::Found(span) => {
+            let end = span.end;
+            if p.len() < end {
+                return QuestionRead::Malformed;
+            }
+            if p.len() - end < 4 {
+                return QuestionRead::Malformed;
+            }
+            QuestionRead::Found(QuestionAt {
+                name: at,
+                span: span.len,
+                rtype: crate::octets::be16(p, end),
+                class: crate::octets::be16(p, end + 2),
+                next: end + 4,
+            })
+        }
+        crate::names::Name::Malformed => QuestionRead::Malformed,
+    }
+}
+
+// A TTL as it counts: 0 where its top bit is set.
+pub fn counted_ttl(ttl: u32) -> u32
+    ensures { λ r. ⌜ r ≡ ttlOf ttl ⌝ }
+{
+    if 2147483648 <= ttl {
+        return 0;
+    }
+    ttl
+}
+
+// The record at an offset. Its rdata lies in the packet; whether it is as its type asks is not looked at here.
+pub fn record_at(p: &[u8], at: usize) -> RecordRead
+    ensures { λ r. ⌜ r ≡ recordRead (now (p .entry)) at ⌝ }
+{
+    match crate::names::name_at(p, at) {
+        crate::names::Name::Found(span) => {
+            let end = span.end;
+            if p.len() < end {
+                return RecordRead::Malformed;
+            }
+            if p.len() - end < 10 {
+                return RecordRead::Malformed;
+            }
+            let rdlength = crate::octets::be16(p, end + 8) as usize;
+            let rdata = end + 10;
+            if p.len() - rdata < rdlength {
+                return RecordRead::Malformed;
+            }
+            RecordRead::Found(RecordAt {
+                owner: at,
+                span: span.len,
+                rtype: crate::octets::be16(p, end),
+                class: crate::octets::be16(p, end + 2),
+                ttl: counted_ttl(crate::octets::be32(p, end + 4)),
+                rdata,
+                rdlength,
+                next: rdata + rdlength,
+            })
+        }
+        crate::names::Name::Malformed => RecordRead::Malformed,
+    }
+}
+
+// Past the question at an offset.
+fn past_question(p: &[u8], at: usize) -> Place
+    ensures { λ r. ⌜ r ≡ pastItem (questionAt (now (p .entry)) at) ⌝ }
+{
+    match question_at(p, at) {
+        QuestionRead::Found(q) => Place::At(q.next),
+        QuestionRead::Malformed => Place::Malformed,
+    }
+}
+
+// Past the record at an offset, where its rdata is as its type asks.
+fn past_record(p: &[u8], at: usize) -> Place
+    ensures { λ r. ⌜ r ≡ pastItem (recordAt (now (p .entry)) at) ⌝ }
+{
+    match record_at(p, at) {
+        RecordRead::Found(r) => {
+            if crate::rdata::rdata_fits(p, r.rtype, r.rdata, r.rdlength) {
+                Place::At(r.next)
+            } else {
+                Place::Malformed
+            }
+        }
+        RecordRead::Malformed => Place::Malformed,
+    }
+}
+
+// Past so many questions.
+fn questions_end(p: &[u8], at: usize, count: u16) -> Place
+    ensures { λ r. ⌜ r ≡ pastList (listFrom (questionAt (now (p .entry))) count at) ⌝ }
+{
+    let mut here = at;
+    let mut left = count;
+    while 0 < left {
+        match past_question(p, here) {
+            Place::At(next) => {
+                here = next;
+            }
+            Place::Malformed => {
+                return Place::Malformed;
+            }
+        }
+        left -= 1;
+    }
+    Place::At(here)
+}
+
+// Past so many records.
+fn records_end(p: &[u8], at: usize, count: u16) -> Place
+    ensures { λ r. ⌜ r ≡ pastList (listFrom (recordAt (now (p .entry))) count at) ⌝ }
+{
+    let mut here = at;
+    let mut left = count;
+    while 0 < left {
+        match past_record(p, here) {
+            Place::At(next) => {
+                here = next;
+            }
+            Place::Malformed => {
+                return Place::Malformed;
+            }
+        }
+        left -= 1;
+    }
+    Place::At(here)
+}
+
+// Whether the opcode and the RCODE of a header's flags are zero.
+fn plain_header(flags: u16) -> bool
+    ensures { λ r. ⌜ r ≡ plainHeader flags ⌝ }
+{
+    if flags / 2048 % 16 != 0 {
+        return false;
+    }
+    flags % 16 == 0
+}
+
+// The sections of a packet that is long enough for a header.
+fn read_sections(p: &[u8]) -> MessageRead
+    ensures { λ r. ⌜ r ≡ readOf (questionsOf (now (p .entry)) (listFrom (questionAt (now (p .entry))) (word16 (now (p .entry)) 4) 12)) ⌝ }
+{
+    let questions = crate::octets::be16(p, 4);
+    let answers = crate::octets::be16(p, 6);
+    let authorities = crate::octets::be16(p, 8);
+    let additionals = crate::octets::be16(p, 10);
+    let Place::At(a) = questions_end(p, LEAST_MESSAGE, questions) else {
+        return MessageRead::Refused(6);
+    };
+    let Place::At(b) = records_end(p, a, answers) else {
+        return MessageRead::Refused(6);
+    };
+    let Place::At(c) = records_end(p, b, authorities) else {
+        return MessageRead::Refused(6);
+    };
+    let Place::At(end) = records_end(p, c, additionals) else {
+        return MessageRead::Refused(6);
+    };
+    MessageRead::Read(Layout {
+        id: crate::octets::be16(p, 0),
+        flags: crate::octets::be16(p, 2),
+        questions: Section {
+            at: LEAST_MESSAGE,
+            count: questions,
+        },
+        answers: Section {
+            at: a,
+            count: answers,
+        },
+        authorities: Section {
+            at: b,
+            count: authorities,
+        },
+        additionals: Section {
+            at: c,
+            count: additionals,
+        },
+        end,
+    })
+}
+
+// The whole message: refused as 4, 5 or 6, in this order, or where its sections lie.
+pub fn read_message(p: &[u8]) -> MessageRead
+    ensures { λ r. ⌜ r ≡ readOf (messageAt (now (p .entry))) ⌝ }
+{
+    if p.len() < LEAST_MESSAGE {
+        return MessageRead::Refused(4);
+    }
+    if MOST_MESSAGE < p.len() {
+        return MessageRead::Refused(4);
+    }
+    if !plain_header(crate::octets::be16(p, 2)) {
+        return MessageRead::Refused(5);
+    }
+    read_sections(p)
+}

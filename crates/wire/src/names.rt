@@ -1,0 +1,215 @@
+// Names in a packet (specification, 'Reading a message'; RFC 1035, 3.1 and 4.1.4): labels of 1..63 bytes and a zero byte, at most 255 bytes
+// uncompressed; a byte of 0xC0 or more starts a pointer, whose target is at least 12 and lies before the run of labels that led to it.
+ghost use mathlib.Core.Path.{_≡_};
+ghost use Prim.Native.Nat.{_+_, _≤_, _<_};
+ghost use lib.ListN.{length};
+ghost use lib.Seq.{sets};
+ghost use Rattle.wire.specs.names.Names.{nameAt, fromRun, ending, isName};
+ghost use Rattle.wire.specs.names.Answers.{Wrote, Chased, expanded, foundOf, nameIs};
+use crate::name_pieces::Piece;
+
+// Where a name ends in place, and its uncompressed length.
+pub struct Span {
+    pub end: usize,
+    pub len: usize,
+}
+
+// What reading a name finds.
+pub enum Name {
+    Found(Span),
+    Malformed,
+}
+
+// A name with its uncompressed bytes, zeros after them.
+pub struct Expanded {
+    pub name: Name,
+    pub bytes: [u8; 255],
+}
+
+// Writes `s` into `out` from index `at` on.
+fn put(out: &mut [u8; 255], at: usize, s: &[u8])
+    requires { ⌜ at + length (now s) ≤ 255 ⌝ }
+    ensures { λ _. ⌜ now (out .exit) ≡ sets (now (out .entry)) at (now (s .entry)) ⌝ }
+{
+    let mut i = 0;
+    while i < s.len() {
+        out[at + i] = s[i];
+        i += 1;
+    }
+}
+
+// The end of a chain of pointers: the first place, from `target` on, at which no pointer stands. A loop, so that a long chain takes no stack.
+fn chase(p: &[u8], target: usize, used: usize) -> usize
+    requires { ⌜ used < 255 ⌝ }
+    ensures { λ r. ⌜ Chased (now (p .entry)) used target r ⌝ }
+{
+    let mut run = target;
+    loop {
+        match crate::name_pieces::piece_at(p, run, run, used) {
+            Piece::Pointer(t) => {
+                run = t;
+            }
+            Piece::Root => {
+                return run;
+            }
+            Piece::Label(_) => {
+                return run;
+            }
+            Piece::Bad => {
+                return run;
+            }
+        }
+    }
+}
+
+// The label walker: the rest of a name of which `used` bytes stand in `out`, in the run of labels that begins at `start`.
+fn walk(p: &[u8], start: usize, at: usize, out: &mut [u8; 255], used: usize) -> Name
+    requires { ⌜ used < 255 ⌝ }
+    ensures { λ r. ⌜ Wrote (fromRun (now (p .entry)) start at used) used (now (out .entry)) r (now (out .exit)) ⌝ }
+{
+    match crate::name_pieces::piece_at(p, start, at, used) {
+        Piece::Root => {
+            out[used] = 0;
+            Name::Found(Span {
+                end: at + 1,
+                len: used + 1,
+            })
+        }
+        Piece::Label(n) => {
+            let next = at + 1 + n;
+            put(out, used, &p[at..next]);
+            walk(p, start, next, out, used + 1 + n)
+        }
+        Piece::Pointer(target) => follow(p, at, target, out, used),
+        Piece::Bad => Name::Malformed,
+    }
+}
+
+// The pointer follower: the same for a pointer at `at`, whose target has been found good.
+fn follow(p: &[u8], at: usize, target: usize, out: &mut [u8; 255], used: usize) -> Name
+    requires { ⌜ used < 255 ⌝ }
+    requires { ⌜ at + 1 < length (now p) ⌝ }
+    ensures { λ r. ⌜ Wrote (ending (at + 2) (fromRun (now (p .entry)) target target used)) used (now (out .entry)) r (now (out .exit)) ⌝ }
+{
+    let run = chase(p, target, used);
+    match walk(p, run, run, out, used) {
+        Name::Found(span) => Name::Found(Span {
+            end: at + 2,
+            len: span.len,
+        }),
+        Name::Malformed => Name::Malformed,
+    }
+}
+
+// The name at an offset of a packet, expanded from a buffer of zeros; where it is malformed the bytes are all zero.
+pub fn expand(p: &[u8], at: usize) -> Expanded
+    ensures { λ r. ⌜ r ≡ expanded (nameAt (now (p .entry)) at) ⌝ }
+{
+    let mut bytes = [0u8; 255];
+    match walk(p, at, at, &mut bytes, 0) {
+        Name::Found(span) => Expanded {
+            name: Name::Found(span),
+            bytes,
+        },
+        Name::Malformed => Expanded {
+            name: Name::Malformed,
+            bytes: [0u8; 255],
+        },
+    }
+}
+
+// The name at an offset of a packet, without its bytes: nothing is copied.
+pub fn name_at(p: &[u8], at: usize) -> Name
+    ensures { λ r. ⌜ r ≡ foundOf (nameAt (now (p .entry)) at) ⌝ }
+{
+    let mut start = at;
+    let mut here = at;
+    let mut used = 0;
+    // past the first pointer, and 0 until one has been followed
+    let mut end = 0;
+    loop {
+        match crate::name_pieces::piece_at(p, start, here, used) {
+            Piece::Root => {
+                if end == 0 {
+                    return Name::Found(Span {
+                        end: here + 1,
+                        len: used + 1,
+                    });
+                }
+                return Name::Found(Span { end, len: used + 1 });
+            }
+            Piece::Label(n) => {
+                here = here + 1 + n;
+                used = used + 1 + n;
+            }
+            Piece::Pointer(target) => {
+                if end == 0 {
+                    end = here + 2;
+                }
+                start = target;
+                here = target;
+            }
+            Piece::Bad => {
+                return Name::Malformed;
+            }
+        }
+    }
+}
+
+// Whether the name at an offset of a packet equals an uncompressed one, ASCII letters folded: compared label by label, nothing is copied.
+// A malformed name equals none.
+pub fn name_is(p: &[u8], at: usize, other: &[u8]) -> bool
+    ensures { λ r. ⌜ r ≡ nameIs (now (p .entry)) at (now (other .entry)) ⌝ }
+{
+    let mut start = at;
+    let mut here = at;
+    let mut used = 0;
+    loop {
+        match crate::name_pieces::piece_at(p, start, here, used) {
+            Piece::Root => {
+                let end = here + 1;
+                return crate::case_folding::same_name(&p[here..end], &other[used..]);
+            }
+            Piece::Label(n) => {
+                let next = here + 1 + n;
+                let total = used + 1 + n;
+                if other.len() < total {
+                    return false;
+                }
+                if !crate::case_folding::same_name(&p[here..next], &other[used..total]) {
+                    return false;
+                }
+                here = next;
+                used = total;
+            }
+            Piece::Pointer(target) => {
+                start = target;
+                here = target;
+            }
+            Piece::Bad => {
+                return false;
+            }
+        }
+    }
+}
+
+// Whether a slice is one uncompressed name: no pointer in it, and no byte past its zero byte.
+pub fn is_name(s: &[u8]) -> bool
+    ensures { λ r. ⌜ r ≡ isName (now (s .entry)) ⌝ }
+{
+    if crate::name_pieces::MOST_NAME < s.len() {
+        return false;
+    }
+    let mut at = 0;
+    while at < s.len() {
+        let n = s[at] as usize;
+        if n == 0 {
+            return at + 1 == s.len();
+        }
+        if 64 <= n {
+            return false;
+        }
+        at = at + 1 + n;
+    }
+    false
+}

@@ -1,0 +1,200 @@
+-- Own records into a packet: one of them, and a list of them one after the other. Assumes nothing.
+use mathlib.Core.Path.{_≡_, refl, sym, ap, ap₂, _∙_, subst}
+use mathlib.Core.List.{List, [], _∷_, _++_, map}
+use mathlib.Core.Bool.{Bool, true, false, cond}
+use Prim.Native.Nat.{ℕ, _+_, _-_, _<_, _≤_}
+use native.Mathlib.Numerals.{add-one}
+use native.Mathlib.Omega.{arith}
+use borrow.Author.Tests.{le-leb}
+use lib.ListN.{length, getD, take, drop, replicate, length-take, take-append-drop, drop-of-length-le}
+use lib.Seq.{sets, take-at, drop-at, drop-cons, length-take-le, drop-drop}
+use lib.Dec.{eqb}
+use Rattle.wire.specs.labels.Labels.{encode}
+use Rattle.wire.proofs.labels.Encoded.{is-name}
+use Rattle.writer.specs.compression.Compression.{labelsIn}
+use Rattle.wire.specs.message.Message.{Record}
+use Rattle.own.specs.declared.records.Setup.{Setup}
+use Rattle.own.specs.declared.records.Own.{Own}
+use Rattle.own.specs.records.Setups.{validSetup, instanceLabels}
+use Rattle.own.specs.records.Records.{ownOf, ownName, ownType, ownTtl, ownRdata, srvRdata}
+use Rattle.own.proofs.records.Valid.{Valid, valid, instance-name, host-name, own-is-name}
+use Rattle.writer.specs.declared.Spot.{Spot}
+use Rattle.writer.specs.declared.Placed.{Placed}
+use Rattle.writer.specs.Items.{Writing, u16, putRecord}
+use Rattle.writer.specs.Writer.{heldIn, spotOf, recordOf, namesFit, labelsFor, nameFits, recordFits, Placing, Grown}
+use Rattle.writer.proofs.Use.{is-done, is-grown, record-size, record-count, record-low, places-low, held-so}
+use Rattle.writer.specs.own_packets.Packets.{headerBytes, putAll}
+use Rattle.writer.specs.own_packets.Own.{classIn, ownRecord}
+use Rattle.writer.specs.own_packets.Ready.{spotAfter, sizeOf, labelsOf, sizes, labelCounts, OwnReady, ListReady}
+
+-- six runs of two bytes
+pub six : (o : List ℕ) (a b c d e f : ℕ) (o₁ o₂ o₃ o₄ o₅ o₆ : List ℕ) → o₁ ≡ sets o 0 (u16 a) → o₂ ≡ sets o₁ 2 (u16 b) → o₃ ≡ sets o₂ 4 (u16 c) → o₄ ≡ sets o₃ 6 (u16 d) → o₅ ≡ sets o₄ 8 (u16 e) → o₆ ≡ sets o₅ 10 (u16 f)
+    → o₆ ≡ sets o 0 (headerBytes a b c d e f)
+six o a b c d e f o₁ o₂ o₃ o₄ o₅ o₆ h₁ h₂ h₃ h₄ h₅ h₆ =
+    let s₂ : o₂ ≡ sets o 0 (u16 a ++ u16 b) = h₂ ∙ ap (λ (m : List ℕ). sets m 2 (u16 b)) h₁ in
+    let s₃ : o₃ ≡ sets o 0 (u16 a ++ u16 b ++ u16 c) = h₃ ∙ ap (λ (m : List ℕ). sets m 4 (u16 c)) s₂ in
+    let s₄ : o₄ ≡ sets o 0 (u16 a ++ u16 b ++ u16 c ++ u16 d) = h₄ ∙ ap (λ (m : List ℕ). sets m 6 (u16 d)) s₃ in
+    let s₅ : o₅ ≡ sets o 0 (u16 a ++ u16 b ++ u16 c ++ u16 d ++ u16 e) = h₅ ∙ ap (λ (m : List ℕ). sets m 8 (u16 e)) s₄ in
+    h₆ ∙ ap (λ (m : List ℕ). sets m 10 (u16 f)) s₅
+
+-- the front of own bytes
+module _ (bs : List ℕ) (r : Own) (e : r ≡ ownOf bs) where
+  pub own-front : take (r .len) (r .bytes) ≡ bs
+  own-front = ap (λ (x : Own). take (x .len) (x .bytes)) e ∙ take-at bs (replicate (400 - length bs) 0) (length bs) refl
+
+  pub own-long : r .len ≡ length (take (r .len) (r .bytes))
+  own-long = ap (λ (x : Own). x .len) e ∙ ap length (sym own-front)
+
+  pub own-fits : r .len ≤ length (r .bytes)
+  own-fits = omega (arith, own-long, length-take (r .len) (r .bytes))
+
+-- what fits is put, so the packet ends behind it
+pub placed-grown : (fits : Bool) (v : Writing) (o pl : List ℕ) (placed : Placed) (o′ pl′ : List ℕ) → Placing fits v o pl placed o′ pl′ → fits ≡ true → (at count : ℕ) (r : Spot) → r ≡ spotAfter placed at count
+    → Grown v o pl r o′ pl′
+placed-grown fits v o pl placed o′ pl′ p t at count r e =
+    subst (λ (x : Spot). Grown v o pl x o′ pl′) (sym (e ∙ ap (λ (x : Placed). spotAfter x at count) (is-done fits v o pl placed o′ pl′ p t))) (is-grown fits v o pl placed o′ pl′ p t)
+
+-- an own record has the names that its type asks for
+pub own-names : (s : Setup) → Valid s → (i : ℕ) → namesFit (ownType i) (ownRdata s i) ≡ true
+unfolding namesFit ownType ownRdata srvRdata
+own-names s ok i = go (eqb i 0) (eqb i 1) (eqb i 2) (eqb i 3)
+  where
+    go : (a b c d : Bool)
+        → namesFit (cond a 12 (cond b 33 (cond c 16 (cond d 1 28)))) (cond a (encode (instanceLabels s)) (cond b (srvRdata s) (cond c (take (s .txt .len) (s .txt .bytes)) (cond d (s .a) (s .aaaa))))) ≡ true
+    go true b c d = let k : 0 ≤ length (encode (instanceLabels s)) = omega arith in simp (le-leb 0 (length (encode (instanceLabels s))) k) (is-name (instance-name s ok))
+    go false true c d = let k : 6 ≤ length (srvRdata s) = omega arith in simp (le-leb 6 (length (srvRdata s)) k) (is-name (host-name s ok))
+    go false false true d = refl
+    go false false false true = refl
+    go false false false false = refl
+
+module _ (s : Setup) (i at count : ℕ) (o pl : List ℕ) (ready : OwnReady s i at count o pl) where
+  pub fits : recordFits at count (ownName s i) (ownType i) (ownRdata s i) (length o) (length pl) ≡ true
+  unfolding recordFits nameFits
+  fits =
+      let ok : Valid s = valid s (ready .ok) in
+      let a : length (ownRdata s i) ≤ 65535 = omega (arith, ready .small) in
+      let b : at + length (ownName s i) + (10 + length (ownRdata s i)) ≤ length o = omega (arith, ready .room) in
+      let c : at + length (ownName s i) ≤ 16384 = omega (arith, ready .small) in
+      let d : count + labelsIn (ownName s i) + labelsFor (ownType i) (ownRdata s i) ≤ length pl = omega (arith, ready .slots) in
+      simp (own-names s ok i, le-leb _ _ a, own-is-name s ok i, le-leb _ _ b, le-leb _ _ c, le-leb _ _ d)
+
+  module _ (n d : Own) (en : n ≡ ownOf (ownName s i)) (ed : d ≡ ownOf (ownRdata s i)) (k : ℕ) (ek : k ≡ ownType i) where
+    record-fits : recordFits at count (take (n .len) (n .bytes)) k (take (d .len) (d .bytes)) (length o) (length pl) ≡ true
+    record-fits =
+        (λ j. recordFits at count (own-front (ownName s i) n en j) (ek j) (own-front (ownRdata s i) d ed j) (length o) (length pl)) ∙ fits
+
+    pub own-grown : (probing : Bool) (c t : ℕ) → c ≡ classIn probing i → t ≡ ownTtl i → (placed : Placed) (o′ pl′ : List ℕ)
+        → Placing (recordFits at count (take (n .len) (n .bytes)) k (take (d .len) (d .bytes)) (length o) (length pl)) (putRecord (heldIn o pl at count) (recordOf (take (n .len) (n .bytes)) k c t (take (d .len) (d .bytes)))) o pl placed o′ pl′
+        → (r : Spot) → r ≡ spotAfter placed at count → Grown (putRecord (heldIn o pl at count) (ownRecord s probing i)) o pl r o′ pl′
+    unfolding ownRecord
+    own-grown probing c t ec et placed o′ pl′ p r er =
+        let e : recordOf (take (n .len) (n .bytes)) k c t (take (d .len) (d .bytes)) ≡ recordOf (ownName s i) (ownType i) (classIn probing i) (ownTtl i) (ownRdata s i) =
+        λ j. recordOf (own-front (ownName s i) n en j) (ek j) (ec j) (et j) (own-front (ownRdata s i) d ed j) in
+        subst (λ (x : Record). Grown (putRecord (heldIn o pl at count) x) o pl r o′ pl′) e (placed-grown _ _ o pl placed o′ pl′ p record-fits at count r er)
+
+-- The list from `j` on is still to be written: then the packet is `v`. What stands behind the packet is as it was.
+pub record Going (s : Setup) (probing : Bool) (is : List ℕ) (v : Writing) (o₀ pl₀ o pl : List ℕ) (at count j : ℕ) : Type 0 where
+  pub rest : putAll putRecord (heldIn o pl at count) (map (ownRecord s probing) (drop j is)) ≡ v
+  pub kept : drop at o ≡ drop at o₀
+  pub noted : drop count pl ≡ drop count pl₀
+  pub same : length o ≡ length o₀
+  pub table : length pl ≡ length pl₀
+  pub room : at + sizes s (drop j is) ≤ length o₀
+  pub small : at + sizes s (drop j is) ≤ 16384
+  pub slots : count + labelCounts s (drop j is) ≤ length pl₀
+
+pub going : (s : Setup) (probing : Bool) (is o pl : List ℕ) (at count : ℕ) → ListReady s is at count o pl
+    → Going s probing is (putAll putRecord (heldIn o pl at count) (map (ownRecord s probing) is)) o pl o pl at count 0
+going s probing is o pl at count ready = record { rest = refl; kept = refl; noted = refl; same = refl; table = refl; room = ready .room; small = ready .small; slots = ready .slots }
+
+module _ (s : Setup) (probing : Bool) (is : List ℕ) (v : Writing) (o₀ pl₀ o pl : List ℕ) (at count j : ℕ) (g : Going s probing is v o₀ pl₀ o pl at count j) where
+  -- nothing is left
+  pub gone : length is ≤ j → Grown v o₀ pl₀ (spotOf at count) o pl
+  unfolding sizes labelCounts
+  gone h =
+      let none : drop j is ≡ [] = drop-of-length-le is h in
+      let held : heldIn o pl at count ≡ v = ap (λ (l : List ℕ). putAll putRecord (heldIn o pl at count) (map (ownRecord s probing) l)) (sym none) ∙ g .rest in
+      let a : take at o ≡ v .bytes = ap (λ (w : Writing). w .bytes) held in
+      let b : take count pl ≡ v .places = ap (λ (w : Writing). w .places) held in
+      let la : length (take at o) ≡ at = length-take-le at o (omega (arith, g .room, g .same)) in
+      let lb : length (take count pl) ≡ count = length-take-le count pl (omega (arith, g .slots, g .table)) in
+      let ea : at ≡ length (v .bytes) = sym la ∙ ap length a in
+      let eb : count ≡ length (v .places) = sym lb ∙ ap length b in
+      record {
+        bytes = sym (take-append-drop at o) ∙ ap₂ (λ (x y : List ℕ). x ++ y) a (g .kept ∙ ap (λ (k : ℕ). drop k o₀) ea);
+        places = sym (take-append-drop count pl) ∙ ap₂ (λ (x y : List ℕ). x ++ y) b (g .noted ∙ ap (λ (k : ℕ). drop k pl₀) eb);
+        ended = ea;
+        counted = eb;
+      }
+
+  module _ (ok : validSetup s ≡ true) (h : j < length is) where
+    front : drop j is ≡ getD is j 0 ∷ drop (j + 1) is
+    front = drop-cons is j 0 h ∙ ap (λ (k : ℕ). getD is j 0 ∷ drop k is) (sym (add-one j))
+
+    size-front : sizes s (drop j is) ≡ sizeOf s (getD is j 0) + sizes s (drop (j + 1) is)
+    unfolding sizes
+    size-front = ap (sizes s) front
+
+    count-front : labelCounts s (drop j is) ≡ labelsOf s (getD is j 0) + labelCounts s (drop (j + 1) is)
+    unfolding labelCounts
+    count-front = ap (labelCounts s) front
+
+    module _ (x : ℕ) (ex : x ≡ getD is j 0) where
+      pub own-ready : OwnReady s x at count o pl
+      own-ready = rw ex (record {
+        ok = ok;
+        room = omega (arith, g .room, g .same, size-front);
+        small = omega (arith, g .small, size-front);
+        slots = omega (arith, g .slots, g .table, count-front);
+      })
+
+      -- one more is written
+      pub step : (r : Spot) (o′ pl′ : List ℕ) → Grown (putRecord (heldIn o pl at count) (ownRecord s probing x)) o pl r o′ pl′ → length o′ ≡ length o → length pl′ ≡ length pl
+          → Going s probing is v o₀ pl₀ o′ pl′ (r .end) (r .count) (j + 1)
+      unfolding ownRecord
+      step r o′ pl′ w lo lp = record {
+        rest = ap (λ (u : Writing). putAll putRecord u (map (ownRecord s probing) (drop (j + 1) is))) (held-so v₁ o pl r o′ pl′ w ∙ ap (λ (k : ℕ). putRecord (heldIn o pl at count) (ownRecord s probing k)) ex) ∙ ap (λ (l : List ℕ). putAll putRecord (heldIn o pl at count) (map (ownRecord s probing) l)) (sym front) ∙ g .rest;
+        kept = behind at o o₀ (v₁ .bytes) o′ (r .end) (w .bytes) (w .ended) low (g .kept);
+        noted = behind count pl pl₀ (v₁ .places) pl′ (r .count) (w .places) (w .counted) low-places (g .noted);
+        same = lo ∙ g .same;
+        table = lp ∙ g .table;
+        room = omega (arith, g .room, size-front, w .ended, size, la, same-size);
+        small = omega (arith, g .small, size-front, w .ended, size, la, same-size);
+        slots = omega (arith, g .slots, count-front, w .counted, counts, lb, same-count);
+      }
+        where
+          v₁ : Writing
+          v₁ = putRecord (heldIn o pl at count) (ownRecord s probing x)
+
+          la : length (take at o) ≡ at
+          la = length-take-le at o (omega (arith, g .room, g .same))
+
+          lb : length (take count pl) ≡ count
+          lb = length-take-le count pl (omega (arith, g .slots, g .table))
+
+          ok′ : Valid s
+          ok′ = valid s ok
+
+          size : length (v₁ .bytes) ≤ length (take at o) + sizeOf s x
+          size = record-size (heldIn o pl at count) (ownRecord s probing x) (own-is-name s ok′ x) (own-names s ok′ x)
+
+          counts : length (v₁ .places) ≤ length (take count pl) + labelsOf s x
+          counts = record-count (heldIn o pl at count) (ownRecord s probing x) (own-is-name s ok′ x) (own-names s ok′ x)
+
+          same-size : sizeOf s x ≡ sizeOf s (getD is j 0)
+          same-size = ap (sizeOf s) ex
+
+          same-count : labelsOf s x ≡ labelsOf s (getD is j 0)
+          same-count = ap (labelsOf s) ex
+
+          low : at ≤ length (v₁ .bytes)
+          low = omega (arith, la, record-low (heldIn o pl at count) (ownRecord s probing x) (own-is-name s ok′ x) (own-names s ok′ x))
+
+          low-places : count ≤ length (v₁ .places)
+          low-places = omega (arith, lb, places-low (heldIn o pl at count) (ownRecord s probing x))
+
+          behind : (n : ℕ) (l l₀ b l′ : List ℕ) (e : ℕ) → l′ ≡ b ++ drop (length b) l → e ≡ length b → n ≤ length b → drop n l ≡ drop n l₀ → drop e l′ ≡ drop e l₀
+          behind n l l₀ b l′ e w ee low k =
+              let m : ℕ = length b - n in
+              let t : length b ≡ n + m = omega arith in
+              ap₂ drop ee w ∙ drop-at b (drop (length b) l) (length b) refl ∙ ap (λ (q : ℕ). drop q l) t ∙ sym (drop-drop m n l) ∙ ap (drop m) k ∙ drop-drop m n l₀ ∙ ap (λ (q : ℕ). drop q l₀) (sym t ∙ sym ee)
