@@ -1,5 +1,5 @@
 // What a responder's state says, for C and Rust: how a claim stands, and when the next step is due. Both only read the lent bytes (module `codec`);
-// include/kurgashel.h declares them.
+// c/include/kurgashel.h declares them.
 ghost use mathlib.Core.Path.{_≡_};
 ghost use Rattle.capi_responder.specs.state.Told.{claimNumber, nextStep};
 use claims::due::Due;
