@@ -1,4 +1,4 @@
-// What the responder has: its set-up, the rules that it keeps, and the records that follow from it.
+// What the responder has (specification, 'Own records'): its set-up, the rules that it keeps, and the records that follow from it.
 pub mod fields;
 pub mod records;
 pub mod setups;

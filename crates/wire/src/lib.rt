@@ -1,4 +1,4 @@
-// The packet reader: numbers and names, rdata, a message with its questions and records.
+// The packet reader (specification, 'Reading a message'): numbers, names, rdata, and a message with its questions and records.
 pub mod buffer;
 pub mod case_folding;
 pub mod expansion;
