@@ -27,7 +27,7 @@ unfoldable pub number : ℕ → List ℕ → ℕ
 number n [] = n
 number n (b ∷ bs) = number (n * 256 + b) bs
 
--- 01's example with an AAAA and a host label of so many bytes
+-- The specification's example with an AAAA and a host label of so many bytes
 unfoldable pub hosted : List ℕ → ℕ → Setup
 hosted host len = record {
   instance = example .instance;
