@@ -27,24 +27,35 @@ pub struct Reference {
 impl Calls for Proved {
     fn receive(&mut self, gap: u64, packet: &[u8]) -> usize {
         self.now += gap;
-        self.responder.receive(self.now, PORT, 20, packet, &mut self.out).expect("accepted")
+        self.responder
+            .receive(self.now, PORT, 20, packet, &mut self.out)
+            .expect("accepted")
     }
 
     fn tick(&mut self, gap: u64) -> usize {
         self.now += gap;
-        self.responder.tick(self.now, &mut self.out).expect("accepted").length
+        self.responder
+            .tick(self.now, &mut self.out)
+            .expect("accepted")
+            .length
     }
 }
 
 impl Calls for Reference {
     fn receive(&mut self, gap: u64, packet: &[u8]) -> usize {
         self.now += gap;
-        self.responder.receive(self.now, PORT.into(), 20, packet, &mut self.out).expect("accepted").unwrap_or(0)
+        self.responder
+            .receive(self.now, PORT.into(), 20, packet, &mut self.out)
+            .expect("accepted")
+            .unwrap_or(0)
     }
 
     fn tick(&mut self, gap: u64) -> usize {
         self.now += gap;
-        self.responder.tick(self.now, &mut self.out).expect("accepted").map_or(0, |sent| sent.length)
+        self.responder
+            .tick(self.now, &mut self.out)
+            .expect("accepted")
+            .map_or(0, |sent| sent.length)
     }
 }
 
@@ -57,9 +68,22 @@ fn settled<C: Calls>(mut calls: C) -> C {
 }
 
 pub fn proved() -> Proved {
-    let setup = Setup::new("booth", "_voice", "_tcp", "dock", 4000, &[0], [10, 0, 0, 7], None);
+    let setup = Setup::new(
+        "booth",
+        "_voice",
+        "_tcp",
+        "dock",
+        4000,
+        &[0],
+        [10, 0, 0, 7],
+        None,
+    );
     let responder = Responder::start(&setup, 0, 0).expect("a good set-up");
-    settled(Proved { responder, now: 0, out: [0; OUT_BYTES] })
+    settled(Proved {
+        responder,
+        now: 0,
+        out: [0; OUT_BYTES],
+    })
 }
 
 pub fn reference() -> Reference {
@@ -74,11 +98,22 @@ pub fn reference() -> Reference {
         a: [10, 0, 0, 7],
         aaaa: None,
     };
-    let responder = ReferenceResponder::start(0, 0, setup).ok().expect("a good set-up");
-    settled(Reference { responder, now: 0, out: [0; OUT_BYTES] })
+    let responder = ReferenceResponder::start(0, 0, setup)
+        .ok()
+        .expect("a good set-up");
+    settled(Reference {
+        responder,
+        now: 0,
+        out: [0; OUT_BYTES],
+    })
 }
 
 /// A query for the host's address.
 pub fn query() -> Vec<u8> {
-    [&[0, 0, 0, 0, 0, 1, 0, 0, 0, 0, 0, 0], b"\x04dock\x05local\0".as_slice(), &[0, 1, 0, 1]].concat()
+    [
+        &[0, 0, 0, 0, 0, 1, 0, 0, 0, 0, 0, 0],
+        b"\x04dock\x05local\0".as_slice(),
+        &[0, 1, 0, 1],
+    ]
+    .concat()
 }

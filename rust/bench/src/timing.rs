@@ -26,6 +26,17 @@ pub fn least(repeat: usize, mut ours: impl FnMut(), mut reference: impl FnMut())
 
 /// Both readers over all packets: the least times, in nanoseconds a packet.
 pub fn readers(packets: &[Vec<u8>], repeat: usize) -> [f64; 2] {
-    let over_all = |read: fn(&[u8]) -> u8| move || packets.iter().for_each(|packet| _ = black_box(read(black_box(packet))));
-    least(repeat, over_all(crate::refusal), over_all(crate::reference_refusal)).map(|time| time / packets.len() as f64)
+    let over_all = |read: fn(&[u8]) -> u8| {
+        move || {
+            packets
+                .iter()
+                .for_each(|packet| _ = black_box(read(black_box(packet))))
+        }
+    };
+    least(
+        repeat,
+        over_all(crate::refusal),
+        over_all(crate::reference_refusal),
+    )
+    .map(|time| time / packets.len() as f64)
 }

@@ -6,5 +6,8 @@ use bench::{packets, timing};
 #[test]
 fn within_twice_the_reference_reader() {
     let [ours, reference] = timing::readers(&packets::mix(), 100);
-    assert!(ours <= 2.0 * reference, "{ours:.0} ns a packet, the reference program's {reference:.0} ns");
+    assert!(
+        ours <= 2.0 * reference,
+        "{ours:.0} ns a packet, the reference program's {reference:.0} ns"
+    );
 }

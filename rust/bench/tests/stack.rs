@@ -47,7 +47,12 @@ fn the_message_that_takes_longest() {
 fn a_responder_that_receives_each() {
     in_64_kib(|| {
         let mut responder = bench::responders::proved();
-        for packet in [packets::longest_chain().0, packets::label_by_label().0, packets::worst(), bench::responders::query()] {
+        for packet in [
+            packets::longest_chain().0,
+            packets::label_by_label().0,
+            packets::worst(),
+            bench::responders::query(),
+        ] {
             responder.receive(1000, &packet);
             responder.tick(1000);
         }

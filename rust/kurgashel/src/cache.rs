@@ -89,7 +89,10 @@ pub struct Cache {
 
 impl Default for Cache {
     fn default() -> Cache {
-        Cache { table: vec![Entry::default(); ENTRIES].into(), store: vec![0; STORE_BYTES].into() }
+        Cache {
+            table: vec![Entry::default(); ENTRIES].into(),
+            store: vec![0; STORE_BYTES].into(),
+        }
     }
 }
 
@@ -110,11 +113,20 @@ impl Cache {
                 message.len(),
             )
         };
-        Refusal::check(taken.refusal).map(|()| Taken { turned_away: taken.turned_away, passed_over: taken.passed_over })
+        Refusal::check(taken.refusal).map(|()| Taken {
+            turned_away: taken.turned_away,
+            passed_over: taken.passed_over,
+        })
     }
 
     /// The lowest live record of a name (uncompressed, in wire form) and a type, from a slot on.
-    pub fn look_up(&self, now: u64, name: &[u8], rtype: u16, from: usize) -> Result<Option<Found<'_>>, Refusal> {
+    pub fn look_up(
+        &self,
+        now: u64,
+        name: &[u8],
+        rtype: u16,
+        from: usize,
+    ) -> Result<Option<Found<'_>>, Refusal> {
         let (table, store) = (&self.table, &self.store);
         // SAFETY: each pointer and count are those of one slice; nothing is written.
         let looked = unsafe {
@@ -146,7 +158,8 @@ impl Cache {
 
     fn found(&self, slot: usize) -> Found<'_> {
         let entry = self.table[slot];
-        let (owner, rdata) = self.store[SLOT_BYTES * slot..SLOT_BYTES * (slot + 1)].split_at(OWNER_BYTES);
+        let (owner, rdata) =
+            self.store[SLOT_BYTES * slot..SLOT_BYTES * (slot + 1)].split_at(OWNER_BYTES);
         Found {
             slot,
             owner: &owner[..usize::from(entry.owner)],

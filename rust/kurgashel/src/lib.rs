@@ -27,7 +27,9 @@ mod setup;
 
 pub use cache::{Cache, Found, Taken};
 pub use pairs::{txt_lookup, Pair};
-pub use reader::{message_refusal, name_end, name_length, Message, Name, Question, Record, Section};
+pub use reader::{
+    message_refusal, name_end, name_length, Message, Name, Question, Record, Section,
+};
 pub use responder::{Claim, Responder, Ticked, OUT_BYTES, PORT, STATE_BYTES};
 pub use setup::{Setup, SETUP_BYTES};
 

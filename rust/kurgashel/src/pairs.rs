@@ -36,10 +36,21 @@ pub enum Pair<'a> {
 }
 
 /// Looks a key up in the TXT that was received and, when it is absent there, in the factory TXT.
-pub fn txt_lookup<'a>(key: &[u8], received: &'a [u8], factory: &'a [u8]) -> Result<Pair<'a>, Refusal> {
+pub fn txt_lookup<'a>(
+    key: &[u8],
+    received: &'a [u8],
+    factory: &'a [u8],
+) -> Result<Pair<'a>, Refusal> {
     // SAFETY: each pointer and length are those of one slice; nothing is written.
     let pair = unsafe {
-        kurgashel_txt_lookup(key.as_ptr(), key.len(), received.as_ptr(), received.len(), factory.as_ptr(), factory.len())
+        kurgashel_txt_lookup(
+            key.as_ptr(),
+            key.len(),
+            received.as_ptr(),
+            received.len(),
+            factory.as_ptr(),
+            factory.len(),
+        )
     };
     Refusal::check(pair.refusal)?;
     let buffer = if pair.buffer == 0 { received } else { factory };

@@ -142,7 +142,11 @@ impl<'a> Message<'a> {
         (0..self.sections.counts[0]).map_while(move |_| {
             let q = unsafe { kurgashel_question(self.bytes.as_ptr(), self.bytes.len(), at) };
             at = q.next;
-            q.found.then(|| Question { name: self.name(q.name), rtype: q.rtype, class: q.class })
+            q.found.then(|| Question {
+                name: self.name(q.name),
+                rtype: q.rtype,
+                class: q.class,
+            })
         })
     }
 

@@ -26,7 +26,14 @@ struct Due {
 }
 
 extern "C" {
-    fn kurgashel_start(state: *mut u8, state_bytes: usize, setup: *const u8, setup_bytes: usize, now: u64, draw: u64) -> Answer;
+    fn kurgashel_start(
+        state: *mut u8,
+        state_bytes: usize,
+        setup: *const u8,
+        setup_bytes: usize,
+        now: u64,
+        draw: u64,
+    ) -> Answer;
     #[allow(clippy::too_many_arguments)]
     fn kurgashel_receive(
         state: *mut u8,
@@ -39,7 +46,13 @@ extern "C" {
         out: *mut u8,
         out_bytes: usize,
     ) -> Answer;
-    fn kurgashel_tick(state: *mut u8, state_bytes: usize, now: u64, out: *mut u8, out_bytes: usize) -> Answer;
+    fn kurgashel_tick(
+        state: *mut u8,
+        state_bytes: usize,
+        now: u64,
+        out: *mut u8,
+        out_bytes: usize,
+    ) -> Answer;
     fn kurgashel_claim(state: *const u8, state_bytes: usize, claim: u8) -> u8;
     fn kurgashel_due(state: *const u8, state_bytes: usize) -> Due;
 }
@@ -90,10 +103,21 @@ pub struct Responder {
 impl Responder {
     /// Begins a responder; `draw` is random, 0 to 250 ms.
     pub fn start(setup: &Setup, now: u64, draw: u64) -> Result<Responder, Refusal> {
-        let mut responder = Responder { state: [0; STATE_BYTES] };
+        let mut responder = Responder {
+            state: [0; STATE_BYTES],
+        };
         let (state, setup) = (&mut responder.state, &setup.bytes);
         // SAFETY: each pointer and length are those of one array; the first alone is written, and it is no other's.
-        let answer = unsafe { kurgashel_start(state.as_mut_ptr(), state.len(), setup.as_ptr(), setup.len(), now, draw) };
+        let answer = unsafe {
+            kurgashel_start(
+                state.as_mut_ptr(),
+                state.len(),
+                setup.as_ptr(),
+                setup.len(),
+                now,
+                draw,
+            )
+        };
         Refusal::check(answer.refusal).map(|()| responder)
     }
 
@@ -108,7 +132,14 @@ impl Responder {
     }
 
     /// Takes a packet that came from `port`; `draw` is random, 20 to 120 ms. Gives the length of the packet to send, in `out`, 0 for none.
-    pub fn receive(&mut self, now: u64, port: u16, draw: u64, packet: &[u8], out: &mut [u8]) -> Result<usize, Refusal> {
+    pub fn receive(
+        &mut self,
+        now: u64,
+        port: u16,
+        draw: u64,
+        packet: &[u8],
+        out: &mut [u8],
+    ) -> Result<usize, Refusal> {
         let state = &mut self.state;
         // SAFETY: each pointer and length are those of one slice; the two that are written are borrowed for this call alone.
         let answer = unsafe {
@@ -132,8 +163,19 @@ impl Responder {
     pub fn tick(&mut self, now: u64, out: &mut [u8]) -> Result<Ticked, Refusal> {
         let state = &mut self.state;
         // SAFETY: as for `receive`.
-        let answer = unsafe { kurgashel_tick(state.as_mut_ptr(), state.len(), now, out.as_mut_ptr(), out.len()) };
-        Refusal::check(answer.refusal).map(|()| Ticked { length: answer.length, more: answer.more })
+        let answer = unsafe {
+            kurgashel_tick(
+                state.as_mut_ptr(),
+                state.len(),
+                now,
+                out.as_mut_ptr(),
+                out.len(),
+            )
+        };
+        Refusal::check(answer.refusal).map(|()| Ticked {
+            length: answer.length,
+            more: answer.more,
+        })
     }
 
     /// When the next step is due, if one is to come: before then a tick sends nothing. A packet received may bring it forward.

@@ -23,7 +23,9 @@ impl Setup {
         a: [u8; 4],
         aaaa: Option<[u8; 16]>,
     ) -> Setup {
-        let mut setup = Setup { bytes: [0; SETUP_BYTES] };
+        let mut setup = Setup {
+            bytes: [0; SETUP_BYTES],
+        };
         setup.label(0, 63, instance.as_ref());
         setup.label(64, 16, service.as_ref());
         setup.fixed(81, 4, protocol.as_ref());

@@ -2,7 +2,8 @@
 
 use crate::premises::{Limits, DEMANDED};
 
-pub const USAGE: &str = "usage: linksim [--console PATH] [--lists N | --seconds T] [--seed S] [--delay MS] [--late MS]
+pub const USAGE: &str =
+    "usage: linksim [--console PATH] [--lists N | --seconds T] [--seed S] [--delay MS] [--late MS]
   --delay and --late above 100 and 50 break the premises of demand 3 on purpose";
 
 #[derive(Debug, PartialEq, Eq)]

@@ -52,7 +52,11 @@ fn of_two_responders_one_holds_the_name_and_the_browser_finds_it() {
     assert_eq!(found.status.code(), Some(0));
     for line in [
         "found     booth",
-        if held[0] { "port     4000" } else { "port     4001" },
+        if held[0] {
+            "port     4000"
+        } else {
+            "port     4001"
+        },
         "address  10.0.0.7",
         "txt      room=3",
     ] {

@@ -27,8 +27,12 @@ fn main() {
         let records = set_up(host.as_bytes()).records();
         for subset in 1..32_u32 {
             let chosen = |i: usize| subset >> (4 - i) & 1 == 1;
-            let picked: Vec<&OwnRecord> = (0..5).filter(|i| chosen(*i)).map(|i| &records[i]).collect();
-            let bytes: String = response(&picked).iter().map(|b| format!("{b:02x}")).collect();
+            let picked: Vec<&OwnRecord> =
+                (0..5).filter(|i| chosen(*i)).map(|i| &records[i]).collect();
+            let bytes: String = response(&picked)
+                .iter()
+                .map(|b| format!("{b:02x}"))
+                .collect();
             println!("{host} {subset:05b} {bytes}");
         }
     }
