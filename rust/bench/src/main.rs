@@ -22,7 +22,8 @@ fn read(name: &str, packets: &[Vec<u8>], repeat: usize) {
 /// Both responders, each of which holds its names.
 fn call(name: &str, sends: bool, call: impl Fn(&mut dyn Calls) -> usize) {
     let (mut proved, mut reference) = (proved(), reference());
-    (call(&mut proved), call(&mut reference));
+    call(&mut proved);
+    call(&mut reference);
     assert_eq!(
         (call(&mut proved) > 0, call(&mut reference) > 0),
         (sends, sends),

@@ -4,7 +4,7 @@
 pub struct Random(pub u64);
 
 impl Random {
-    pub fn next(&mut self) -> u64 {
+    pub fn number(&mut self) -> u64 {
         self.0 ^= self.0 << 13;
         self.0 ^= self.0 >> 7;
         self.0 ^= self.0 << 17;
@@ -12,7 +12,7 @@ impl Random {
     }
 
     pub fn below(&mut self, limit: usize) -> usize {
-        (self.next() % limit as u64) as usize
+        (self.number() % limit as u64) as usize
     }
 }
 
@@ -123,7 +123,7 @@ pub fn damaged(packet: &[u8], random: &mut Random) -> Vec<u8> {
     }
     for _ in 0..=random.below(3) {
         let at = random.below(p.len());
-        p[at] = random.next() as u8;
+        p[at] = random.number() as u8;
     }
     p
 }

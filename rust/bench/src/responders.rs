@@ -98,9 +98,7 @@ pub fn reference() -> Reference {
         a: [10, 0, 0, 7],
         aaaa: None,
     };
-    let responder = ReferenceResponder::start(0, 0, setup)
-        .ok()
-        .expect("a good set-up");
+    let responder = ReferenceResponder::start(0, 0, setup).expect("a good set-up");
     settled(Reference {
         responder,
         now: 0,

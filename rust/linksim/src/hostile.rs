@@ -75,7 +75,9 @@ pub fn packet(random: &mut Random, target: &Setup, seen: &[Packet]) -> Vec<u8> {
             let copy = replay(random, seen);
             damaged(random, copy)
         }
-        _ => (0..random.up_to(60)).map(|_| random.next() as u8).collect(),
+        _ => (0..random.up_to(60))
+            .map(|_| random.number() as u8)
+            .collect(),
     }
 }
 
@@ -114,7 +116,7 @@ fn probe(random: &mut Random, target: &Setup) -> Vec<u8> {
             rtype: random.pick(&[47, 99, rtype::ANY]),
             class: 1,
             ttl: 120,
-            rdata: vec![random.next() as u8],
+            rdata: vec![random.number() as u8],
         });
     }
     // known answers in a probe may silence a defence
@@ -195,7 +197,7 @@ pub fn damaged(random: &mut Random, mut bytes: Vec<u8>) -> Vec<u8> {
         let at = random.place(bytes.len().max(1));
         match random.up_to(5) {
             0 => bytes.truncate(at),
-            1 => bytes.insert(at.min(bytes.len()), random.next() as u8),
+            1 => bytes.insert(at.min(bytes.len()), random.number() as u8),
             2 => bytes.extend([0; 3]),
             _ if at < bytes.len() => bytes[at] ^= 1 << random.up_to(7),
             _ => (),
@@ -232,7 +234,7 @@ fn altered(random: &mut Random, rtype: u16, rdata: &[u8]) -> Vec<u8> {
         rtype::TXT => match random.up_to(2) {
             0 => other.push(0),
             1 => other = Vec::new(),
-            _ => other = vec![1, random.next() as u8],
+            _ => other = vec![1, random.number() as u8],
         },
         rtype::PTR => other = random.recase(rdata),
         _ => {

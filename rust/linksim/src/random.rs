@@ -9,13 +9,13 @@ impl Random {
         Random(Source::new(seed))
     }
 
-    pub fn next(&mut self) -> u64 {
-        self.0.next()
+    pub fn number(&mut self) -> u64 {
+        self.0.number()
     }
 
     /// A number from 0 to `most`.
     pub fn up_to(&mut self, most: u64) -> u64 {
-        self.next() % (most + 1)
+        self.number() % (most + 1)
     }
 
     /// A place in something of this length, which is not 0.

@@ -136,7 +136,7 @@ impl<'a> Simulation<'a> {
 
     /// Plans an event; equal times are ordered at random.
     fn at(&mut self, wait: u64, event: Event) {
-        let order = self.random.next();
+        let order = self.random.number();
         self.queue.push(self.now + wait, order, event);
     }
 

@@ -172,8 +172,8 @@ impl Draft {
     /// Sets bits that are ignored: the ID, AA, TC, RD, RA, Z, AD and CD.
     pub fn decorate(&mut self, random: &mut Random) {
         if random.chance(30) {
-            self.id = random.next() as u16;
-            self.flags ^= random.next() as u16 & 0x07f0;
+            self.id = random.number() as u16;
+            self.flags ^= random.number() as u16 & 0x07f0;
         }
     }
 
