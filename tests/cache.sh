@@ -2,7 +2,7 @@
 # The cache's functions from C, over the static library; with the argument bench, their speed.
 set -eu
 root=$(cd "$(dirname "$0")/.." && pwd)
-which=${1:-test}
-"$root/library"
-cc -O2 -Wall -I"$root/include" "$root/tests/cache/$which.c" "$root/target/staticlib/libkurgashel.a" -o "$root/target/cache_$which"
-"$root/target/cache_$which"
+"$root/tools/library"
+program=cache${1:+_$1}
+cc -O2 -Wall -I"$root/c/include" "$root/c/tests/$program.c" "$root/target/staticlib/libkurgashel.a" -o "$root/target/$program"
+"$root/target/$program"

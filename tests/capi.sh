@@ -1,17 +1,17 @@
 #!/bin/sh
-# The library from C and from Rust: the C tests, both examples, and random scripts beside the second program.
+# The library from C and from Rust: the C tests, both examples, and random scripts beside the reference program.
 set -eu
 root=$(cd "$(dirname "$0")/.." && pwd)
-"$root/library"
-build() { cc -O2 -Wall -Wextra -I"$root/include" "$1" "$root/target/staticlib/libkurgashel.a" -o "$2"; }
-build "$root/tests/capi/test.c" "$root/target/capi_test"
-"$root/target/capi_test"
+"$root/tools/library"
+build() { cc -O2 -Wall -Wextra -I"$root/c/include" "$1" "$root/target/staticlib/libkurgashel.a" -o "$2"; }
+build "$root/c/tests/responder.c" "$root/target/responder"
+"$root/target/responder"
 
 # the examples say the same, but that C prints a claim's state as a number
-build "$root/examples/claim.c" "$root/target/claim"
+build "$root/c/examples/claim.c" "$root/target/claim"
 "$root/target/claim" >"$root/target/claim_c.out"
-cargo run --release --quiet --manifest-path "$root/kurgashel/Cargo.toml" --example claim >"$root/target/claim_rust.out"
+cargo run --release --quiet --manifest-path "$root/rust/kurgashel/Cargo.toml" --example claim >"$root/target/claim_rust.out"
 sed 's/Waiting/0/g; s/Probing/1/g; s/Held/3/g' "$root/target/claim_rust.out" | cmp - "$root/target/claim_c.out"
 echo "both examples: the names are held after $(grep -n 'host 3' "$root/target/claim_c.out" | head -1 | cut -d: -f1) packets"
 
-cargo test --release --quiet --manifest-path "$root/kurgashel/Cargo.toml"
+cargo test --release --quiet --manifest-path "$root/rust/kurgashel/Cargo.toml"

@@ -1,15 +1,15 @@
 #!/bin/sh
-# Random scripts of every call through the console and the independent second program, compared line by line. How often each kind of answer came is
+# Random scripts of every call through the console and the independent reference program, compared line by line. How often each kind of answer came is
 # printed, and a kind below that never came fails the run: a run of refusals alone would show.
 # Usage: tests/differential.sh [SEEDS [LINES]], by default about a minute.
 set -eu
 root=$(cd "$(dirname "$0")/.." && pwd)
-second=$root/second/target/release
+programs=$root/rust/target/release
 work=$(mktemp -d)
 trap 'rm -rf "$work"' EXIT
-cargo build --release --quiet --manifest-path "$root/second/Cargo.toml"
+cargo build --release --quiet --manifest-path "$root/rust/reference/Cargo.toml"
 for seed in $(seq 1 "${1:-40}"); do
-    "$second/compare" "$root/target/bin/console" "$second/second" "$seed" "${2:-60000}" >"$work/report" || {
+    "$programs/compare" "$root/target/bin/console" "$programs/reference" "$seed" "${2:-60000}" >"$work/report" || {
         echo "seed $seed:"
         cut -c1-400 "$work/report"
         exit 1

@@ -23,9 +23,9 @@ esac
 . "$root/tests/interop/cases.sh"
 
 find_peers
-"$root/library" && cargo build --release --quiet --manifest-path "$root/host/Cargo.toml" || exit 1
-responder=$root/host/target/release/responder
-browser=$root/host/target/release/browser
+"$root/tools/library" && cargo build --release --quiet --manifest-path "$root/rust/udp/Cargo.toml" || exit 1
+responder=$root/rust/target/release/responder
+browser=$root/rust/target/release/browser
 
 work=$(mktemp -d)
 trap 'stop_all; remove_link; rm -rf "$work"' EXIT

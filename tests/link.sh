@@ -1,16 +1,16 @@
 #!/bin/sh
-# Demand 3, tried: random hostile lists of several responders' calls, played through the proved console (link-check).
+# Demand 3, tried: random hostile lists of several responders' calls, played through the proved console (rust/linksim).
 # With the premises kept no list may violate it. Then the check has to show that it can see: with packets up to 600 ms under way two
-# responders hold one name, with steps up to 500 ms late one holds too late, and the second program with a planted fault is found
+# responders hold one name, with steps up to 500 ms late one holds too late, and the reference program with a planted fault is found
 # out with the premises kept.
 # Usage: tests/link.sh [SECONDS [SEED]], by default 60 s from seed 1.
 set -eu
 root=$(cd "$(dirname "$0")/.." && pwd)
 work=$(mktemp -d)
 trap 'rm -rf "$work"' EXIT
-cargo test --release --quiet --manifest-path "$root/link-check/Cargo.toml"
-cargo build --release --quiet --manifest-path "$root/link-check/Cargo.toml"
-check=$root/link-check/target/release/link-check
+cargo test --release --quiet --manifest-path "$root/rust/linksim/Cargo.toml"
+cargo build --release --quiet --manifest-path "$root/rust/linksim/Cargo.toml"
+linksim=$root/rust/target/release/linksim
 console=$root/target/bin/console
 two='hold .* at once with different data'
 late='does not hold .* 1,200 ms after its start'
@@ -20,7 +20,7 @@ finds() { # WHAT WORDS OPTION..
     what=$1 words=$2
     shift 2
     status=0
-    "$check" "$@" >"$work/report" || status=$?
+    "$linksim" "$@" >"$work/report" || status=$?
     if [ "$status" -ne 1 ] || ! grep -Eq "^violation: .*($words)" "$work/report"; then
         echo "$what: no such violation was found"
         tail -n 4 "$work/report"
@@ -29,7 +29,7 @@ finds() { # WHAT WORDS OPTION..
     echo "$what: found after $(sed -n 's/ of .*//p' "$work/report" | head -n 1), $(sed -n 's/^violation: //p' "$work/report")"
 }
 
-"$check" --console "$console" --seconds "${1:-60}" --seed "${2:-1}"
+"$linksim" --console "$console" --seconds "${1:-60}" --seed "${2:-1}"
 finds "delays up to 600 ms" "$two" --console "$console" --delay 600 --lists 20000
 finds "steps up to 500 ms late" "$late" --console "$console" --late 500 --lists 20000
 finds "steps up to 51 ms late" "$late" --console "$console" --late 51 --lists 20000
@@ -37,11 +37,12 @@ finds "steps up to 51 ms late" "$late" --console "$console" --late 51 --lists 20
 command -v patch >/dev/null 2>&1 || { echo "skipped: planted faults (no patch command)"; exit 0; }
 # a fault may leave something unused
 export RUSTFLAGS=-Awarnings
-for fault in "$root"/link-check/faults/*.patch; do
+for fault in "$root"/rust/linksim/faults/*.patch; do
     rm -rf "$work/copy"
     mkdir "$work/copy"
-    cp -r "$root/second/Cargo.toml" "$root/second/src" "$work/copy"
+    cp -r "$root/rust/reference/Cargo.toml" "$root/rust/reference/src" "$work/copy"
+    echo "[workspace]" >>"$work/copy/Cargo.toml"
     patch --silent --strip=1 --directory="$work/copy" <"$fault"
-    cargo build --quiet --bin second --manifest-path "$work/copy/Cargo.toml" --target-dir "$work/target"
-    finds "fault $(basename "$fault" .patch)" "$two|$late" --console "$work/target/debug/second" --lists 20000
+    cargo build --quiet --bin reference --manifest-path "$work/copy/Cargo.toml" --target-dir "$work/target"
+    finds "fault $(basename "$fault" .patch)" "$two|$late" --console "$work/target/debug/reference" --lists 20000
 done

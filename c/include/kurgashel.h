@@ -1,0 +1,188 @@
+/* Kurgashel: a Multicast DNS / DNS-SD responder, cache and TXT reader (RFC 6762, RFC 6763).
+ *
+ * Every function is total: it takes any arguments and refuses bad ones by a number, and a refused call leaves every lent byte as it was. The caller
+ * answers for the pointers alone: each points to as many bytes (or entries) as the count beside it says, a null pointer goes with a count of 0, a
+ * buffer that is written overlaps no other argument, and no other thread uses it during the call. Nothing is allocated and nothing is kept between calls.
+ *
+ * Time is in milliseconds, on any clock of the caller's that never goes back, at most 2^62.
+ *
+ * Link target/staticlib/libkurgashel.a (written by tools/library). A program that calls only the reader, the cache or the TXT lookup gets only that part.
+ */
+#ifndef KURGASHEL_H
+#define KURGASHEL_H
+
+#include <stdbool.h>
+#include <stddef.h>
+#include <stdint.h>
+
+#ifdef __cplusplus
+extern "C" {
+#endif
+
+/* Refusals; each call tests those that apply to it in the order 1, 2, 3, 8, 4, 5, 6, 7, and the TXT lookup 9, 6. */
+enum {
+    KURGASHEL_ACCEPTED = 0,
+    KURGASHEL_TIME = 1,      /* time above 2^62, before the state's last time or an entry's receive time, or a kept time too late */
+    KURGASHEL_DRAW = 2,      /* draw outside 0..250 (start) or 20..120 (packet received) */
+    KURGASHEL_BUFFER = 3,    /* out buffer under 1,452 bytes */
+    KURGASHEL_LENGTH = 4,    /* message under 12 or over 8,972 bytes */
+    KURGASHEL_HEADER = 5,    /* opcode or RCODE not zero, or source port not 5353 */
+    KURGASHEL_MALFORMED = 6, /* malformed message, TXT or looked-up name */
+    KURGASHEL_SETUP = 7,     /* names or data of a set-up or a state break the rules, or a buffer of one has another size */
+    KURGASHEL_CACHE = 8,     /* not 64 entries, not 65,536 bytes of store, or an entry with a length too great */
+    KURGASHEL_KEY = 9        /* TXT key empty, or with a byte that no key has */
+};
+
+#define KURGASHEL_PORT 5353          /* the port that packets come from and go to */
+#define KURGASHEL_STATE_BYTES 667    /* a responder's state */
+#define KURGASHEL_SETUP_BYTES 579    /* sizeof (struct kurgashel_setup) */
+#define KURGASHEL_OUT_BYTES 1452     /* the least out buffer; no packet is longer */
+#define KURGASHEL_ENTRIES 64         /* entries of a cache */
+#define KURGASHEL_STORE_BYTES 65536  /* the store of a cache: 1,024 bytes for each entry */
+
+/* ---- the responder */
+
+/* What a responder is set up with: labels as bytes with their lengths, without length bytes or dots, and the data of its records. Bytes past a length,
+ * and aaaa where bit 0 of has_aaaa is 0, say nothing. Only bytes, so its layout is the same everywhere and nothing pads it. */
+struct kurgashel_setup {
+    uint8_t instance[63], instance_length; /* 1..63 bytes, such as "Booth 4" */
+    uint8_t service[16], service_length;   /* "_" and a service name of RFC 6335, such as "_voice" */
+    uint8_t protocol[4];                   /* "_tcp" or "_udp" */
+    uint8_t host[63], host_length;         /* 1..63 bytes */
+    uint8_t domain[5];                     /* "local" */
+    uint8_t port[2];                       /* most significant byte first */
+    uint8_t txt[400], txt_length[2];       /* 1..400 bytes of strings, each behind its length byte; one zero byte for none */
+    uint8_t a[4];
+    uint8_t has_aaaa;
+    uint8_t aaaa[16];
+};
+
+/* A call's answer: a refusal or 0; after a tick, whether more is due at the same time; and the length of the packet to send, 0 for none. */
+struct kurgashel_answer {
+    uint8_t refusal;
+    bool more;
+    size_t length;
+};
+
+/* Begins a responder in `state`: both its names wait for `draw` (a random 0..250) ms before their first probe. Refusals 1, 2, 7. */
+struct kurgashel_answer kurgashel_start(uint8_t *state, size_t state_bytes, const uint8_t *setup, size_t setup_bytes, uint64_t now, uint64_t draw);
+
+/* Takes a packet that came from `port`; `draw` (a random 20..120) delays a reply with the shared PTR record. A packet that is to be sent at once is written
+ * to `out`, and the bytes beyond it stay. Refusals 1 to 7. */
+struct kurgashel_answer kurgashel_receive(uint8_t *state, size_t state_bytes, uint64_t now, uint16_t port, uint64_t draw, const uint8_t *packet, size_t packet_bytes,
+                                          uint8_t *out, size_t out_bytes);
+
+/* Takes the steps that are due, up to the first that sends: its packet is written to `out`. Call it when a step is due (kurgashel_due), at most 50 ms late,
+ * and again at once where `more`; calls between do no harm. Refusals 1, 3, 7. */
+struct kurgashel_answer kurgashel_tick(uint8_t *state, size_t state_bytes, uint64_t now, uint8_t *out, size_t out_bytes);
+
+/* How a claim stands: of the instance's name (0) or the host's name (any other number). A buffer that is no state says lost. */
+enum { KURGASHEL_INSTANCE = 0, KURGASHEL_HOST = 1 };
+enum { KURGASHEL_WAITING = 0, KURGASHEL_PROBING = 1, KURGASHEL_DEFERRED = 2, KURGASHEL_HELD = 3, KURGASHEL_LOST = 4 };
+uint8_t kurgashel_claim(const uint8_t *state, size_t state_bytes, uint8_t claim);
+
+/* When the next step is due, if one is to come: before `time` a tick sends nothing. A packet received may bring it forward. A buffer that is no state has
+ * none to come. */
+struct kurgashel_due {
+    bool due;
+    uint64_t time;
+};
+struct kurgashel_due kurgashel_due(const uint8_t *state, size_t state_bytes);
+
+/* ---- the cache: 64 entries and a store, lent; zeros are an empty cache */
+
+/* An entry; slot i of the store, at 1,024 times i, has 256 bytes for the owner's name and then 768 for the rdata, names uncompressed. It is live while now
+ * is before its expiry. */
+struct kurgashel_entry {
+    uint16_t rtype, owner; /* the type, and the length of the owner */
+    uint32_t rdata;        /* the length of the rdata */
+    uint64_t received, expiry;
+};
+
+/* A refusal or 0; the records that were turned away since all entries are live, and those passed over since their rdata is too long. */
+struct kurgashel_taken {
+    uint8_t refusal;
+    uint32_t turned_away, passed_over;
+};
+
+/* Takes the records of a response into a cache. Refusals 1, 8, 4, 5, 6. */
+struct kurgashel_taken kurgashel_cache_take(struct kurgashel_entry *table, size_t entries, uint8_t *store, size_t store_bytes, uint64_t now, uint16_t port,
+                                            const uint8_t *message, size_t message_bytes);
+
+/* A refusal or 0; whether a live entry was found, and its slot. */
+struct kurgashel_looked {
+    uint8_t refusal;
+    bool found;
+    size_t slot;
+};
+
+/* The lowest live entry from slot `from` on with that name (uncompressed, as on the wire) and type. Refusals 1, 8, 6. */
+struct kurgashel_looked kurgashel_cache_look_up(const struct kurgashel_entry *table, size_t entries, const uint8_t *store, size_t store_bytes, uint64_t now,
+                                                const uint8_t *name, size_t name_bytes, uint16_t rtype, size_t from);
+
+/* ---- TXT pairs */
+
+enum { KURGASHEL_ABSENT = 0, KURGASHEL_PRESENT = 1, KURGASHEL_EMPTY = 2, KURGASHEL_VALUE = 3 };
+enum { KURGASHEL_RECEIVED = 0, KURGASHEL_FACTORY = 1 };
+
+/* A refusal or 0; what the key says: absent, present without value, empty value, or a value; and where the value lies: the buffer, the place in it and the
+ * length. Without a value that is the empty part at the received TXT's start. */
+struct kurgashel_pair {
+    uint8_t refusal, answer, buffer;
+    size_t at, length;
+};
+
+/* Looks a key up in the TXT that was received and, when it is absent there, in the factory TXT. Refusals 9, 6. */
+struct kurgashel_pair kurgashel_txt_lookup(const uint8_t *key, size_t key_bytes, const uint8_t *received, size_t received_bytes, const uint8_t *factory,
+                                           size_t factory_bytes);
+
+/* ---- the reader */
+
+/* A message as it lies: a refusal (4, 5 or 6) or 0, the ID and flags, how many questions and records each section has and where it starts, and the offset
+ * past the last record. Where it is refused all else is 0. The source port is the caller's to test. */
+struct kurgashel_message {
+    uint8_t refusal;
+    uint16_t id, flags, questions, answers, authorities, additionals;
+    size_t questions_at, answers_at, authorities_at, additionals_at, end;
+};
+struct kurgashel_message kurgashel_message(const uint8_t *message, size_t message_bytes);
+
+/* The refusal alone. */
+uint8_t kurgashel_message_refusal(const uint8_t *message, size_t message_bytes);
+
+/* The question at an offset: type and class as on the wire, the offset of its name and its uncompressed length, and the offset past it, where the section's
+ * next one starts. All is 0 where none is found, which does not happen inside a section of a message that is not refused. */
+struct kurgashel_question {
+    bool found;
+    uint16_t rtype, class_;
+    size_t name, name_length, next;
+};
+struct kurgashel_question kurgashel_question(const uint8_t *message, size_t message_bytes, size_t at);
+
+/* The record at an offset: class as on the wire, with its top bit; the TTL as it counts, 0 where its top bit is set; the rdata as a part of the message: the
+ * address of an A or AAAA record, the strings of a TXT; the target of a PTR is the name at `rdata`, that of an SRV the name at `rdata` + 6, behind priority,
+ * weight and port. */
+struct kurgashel_record {
+    bool found;
+    uint16_t rtype, class_;
+    uint32_t ttl;
+    size_t owner, owner_length, rdata, rdata_length, next;
+};
+struct kurgashel_record kurgashel_record(const uint8_t *message, size_t message_bytes, size_t at);
+
+/* The name at an offset, uncompressed: its length, zero byte included, 0 where it is malformed; and its bytes, with zeros behind them. */
+struct kurgashel_name {
+    size_t length;
+    uint8_t bytes[255];
+};
+struct kurgashel_name kurgashel_name(const uint8_t *message, size_t message_bytes, size_t at);
+
+/* The offset past the name at an offset, and its uncompressed length; each 0 where the name is malformed. Nothing is copied. */
+size_t kurgashel_name_end(const uint8_t *message, size_t message_bytes, size_t at);
+size_t kurgashel_name_length(const uint8_t *message, size_t message_bytes, size_t at);
+
+#ifdef __cplusplus
+}
+#endif
+
+#endif

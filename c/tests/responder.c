@@ -1,0 +1,151 @@
+// The exported responder and TXT lookup from C: buffer sizes, refusals that keep every byte, the two packets of the specification, and states of any
+// bytes. Says what fails, and the count. Run by tests/capi.sh.
+#include "kurgashel.h"
+#include <stdio.h>
+#include <string.h>
+
+_Static_assert(sizeof(struct kurgashel_setup) == KURGASHEL_SETUP_BYTES, "the set-up has no padding");
+_Static_assert(sizeof(struct kurgashel_entry) == 24, "an entry's layout");
+
+static int failed, cases;
+static void expect(int ok, const char *what) { cases++; if (!ok) { failed++; printf("FAILED: %s\n", what); } }
+
+static const struct kurgashel_setup good = { .instance = "booth", .instance_length = 5, .service = "_voice", .service_length = 6, .protocol = "_tcp",
+    .host = "dock", .host_length = 4, .domain = "local", .port = { 4000 >> 8, 4000 & 255 }, .txt = { 0 }, .txt_length = { 0, 1 }, .a = { 10, 0, 0, 7 } };
+static uint8_t state[KURGASHEL_STATE_BYTES + 1], kept[sizeof state], out[KURGASHEL_OUT_BYTES + 1], was[sizeof out];
+
+static struct kurgashel_answer start(const struct kurgashel_setup *setup, uint64_t now, uint64_t draw) {
+    return kurgashel_start(state, KURGASHEL_STATE_BYTES, (const uint8_t *)setup, sizeof *setup, now, draw);
+}
+static struct kurgashel_answer tick(uint64_t now) { return kurgashel_tick(state, KURGASHEL_STATE_BYTES, now, out, KURGASHEL_OUT_BYTES); }
+static void keep(void) { memcpy(kept, state, sizeof state); memcpy(was, out, sizeof out); }
+static int same(void) { return !memcmp(kept, state, sizeof state) && !memcmp(was, out, sizeof out); }
+static int is(struct kurgashel_answer a, uint8_t refusal) { return a.refusal == refusal && !a.more && !a.length && same(); }
+static int due(uint64_t time) { struct kurgashel_due d = kurgashel_due(state, KURGASHEL_STATE_BYTES); return d.due && d.time == time; }
+static uint8_t claim(uint8_t which) { return kurgashel_claim(state, KURGASHEL_STATE_BYTES, which); }
+
+static void sizes(void) {
+    memset(state, 0xA5, sizeof state);
+    keep();
+    const uint8_t *setup = (const uint8_t *)&good;
+    for (size_t n = 0; n <= sizeof state; n++) {
+        if (n != KURGASHEL_STATE_BYTES) expect(is(kurgashel_start(state, n, setup, sizeof good, 0, 0), 7), "start: a state of another length is 7");
+    }
+    expect(is(kurgashel_start(state, KURGASHEL_STATE_BYTES, setup, sizeof good - 1, 0, 0), 7), "start: a short set-up is 7");
+    expect(is(kurgashel_start(NULL, 0, NULL, 0, 0, 0), 7), "start: null pointers with length 0");
+    expect(is(kurgashel_start(NULL, 0, NULL, 0, UINT64_MAX, 251), 1), "start: 1 comes before 2 and 7");
+    expect(is(kurgashel_start(NULL, 0, NULL, 0, 0, 251), 2), "start: 2 comes before 7");
+    expect(is(kurgashel_tick(NULL, 0, 0, NULL, 0), 3), "tick: 3 comes before 7");
+    expect(is(kurgashel_tick(NULL, 0, 0, out, KURGASHEL_OUT_BYTES), 7), "tick: no state is 7");
+    expect(is(kurgashel_receive(NULL, 0, 0, 5353, 20, NULL, 0, out, KURGASHEL_OUT_BYTES), 4), "receive: 4 comes before 7");
+    expect(kurgashel_claim(NULL, 0, 0) == KURGASHEL_LOST, "no state is lost");
+    expect(!kurgashel_due(NULL, 0).due && !kurgashel_due(NULL, 0).time, "no state has a step to come");
+    expect(kurgashel_cache_take(NULL, 0, NULL, 0, 0, 5353, NULL, 0).refusal == 8, "cache: no table is 8, before 4");
+    expect(kurgashel_cache_look_up(NULL, 0, NULL, 0, 0, NULL, 0, 1, 0).refusal == 8, "cache: no table is 8, before 6");
+    expect(kurgashel_message_refusal(NULL, 0) == 4 && !kurgashel_name_end(NULL, 0, 0) && !kurgashel_name_length(NULL, 0, 0), "reader: no message");
+    expect(kurgashel_message(NULL, 0).refusal == 4 && !kurgashel_question(NULL, 0, 0).found && !kurgashel_record(NULL, 0, 0).found && !kurgashel_name(NULL, 0, 0).length, "reader: nothing in it");
+}
+
+static void setups(void) {
+    keep();
+    struct kurgashel_setup s = good; s.instance_length = 0; expect(is(start(&s, 0, 0), 7), "no instance label");
+    s = good; s.host_length = 64; expect(is(start(&s, 0, 0), 7), "a host label of 64 bytes");
+    s = good; s.service[0] = '-'; expect(is(start(&s, 0, 0), 7), "a service without its underscore");
+    s = good; s.protocol[1] = 'T'; expect(is(start(&s, 0, 0), 7), "another protocol");
+    s = good; s.domain[0] = 'L'; expect(is(start(&s, 0, 0), 7), "another domain");
+    s = good; s.txt_length[0] = 2; expect(is(start(&s, 0, 0), 7), "a TXT of 513 bytes");
+    s = good; s.txt[0] = 1; expect(is(start(&s, 0, 0), 7), "a TXT that its strings do not fill");
+    expect(is(start(&good, (1ull << 62) + 1, 0), 1), "a time above 2^62");
+    expect(is(start(&good, 0, 251), 2), "a draw of 251");
+}
+
+static void life(void) {
+    expect(!start(&good, 0, 0).refusal && claim(KURGASHEL_INSTANCE) == KURGASHEL_WAITING && claim(KURGASHEL_HOST) == KURGASHEL_WAITING, "started");
+    expect(!memcmp(state, &good, sizeof good), "the set-up stands in the state as it was");
+    static const uint8_t probe[44] = "\0\0\0\0\0\1\0\0\0\1\0\0\4dock\5local\0\0\xff\0\1\xc0\x0c\0\1\0\1\0\0\0\x78\0\4\n\0\0\7";
+    static const uint8_t announcement[38] = "\0\0\x84\0\0\0\0\1\0\0\0\0\4dock\5local\0\0\1\x80\1\0\0\0\x78\0\4\n\0\0\7";
+    expect(due(0), "both first probes are due at once");
+    struct kurgashel_answer a = tick(0);
+    expect(!a.refusal && a.length && a.more && due(0), "the instance's first probe, and more: the host's is due");
+    memset(out, 0xEE, sizeof out);
+    a = tick(0);
+    expect(a.length == 44 && !a.more && !memcmp(out, probe, 44) && out[44] == 0xEE, "the host's probe of 44 bytes; bytes beyond it stay");
+    expect(due(250), "the second probes 250 ms later");
+    for (int round = 1; round < 3; round++) { tick(250 * round); tick(250 * round); }
+    keep();
+    expect(due(750), "the announcements 250 ms after the third");
+    expect(is(tick(499), 1), "a time before the last");
+    expect(is(kurgashel_tick(state, KURGASHEL_STATE_BYTES, 750, out, KURGASHEL_OUT_BYTES - 1), 3), "an out buffer of 1,451 bytes");
+    tick(750);
+    a = tick(750);
+    expect(a.length == 38 && !memcmp(out, announcement, 38) && claim(KURGASHEL_HOST) == KURGASHEL_HELD, "the announcement of 38 bytes; held");
+    expect(due(1750), "the second announcements 1,000 ms later");
+    keep();
+    uint8_t query[29] = "\0\0\0\0\0\1\0\0\0\0\0\0\4dock\5local\0\0\1\0\1";
+    expect(is(kurgashel_receive(state, KURGASHEL_STATE_BYTES, 800, 5354, 20, query, 28, out, KURGASHEL_OUT_BYTES), 5), "another port");
+    expect(is(kurgashel_receive(state, KURGASHEL_STATE_BYTES, 800, 5353, 19, query, 28, out, KURGASHEL_OUT_BYTES), 2), "a draw of 19");
+    expect(is(kurgashel_receive(state, KURGASHEL_STATE_BYTES, 800, 5353, 20, query, 27, out, KURGASHEL_OUT_BYTES), 6), "a cut question");
+    expect(is(kurgashel_receive(state, KURGASHEL_STATE_BYTES, 800, 5353, 20, query, 11, out, KURGASHEL_OUT_BYTES), 4), "11 bytes");
+    a = kurgashel_receive(state, KURGASHEL_STATE_BYTES, 1750, 5353, 20, query, 28, out, KURGASHEL_OUT_BYTES);
+    expect(!a.refusal && a.length == 38 && !memcmp(out, announcement, 38), "the host's address, asked for");
+    uint8_t theirs[38]; memcpy(theirs, announcement, 38); theirs[37] = 8;
+    a = kurgashel_receive(state, KURGASHEL_STATE_BYTES, 1800, 5353, 20, theirs, 38, out, KURGASHEL_OUT_BYTES);
+    expect(!a.refusal && !a.length && claim(KURGASHEL_HOST) == KURGASHEL_WAITING, "a conflict: back to waiting");
+    expect(claim(KURGASHEL_INSTANCE) == KURGASHEL_HELD && claim(255) == KURGASHEL_WAITING, "the instance is held; any number but 0 is the host");
+    expect(due(1750), "the instance's second step is overdue");
+    a = tick(1800);
+    expect(a.length && a.more && due(1800), "it sends, and the host's first probe is due");
+    state[579] = 6; state[588] = 7; state[642] = 0;
+    expect(!kurgashel_due(state, KURGASHEL_STATE_BYTES).due, "held for good and lost: no step to come");
+}
+
+// the times and the draw below 256
+static void small_numbers(void) {
+    for (size_t i = 0; i < 8; i++) memset(state + 579 + 9 * i + 1, 0, 7);
+    memset(state + 651, 0, 7);
+    memset(state + 659, 0, 7);
+}
+
+// every buffer of the right length is a state: a case beyond the last is lost, a flag counts by its low bit
+static void any_bytes(void) {
+    uint32_t seed = 1;
+    int refused = 0, accepted = 0;
+    start(&good, 0, 0);
+    for (int round = 0; round < 100000; round++) {
+        memcpy(state, &good, sizeof good);
+        for (size_t i = sizeof good; i < KURGASHEL_STATE_BYTES; i++) state[i] = (seed = seed * 1664525 + 1013904223) >> 24;
+        if (round % 2) small_numbers();
+        keep();
+        struct kurgashel_answer a = tick(1000);
+        if (a.refusal) { refused++; if (!same()) failed++; } else { accepted++; if (memcmp(kept, state, sizeof good)) failed++; }
+    }
+    expect(refused > 1000 && accepted > 10000, "random states: refused ones keep every byte, accepted ones their set-up");
+    start(&good, 0, 0);
+    state[579] = 8; expect(claim(KURGASHEL_INSTANCE) == KURGASHEL_LOST, "case 8 is lost");
+    state[579] = 255; expect(claim(KURGASHEL_INSTANCE) == KURGASHEL_LOST, "case 255 is lost");
+    state[588] = 6; expect(claim(KURGASHEL_HOST) == KURGASHEL_HELD, "case 6 is held");
+}
+
+static void pairs(void) {
+    static const uint8_t received[] = "\7PassReq\11PASSREQ=1\2e=", factory[] = "\6room=3";
+    struct kurgashel_pair p = kurgashel_txt_lookup((const uint8_t *)"passreq", 7, received, sizeof received - 1, factory, sizeof factory - 1);
+    expect(!p.refusal && p.answer == KURGASHEL_PRESENT && !p.at && !p.length, "the first of two keys wins: present without value");
+    p = kurgashel_txt_lookup((const uint8_t *)"ROOM", 4, received, sizeof received - 1, factory, sizeof factory - 1);
+    expect(p.answer == KURGASHEL_VALUE && p.buffer == KURGASHEL_FACTORY && p.at == 6 && p.length == 1, "the value in the factory TXT");
+    p = kurgashel_txt_lookup((const uint8_t *)"e", 1, received, sizeof received - 1, NULL, 0);
+    expect(p.answer == KURGASHEL_EMPTY && p.buffer == KURGASHEL_RECEIVED && !p.at && !p.length, "an empty value");
+    p = kurgashel_txt_lookup((const uint8_t *)"x", 1, NULL, 0, NULL, 0);
+    expect(!p.refusal && p.answer == KURGASHEL_ABSENT, "null pointers with length 0: absent");
+    expect(kurgashel_txt_lookup(NULL, 0, received, 3, NULL, 0).refusal == 9, "9 comes first");
+    expect(kurgashel_txt_lookup((const uint8_t *)"x", 1, received, 3, NULL, 0).refusal == 6, "a malformed TXT");
+}
+
+int main(void) {
+    sizes();
+    setups();
+    life();
+    any_bytes();
+    pairs();
+    printf("%d cases, %d failed\n", cases, failed);
+    return failed != 0;
+}

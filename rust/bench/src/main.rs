@@ -1,0 +1,81 @@
+//! Times the proved library beside the reference program, on the same packets in one run: nanoseconds a packet or a call, and their ratio.
+
+use std::hint::black_box;
+
+use bench::packets;
+use bench::responders::{proved, query, reference, Calls};
+use bench::timing;
+
+/// Prints the least times of the two and their ratio.
+fn show(name: &str, [ours, reference]: [f64; 2]) {
+    println!(
+        "{name:<52} {:>6.2} {ours:>12.1} {reference:>12.1}",
+        ours / reference
+    );
+}
+
+/// Both readers over all packets.
+fn read(name: &str, packets: &[Vec<u8>], repeat: usize) {
+    show(name, timing::readers(packets, repeat));
+}
+
+/// Both responders, each of which holds its names.
+fn call(name: &str, sends: bool, call: impl Fn(&mut dyn Calls) -> usize) {
+    let (mut proved, mut reference) = (proved(), reference());
+    call(&mut proved);
+    call(&mut reference);
+    assert_eq!(
+        (call(&mut proved) > 0, call(&mut reference) > 0),
+        (sends, sends),
+        "{name}: what is timed is what is said"
+    );
+    show(
+        name,
+        timing::least(
+            5_000,
+            || _ = black_box(call(&mut proved)),
+            || _ = black_box(call(&mut reference)),
+        ),
+    );
+}
+
+fn main() {
+    println!(
+        "{:<52} {:>6} {:>12} {:>12}",
+        "", "ratio", "proved ns", "reference ns"
+    );
+    read("reader: mix (a third each)", &packets::mix(), 100);
+    read(
+        "reader: announcement of an address, 38 bytes",
+        &[packets::address()],
+        50_000,
+    );
+    read(
+        "reader: announcement of a service",
+        &[packets::service()],
+        20_000,
+    );
+    read(
+        "reader: 1,452 bytes of PTR records",
+        &[packets::full()],
+        5_000,
+    );
+    read("reader: the worst legal message", &[packets::worst()], 2);
+    let (query, full) = (query(), packets::full());
+    call(
+        "receive: a query that is answered at once",
+        true,
+        |responder| responder.receive(1000, &query),
+    );
+    call(
+        "receive: the same asked again at once, left out",
+        false,
+        |responder| responder.receive(0, &query),
+    );
+    call(
+        "receive: a response with 1,452 bytes of PTR records",
+        false,
+        |responder| responder.receive(10, &full),
+    );
+    call("tick: nothing due", false, |responder| responder.tick(10));
+}

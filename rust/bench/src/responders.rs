@@ -1,0 +1,117 @@
+//! The proved responder and the reference program's, each holding its names, and the calls that are timed on both.
+
+use kurgashel::{Responder, Setup, OUT_BYTES, PORT};
+use reference::responder::Responder as ReferenceResponder;
+use reference::setup::Setup as ReferenceSetup;
+
+/// A responder with its clock and its out buffer.
+pub trait Calls {
+    /// Takes a packet `gap` ms after the last call, and tells the length of what is sent.
+    fn receive(&mut self, gap: u64, packet: &[u8]) -> usize;
+    /// Ticks `gap` ms after the last call, and tells the length of what is sent.
+    fn tick(&mut self, gap: u64) -> usize;
+}
+
+pub struct Proved {
+    responder: Responder,
+    now: u64,
+    out: [u8; OUT_BYTES],
+}
+
+pub struct Reference {
+    responder: ReferenceResponder,
+    now: u64,
+    out: [u8; OUT_BYTES],
+}
+
+impl Calls for Proved {
+    fn receive(&mut self, gap: u64, packet: &[u8]) -> usize {
+        self.now += gap;
+        self.responder
+            .receive(self.now, PORT, 20, packet, &mut self.out)
+            .expect("accepted")
+    }
+
+    fn tick(&mut self, gap: u64) -> usize {
+        self.now += gap;
+        self.responder
+            .tick(self.now, &mut self.out)
+            .expect("accepted")
+            .length
+    }
+}
+
+impl Calls for Reference {
+    fn receive(&mut self, gap: u64, packet: &[u8]) -> usize {
+        self.now += gap;
+        self.responder
+            .receive(self.now, PORT.into(), 20, packet, &mut self.out)
+            .expect("accepted")
+            .unwrap_or(0)
+    }
+
+    fn tick(&mut self, gap: u64) -> usize {
+        self.now += gap;
+        self.responder
+            .tick(self.now, &mut self.out)
+            .expect("accepted")
+            .map_or(0, |sent| sent.length)
+    }
+}
+
+/// Ticks for ten seconds, until nothing is due any more.
+fn settled<C: Calls>(mut calls: C) -> C {
+    for _ in 0..1000 {
+        calls.tick(10);
+    }
+    calls
+}
+
+pub fn proved() -> Proved {
+    let setup = Setup::new(
+        "booth",
+        "_voice",
+        "_tcp",
+        "dock",
+        4000,
+        &[0],
+        [10, 0, 0, 7],
+        None,
+    );
+    let responder = Responder::start(&setup, 0, 0).expect("a good set-up");
+    settled(Proved {
+        responder,
+        now: 0,
+        out: [0; OUT_BYTES],
+    })
+}
+
+pub fn reference() -> Reference {
+    let setup = ReferenceSetup {
+        instance: b"booth".to_vec(),
+        service: b"_voice".to_vec(),
+        protocol: b"_tcp".to_vec(),
+        host: b"dock".to_vec(),
+        domain: b"local".to_vec(),
+        port: 4000,
+        txt: vec![0],
+        a: [10, 0, 0, 7],
+        aaaa: None,
+    };
+    let responder = ReferenceResponder::start(0, 0, setup).expect("a good set-up");
+    settled(Reference {
+        responder,
+        now: 0,
+        out: [0; OUT_BYTES],
+    })
+}
+
+/// A query for the host's address.
+pub fn query() -> Vec<u8> {
+    [
+        &[0, 0, 0, 0, 0, 1, 0, 0, 0, 0, 0, 0],
+        b"\x04dock\x05local\0".as_slice(),
+        &[0, 1, 0, 1],
+    ]
+    .concat()
+}

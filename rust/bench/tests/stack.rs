@@ -1,0 +1,60 @@
+//! The reader runs in a stack of 64 KiB, whatever the packet, and so do the responder's calls.
+
+use bench::packets;
+use bench::responders::Calls;
+
+/// Runs `work` on a thread with a stack of 64 KiB; one that overflows ends the test with a fault.
+fn in_64_kib(work: fn()) {
+    std::thread::Builder::new()
+        .stack_size(64 * 1024)
+        .spawn(work)
+        .expect("a thread")
+        .join()
+        .expect("an answer");
+}
+
+#[test]
+fn the_longest_chain_of_pointers() {
+    in_64_kib(|| {
+        let (packet, at) = packets::longest_chain();
+        assert!(packet.len() > 8960 && packet.len() <= 8972);
+        assert_eq!(bench::refusal(&packet), 0);
+        assert_eq!(bench::name_end(&packet, at), at + 2);
+        assert_eq!(bench::expanded_length(&packet, at), 1);
+    });
+}
+
+#[test]
+fn a_name_of_127_labels_each_behind_a_pointer() {
+    in_64_kib(|| {
+        let (packet, at) = packets::label_by_label();
+        assert_eq!(bench::refusal(&packet), 0);
+        assert_eq!(bench::name_end(&packet, at), at + 4);
+        assert_eq!(bench::expanded_length(&packet, at), 255);
+    });
+}
+
+#[test]
+fn the_message_that_takes_longest() {
+    in_64_kib(|| {
+        let packet = packets::worst();
+        assert!(packet.len() > 8900 && packet.len() <= 8972);
+        assert_eq!(bench::refusal(&packet), 0);
+    });
+}
+
+#[test]
+fn a_responder_that_receives_each() {
+    in_64_kib(|| {
+        let mut responder = bench::responders::proved();
+        for packet in [
+            packets::longest_chain().0,
+            packets::label_by_label().0,
+            packets::worst(),
+            bench::responders::query(),
+        ] {
+            responder.receive(1000, &packet);
+            responder.tick(1000);
+        }
+    });
+}

@@ -1,0 +1,171 @@
+//! The cache of others' records: 64 entries and a store of 65,536 bytes.
+
+use crate::Refusal;
+
+const ENTRIES: usize = 64;
+const STORE_BYTES: usize = 65_536;
+const SLOT_BYTES: usize = 1024;
+const OWNER_BYTES: usize = 256;
+
+#[repr(C)]
+#[derive(Clone, Copy, Default)]
+struct Entry {
+    rtype: u16,
+    owner: u16,
+    rdata: u32,
+    received: u64,
+    expiry: u64,
+}
+
+#[repr(C)]
+struct TakenNumbers {
+    refusal: u8,
+    turned_away: u32,
+    passed_over: u32,
+}
+
+#[repr(C)]
+struct LookedNumbers {
+    refusal: u8,
+    found: bool,
+    slot: usize,
+}
+
+extern "C" {
+    #[allow(clippy::too_many_arguments)]
+    fn kurgashel_cache_take(
+        table: *mut Entry,
+        entries: usize,
+        store: *mut u8,
+        store_bytes: usize,
+        now: u64,
+        port: u16,
+        message: *const u8,
+        message_bytes: usize,
+    ) -> TakenNumbers;
+    #[allow(clippy::too_many_arguments)]
+    fn kurgashel_cache_look_up(
+        table: *const Entry,
+        entries: usize,
+        store: *const u8,
+        store_bytes: usize,
+        now: u64,
+        name: *const u8,
+        name_bytes: usize,
+        rtype: u16,
+        from: usize,
+    ) -> LookedNumbers;
+}
+
+/// The records of a message that were not taken.
+#[derive(Clone, Copy, Debug, PartialEq, Eq)]
+pub struct Taken {
+    /// Since all entries are live.
+    pub turned_away: u32,
+    /// Since their rdata is over 768 bytes.
+    pub passed_over: u32,
+}
+
+/// A record in the cache. Its names are uncompressed, in wire form.
+#[derive(Clone, Copy, Debug, PartialEq, Eq)]
+pub struct Found<'a> {
+    /// The slot; look on from the next one for further records of the same name and type.
+    pub slot: usize,
+    /// The owner's name.
+    pub owner: &'a [u8],
+    /// The rdata.
+    pub rdata: &'a [u8],
+    /// When it was received.
+    pub received: u64,
+    /// When it expires.
+    pub expiry: u64,
+}
+
+/// A cache, at first empty.
+pub struct Cache {
+    table: Box<[Entry]>,
+    store: Box<[u8]>,
+}
+
+impl Default for Cache {
+    fn default() -> Cache {
+        Cache {
+            table: vec![Entry::default(); ENTRIES].into(),
+            store: vec![0; STORE_BYTES].into(),
+        }
+    }
+}
+
+impl Cache {
+    /// Takes the records of a response that came from `port`.
+    pub fn take(&mut self, now: u64, port: u16, message: &[u8]) -> Result<Taken, Refusal> {
+        let (table, store) = (&mut self.table, &mut self.store);
+        // SAFETY: each pointer and count are those of one slice; table and store are borrowed for this call alone.
+        let taken = unsafe {
+            kurgashel_cache_take(
+                table.as_mut_ptr(),
+                table.len(),
+                store.as_mut_ptr(),
+                store.len(),
+                now,
+                port,
+                message.as_ptr(),
+                message.len(),
+            )
+        };
+        Refusal::check(taken.refusal).map(|()| Taken {
+            turned_away: taken.turned_away,
+            passed_over: taken.passed_over,
+        })
+    }
+
+    /// The lowest live record of a name (uncompressed, in wire form) and a type, from a slot on.
+    pub fn look_up(
+        &self,
+        now: u64,
+        name: &[u8],
+        rtype: u16,
+        from: usize,
+    ) -> Result<Option<Found<'_>>, Refusal> {
+        let (table, store) = (&self.table, &self.store);
+        // SAFETY: each pointer and count are those of one slice; nothing is written.
+        let looked = unsafe {
+            kurgashel_cache_look_up(
+                table.as_ptr(),
+                table.len(),
+                store.as_ptr(),
+                store.len(),
+                now,
+                name.as_ptr(),
+                name.len(),
+                rtype,
+                from,
+            )
+        };
+        Refusal::check(looked.refusal).map(|()| looked.found.then(|| self.found(looked.slot)))
+    }
+
+    /// All live records of a name and a type.
+    pub fn all(&self, now: u64, name: &[u8], rtype: u16) -> Result<Vec<Found<'_>>, Refusal> {
+        let mut records = Vec::new();
+        let mut from = 0;
+        while let Some(found) = self.look_up(now, name, rtype, from)? {
+            from = found.slot + 1;
+            records.push(found);
+        }
+        Ok(records)
+    }
+
+    fn found(&self, slot: usize) -> Found<'_> {
+        let entry = self.table[slot];
+        let (owner, rdata) =
+            self.store[SLOT_BYTES * slot..SLOT_BYTES * (slot + 1)].split_at(OWNER_BYTES);
+        Found {
+            slot,
+            owner: &owner[..usize::from(entry.owner)],
+            rdata: &rdata[..entry.rdata as usize],
+            received: entry.received,
+            expiry: entry.expiry,
+        }
+    }
+}

@@ -1,0 +1,89 @@
+//! A Multicast DNS / DNS-SD responder, cache and TXT reader (RFC 6762, RFC 6763), proved in Rattle and called from Rust.
+//!
+//! Every call takes any arguments: the library itself tests them, and a refused call changes nothing. There are no sockets and no clock here; times are
+//! milliseconds of a clock that never goes back, and random draws are the caller's.
+//!
+//! ```
+//! use kurgashel::{Claim, Responder, Setup, OUT_BYTES};
+//!
+//! let setup = Setup::new("booth", "_voice", "_tcp", "dock", 4000, b"\x06room=3", [10, 0, 0, 7], None);
+//! let mut responder = Responder::start(&setup, 0, 120).expect("a good set-up");
+//! let mut out = [0; OUT_BYTES];
+//! while let Some(due) = responder.due() {
+//!     // wait until then, or for a packet to hand to responder.receive
+//!     let sent = responder.tick(due, &mut out).expect("time goes on");
+//!     // send the first sent.length bytes of out to 224.0.0.251, port 5353
+//! }
+//! assert_eq!(responder.instance(), Claim::Held);
+//! ```
+
+#![warn(missing_docs)]
+
+mod cache;
+mod pairs;
+mod reader;
+mod responder;
+mod setup;
+
+pub use cache::{Cache, Found, Taken};
+pub use pairs::{txt_lookup, Pair};
+pub use reader::{
+    message_refusal, name_end, name_length, Message, Name, Question, Record, Section,
+};
+pub use responder::{Claim, Responder, Ticked, OUT_BYTES, PORT, STATE_BYTES};
+pub use setup::{Setup, SETUP_BYTES};
+
+/// Why a call was refused, by the specification's number.
+#[derive(Clone, Copy, Debug, PartialEq, Eq)]
+pub enum Refusal {
+    /// 1: a time too late, or before one that is kept.
+    Time,
+    /// 2: a draw outside 0..250 (start) or 20..120 (packet received).
+    Draw,
+    /// 3: an out buffer under 1,452 bytes.
+    Buffer,
+    /// 4: a message under 12 or over 8,972 bytes.
+    Length,
+    /// 5: opcode or RCODE not zero, or a source port other than 5353.
+    Header,
+    /// 6: a malformed message, TXT or looked-up name.
+    Malformed,
+    /// 7: a set-up or a state that breaks the rules.
+    Setup,
+    /// 8: a cache of another size, or with an entry that breaks the rules.
+    Cache,
+    /// 9: a TXT key that is empty or has a byte that no key has.
+    Key,
+}
+
+impl Refusal {
+    /// The specification's number.
+    pub fn number(self) -> u8 {
+        self as u8 + 1
+    }
+
+    /// The refusal of a number, none for 0.
+    fn check(number: u8) -> Result<(), Refusal> {
+        use Refusal::*;
+        match number {
+            0 => Ok(()),
+            1 => Err(Time),
+            2 => Err(Draw),
+            3 => Err(Buffer),
+            4 => Err(Length),
+            5 => Err(Header),
+            6 => Err(Malformed),
+            7 => Err(Setup),
+            8 => Err(Cache),
+            _ => Err(Key),
+        }
+    }
+}
+
+impl std::fmt::Display for Refusal {
+    fn fmt(&self, f: &mut std::fmt::Formatter) -> std::fmt::Result {
+        write!(f, "refused: {:?} ({})", self, self.number())
+    }
+}
+
+impl std::error::Error for Refusal {}

@@ -1,0 +1,298 @@
+//! Random hostile scripts through this crate and the independent reference program: the same answer to every line that the exported calls can answer.
+
+use std::collections::BTreeMap;
+
+use kurgashel::{
+    txt_lookup, Cache, Message, Pair, Refusal, Responder, Section, Setup, STATE_BYTES,
+};
+use reference::console::{hex, Console};
+use reference::script::script;
+
+const SEEDS: u64 = 6;
+const LINES: usize = 20_000;
+
+/// Zeros past the last case of each claim: no names, both claims lost.
+fn blank() -> Responder {
+    let mut state = [0; STATE_BYTES];
+    state[579] = 7;
+    state[588] = 7;
+    Responder::from_bytes(state)
+}
+
+/// The console's calls over this crate.
+struct Exported {
+    responder: Responder,
+    cache: Cache,
+    out: Vec<u8>,
+}
+
+fn bytes(field: &str) -> Vec<u8> {
+    if field == "-" {
+        return Vec::new();
+    }
+    (0..field.len() / 2)
+        .map(|i| u8::from_str_radix(&field[2 * i..2 * i + 2], 16).expect("hex digits"))
+        .collect()
+}
+
+fn number(field: &str) -> u64 {
+    field.parse().expect("a number")
+}
+
+/// A message as the console shows it, names in the rdata of PTR and SRV expanded.
+fn read_words(message: &Message) -> String {
+    let mut words = format!("message {} {}", message.id(), message.flags());
+    for q in message.questions() {
+        words += &format!(" q {} {} {}", hex(q.name.as_bytes()), q.rtype, q.class);
+    }
+    for (word, section) in [
+        ("an", Section::Answer),
+        ("ns", Section::Authority),
+        ("ar", Section::Additional),
+    ] {
+        for r in message.records(section) {
+            let rdata = match &r.target {
+                Some(target) => [
+                    &r.rdata[..if r.rtype == 33 { 6 } else { 0 }],
+                    target.as_bytes(),
+                ]
+                .concat(),
+                None => r.rdata.to_vec(),
+            };
+            words += &format!(
+                " r {word} {} {} {} {} {}",
+                hex(r.owner.as_bytes()),
+                r.rtype,
+                r.class,
+                r.ttl,
+                hex(&rdata)
+            );
+        }
+    }
+    words
+}
+
+impl Exported {
+    fn new() -> Exported {
+        Exported {
+            responder: blank(),
+            cache: Cache::default(),
+            out: vec![0; 4096],
+        }
+    }
+
+    /// The answer to a line of the right form, and none where no exported call has it.
+    fn answer(&mut self, line: &str) -> Option<Result<String, Refusal>> {
+        let fields: Vec<&str> = line.split(' ').collect();
+        let lent = |index: usize| {
+            fields
+                .get(index)
+                .map_or(1452, |field| number(field) as usize)
+        };
+        Some(match fields[0] {
+            "start" => self.start(&fields),
+            "recv" => {
+                let (packet, port) = (bytes(fields[4]), u16::try_from(number(fields[2])).ok()?);
+                let out = &mut self.out[..lent(5)];
+                let sent = self.responder.receive(
+                    number(fields[1]),
+                    port,
+                    number(fields[3]),
+                    &packet,
+                    out,
+                );
+                sent.map(|length| {
+                    if length == 0 {
+                        "quiet".into()
+                    } else {
+                        format!("sent {}", hex(&self.out[..length]))
+                    }
+                })
+            }
+            "tick" => {
+                let sent = self
+                    .responder
+                    .tick(number(fields[1]), &mut self.out[..lent(2)]);
+                sent.map(|sent| match sent.length {
+                    0 => "quiet".into(),
+                    length => format!(
+                        "sent {}{}",
+                        hex(&self.out[..length]),
+                        if sent.more { " more" } else { "" }
+                    ),
+                })
+            }
+            "claims" => Ok(self.claims()),
+            "out" => {
+                let at = number(fields[1]) as usize;
+                Ok(format!(
+                    "out {}",
+                    hex(&self.out[at..at + number(fields[2]) as usize])
+                ))
+            }
+            "put" => {
+                let port = u16::try_from(number(fields[2])).ok()?;
+                let taken = self.cache.take(number(fields[1]), port, &bytes(fields[3]));
+                taken.map(|taken| format!("cached {} {}", taken.turned_away, taken.passed_over))
+            }
+            "look" => {
+                let rtype = u16::try_from(number(fields[3])).ok()?;
+                let found = self.cache.look_up(
+                    number(fields[1]),
+                    &bytes(fields[2]),
+                    rtype,
+                    number(fields[4]) as usize,
+                );
+                found.map(|found| match found {
+                    None => "none".into(),
+                    Some(f) => format!(
+                        "slot {} {} {} {} {}",
+                        f.slot,
+                        f.received,
+                        f.expiry,
+                        hex(f.owner),
+                        hex(f.rdata)
+                    ),
+                })
+            }
+            "clear" => {
+                self.cache = Cache::default();
+                Ok("cleared".into())
+            }
+            "read" => Message::read(&bytes(fields[1])).map(|message| read_words(&message)),
+            "txt" => {
+                let (received, factory) = (bytes(fields[2]), bytes(fields[3]));
+                let answer = txt_lookup(&bytes(fields[1]), &received, &factory);
+                answer.map(|pair| match pair {
+                    Pair::Absent => "absent".into(),
+                    Pair::Present => "present".into(),
+                    Pair::Empty => "empty".into(),
+                    Pair::Value(value) => {
+                        let inside = |txt: &[u8]| txt.as_ptr_range().contains(&value.as_ptr());
+                        let (word, txt) = if inside(&received) {
+                            ("received", &received)
+                        } else {
+                            ("factory", &factory)
+                        };
+                        format!(
+                            "value {word} {} {}",
+                            value.as_ptr() as usize - txt.as_ptr() as usize,
+                            hex(value)
+                        )
+                    }
+                })
+            }
+            _ => return None,
+        })
+    }
+
+    fn start(&mut self, fields: &[&str]) -> Result<String, Refusal> {
+        let aaaa = bytes(fields[11]);
+        let setup = Setup::new(
+            bytes(fields[3]),
+            bytes(fields[4]),
+            bytes(fields[5]),
+            bytes(fields[6]),
+            number(fields[8]) as u16,
+            &bytes(fields[9]),
+            bytes(fields[10]).try_into().expect("four bytes"),
+            (!aaaa.is_empty()).then(|| aaaa.try_into().expect("sixteen bytes")),
+        );
+        let started = Responder::start(
+            &setup.with_domain(bytes(fields[7])),
+            number(fields[1]),
+            number(fields[2]),
+        )?;
+        self.responder = started;
+        Ok("started".into())
+    }
+
+    /// The times that a state keeps, by its layout: a case byte and a number of eight bytes for each claim, each last multicast and the reply.
+    fn claims(&self) -> String {
+        let state = self.responder.bytes();
+        let word =
+            |at: usize| u64::from_be_bytes(state[at..at + 8].try_into().expect("eight bytes"));
+        let due = |set: bool, at: usize| {
+            if set {
+                word(at).to_string()
+            } else {
+                "-".into()
+            }
+        };
+        format!(
+            "{} instance {} {} host {} {} reply {}",
+            word(659),
+            self.responder.instance().word(),
+            due(state[579] < 6, 580),
+            self.responder.host().word(),
+            due(state[588] < 6, 589),
+            due(state[642] % 2 == 1, 643),
+        )
+    }
+}
+
+/// The earliest due time of a `claims` answer: of the instance's claim, the host's and the reply.
+fn earliest(claims: &str) -> Option<u64> {
+    let fields: Vec<&str> = claims.split(' ').collect();
+    [3, 6, 8]
+        .iter()
+        .filter_map(|&index| fields[index].parse().ok())
+        .min()
+}
+
+#[test]
+fn the_reference_program_answers_alike() {
+    let mut kinds: BTreeMap<String, u64> = BTreeMap::new();
+    for seed in 1..=SEEDS {
+        let (mut reference, mut exported) = (Console::default(), Exported::new());
+        for line in script(seed, LINES) {
+            let Some(expected) = reference.answer(&line) else {
+                continue;
+            };
+            if expected == "bad line" {
+                continue;
+            }
+            let line = String::from_utf8(line).expect("a line of the right form is ASCII");
+            let before = *exported.responder.bytes();
+            let Some(answer) = exported.answer(&line) else {
+                continue;
+            };
+            if answer.is_err() {
+                assert_eq!(
+                    &before,
+                    exported.responder.bytes(),
+                    "a refusal keeps every byte: seed {seed}: {line}"
+                );
+            }
+            let answer = answer.unwrap_or_else(|refusal| format!("refused {}", refusal.number()));
+            assert_eq!(answer, expected, "seed {seed}: {line}");
+            if line == "claims" {
+                assert_eq!(
+                    exported.responder.due(),
+                    earliest(&expected),
+                    "the next due time: seed {seed}: {expected}"
+                );
+            }
+            let kind = line.split(' ').next().unwrap_or_default().to_string()
+                + " "
+                + answer.split(' ').next().unwrap_or_default();
+            *kinds.entry(kind).or_default() += 1;
+        }
+    }
+    for kind in [
+        "start started",
+        "recv sent",
+        "recv quiet",
+        "tick sent",
+        "tick quiet",
+        "put cached",
+        "look slot",
+        "txt value",
+        "read message",
+    ] {
+        assert!(
+            kinds.get(kind).is_some_and(|count| *count > 50),
+            "{kind} is too rare: {kinds:?}"
+        );
+    }
+}

@@ -1,0 +1,119 @@
+//! A list's entries: "the start, packet received and tick calls of all docks, refused ones too, and power cuts between them".
+
+use std::rc::Rc;
+
+use reference::console::hex;
+use reference::message::Message;
+use reference::refusal::Refusal;
+use reference::setup::Setup;
+use reference::MOST_TIME;
+
+pub const LEAST_OUT: usize = 1452;
+pub const MOST_START_DRAW: u64 = 250;
+pub const LEAST_REPLY_DRAW: u64 = 20;
+pub const MOST_REPLY_DRAW: u64 = 120;
+
+pub type Packet = Rc<[u8]>;
+
+#[derive(Clone)]
+pub struct Entry {
+    /// The link's time.
+    pub time: u64,
+    /// Which of the consoles is called; it runs at most one responder at a time.
+    pub console: usize,
+    pub call: Call,
+}
+
+/// A call with the time on the responder's clock, or a power cut.
+#[derive(Clone)]
+pub enum Call {
+    Start {
+        clock: u64,
+        draw: u64,
+        setup: Rc<Setup>,
+    },
+    Receive {
+        clock: u64,
+        port: u64,
+        draw: u64,
+        packet: Packet,
+        out: usize,
+    },
+    Tick {
+        clock: u64,
+        out: usize,
+    },
+    Cut,
+}
+
+impl Call {
+    /// The console's line for this call; a power cut is no call.
+    pub fn line(&self) -> String {
+        match self {
+            Call::Start { clock, draw, setup } => format!(
+                "start {clock} {draw} {} {} {} {} {} {} {} {} {}",
+                hex(&setup.instance),
+                hex(&setup.service),
+                hex(&setup.protocol),
+                hex(&setup.host),
+                hex(&setup.domain),
+                setup.port,
+                hex(&setup.txt),
+                hex(&setup.a),
+                hex(setup.aaaa.as_ref().map_or(&[], |address| &address[..])),
+            ),
+            Call::Receive {
+                clock,
+                port,
+                draw,
+                packet,
+                out,
+            } => format!("recv {clock} {port} {draw} {} {out}", hex(packet)),
+            Call::Tick { clock, out } => format!("tick {clock} {out}"),
+            Call::Cut => "# power cut".to_string(),
+        }
+    }
+
+    pub fn clock(&self) -> u64 {
+        match self {
+            Call::Start { clock, .. } | Call::Receive { clock, .. } | Call::Tick { clock, .. } => {
+                *clock
+            }
+            Call::Cut => 0,
+        }
+    }
+
+    /// The number by "Refusal numbers", in their order; `last` is the time of the responder's last call that was not refused.
+    pub fn refusal(&self, last: u64) -> Option<u8> {
+        self.check(last).err().map(Refusal::number)
+    }
+
+    fn check(&self, last: u64) -> Result<(), Refusal> {
+        let test = |passed: bool, refusal| if passed { Ok(()) } else { Err(refusal) };
+        match self {
+            Call::Start { clock, draw, setup } => {
+                test(*clock <= MOST_TIME, Refusal::Time)?;
+                test(*draw <= MOST_START_DRAW, Refusal::Draw)?;
+                test(setup.is_legal(), Refusal::Setup)
+            }
+            Call::Receive {
+                clock,
+                port,
+                draw,
+                packet,
+                out,
+            } => {
+                test((last..=MOST_TIME).contains(clock), Refusal::Time)?;
+                let draws = LEAST_REPLY_DRAW..=MOST_REPLY_DRAW;
+                test(draws.contains(draw), Refusal::Draw)?;
+                test(*out >= LEAST_OUT, Refusal::OutBuffer)?;
+                Message::read_from(*port, packet).map(|_| ())
+            }
+            Call::Tick { clock, out } => {
+                test((last..=MOST_TIME).contains(clock), Refusal::Time)?;
+                test(*out >= LEAST_OUT, Refusal::OutBuffer)
+            }
+            Call::Cut => Ok(()),
+        }
+    }
+}

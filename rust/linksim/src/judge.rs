@@ -1,0 +1,469 @@
+//! Demand 3's two conclusions, judged by the packets alone, from paper 01, 'A claim's life'. Nothing here asks the console.
+//! A responder is known by the number of its start among the accepted ones.
+
+use std::cmp::Ordering;
+use std::fmt;
+
+use reference::message::{Message, Question, Record, Section};
+use reference::name::Name;
+use reference::order::{self, Entry};
+use reference::setup::{ClaimName, Setup};
+use reference::{class, rtype};
+
+use crate::describe::text_of;
+
+/// "a dock holds each of its two names 1,200 ms after its start at the latest"
+const HOLDING_TIME: u64 = 1200;
+
+#[derive(Default)]
+pub struct Judge {
+    responders: Vec<Responder>,
+    /// How often the 1,200 ms were asked of a claim.
+    pub asked: u64,
+}
+
+struct Responder {
+    start: u64,
+    runs: bool,
+    /// Its 1,200 ms are over.
+    past: bool,
+    claims: [Claim; 2],
+}
+
+/// A name with what one responder would have it mean, and what happened to it so far.
+pub struct Claim {
+    name: Name,
+    /// Class, type and rdata: "Its types and data are its setup's".
+    records: Vec<Entry>,
+    holds: bool,
+    /// A conflicting response or a probe with later records was heard since the start.
+    opposed: bool,
+}
+
+#[derive(Clone, Debug, PartialEq, Eq)]
+pub enum Violation {
+    /// "no two docks hold the same name at once with different data in a record type both carry"
+    TwoHolders {
+        name: String,
+        one: usize,
+        other: usize,
+    },
+    /// "a dock holds each of its two names 1,200 ms after its start at the latest"
+    NotInTime { name: String, responder: usize },
+    /// A call was refused that the table of refusals lets pass, or the other way round, or by another number.
+    Refusal {
+        expected: Option<u8>,
+        given: Option<u8>,
+    },
+    /// A packet of a responder that the reference program's reader refuses.
+    Unreadable { responder: usize },
+}
+
+impl Claim {
+    pub fn new(setup: &Setup, name: ClaimName) -> Claim {
+        let own = setup.records().into_iter();
+        let own = own.filter(|record| record.kind.is_claimed() && record.kind.claim() == name);
+        Claim {
+            name: setup.claim_name(name),
+            records: own
+                .map(|record| Entry {
+                    class: class::IN,
+                    rtype: record.kind.rtype(),
+                    rdata: record.rdata(),
+                })
+                .collect(),
+            holds: false,
+            opposed: false,
+        }
+    }
+
+    /// "A response record of any section conflicts when name, class 1 and type are the claim's, TTL is not 0 and rdata differs."
+    fn conflicts(&self, message: &Message) -> bool {
+        let conflicting = |record: &Record| {
+            let own = self.records.iter().find(|own| own.rtype == record.rtype);
+            record.owner.equals(&self.name)
+                && record.class() == class::IN
+                && record.ttl != 0
+                && own.is_some_and(|own| own.rdata != record.rdata)
+        };
+        message.is_response() && message.records.iter().any(conflicting)
+    }
+
+    /// "A probe is a query with a type 255, class 1 or 255 question for the claim's name and at least one Authority record under it."
+    fn is_probe(&self, message: &Message) -> bool {
+        let asks = |question: &Question| {
+            question.name.equals(&self.name)
+                && question.rtype == rtype::ANY
+                && matches!(question.class(), class::IN | class::ANY)
+        };
+        !message.is_response()
+            && message.questions.iter().any(asks)
+            && !self.theirs(message).is_empty()
+    }
+
+    fn theirs(&self, message: &Message) -> Vec<Entry> {
+        let authority = message.section(Section::Authority);
+        authority
+            .filter(|record| record.owner.equals(&self.name))
+            .map(|record| Entry {
+                class: record.class(),
+                rtype: record.rtype,
+                rdata: record.rdata.clone(),
+            })
+            .collect()
+    }
+
+    /// A probe for the name whose records are later than ours.
+    fn is_later(&self, message: &Message) -> bool {
+        self.is_probe(message)
+            && order::compare(self.theirs(message), self.records.clone()) == Ordering::Greater
+    }
+
+    /// "a response with a record under it"
+    fn is_answered_by(&self, message: &Message) -> bool {
+        let under = |record: &Record| record.owner.equals(&self.name);
+        message.is_response() && message.records.iter().any(under)
+    }
+
+    fn hear(&mut self, message: &Message) {
+        if self.conflicts(message) {
+            self.holds = false;
+            self.opposed = true;
+        }
+        if self.is_later(message) {
+            self.opposed = true;
+        }
+    }
+
+    /// Same name, and different data in a type of both.
+    fn differs_from(&self, other: &Claim) -> bool {
+        let unlike = |own: &Entry| {
+            let mut theirs = other.records.iter();
+            theirs.any(|theirs| own.rtype == theirs.rtype && own.rdata != theirs.rdata)
+        };
+        self.name.equals(&other.name) && self.records.iter().any(unlike)
+    }
+}
+
+impl Judge {
+    /// An accepted start; gives the responder's number.
+    pub fn start(&mut self, time: u64, setup: &Setup) -> usize {
+        self.responders.push(Responder {
+            start: time,
+            runs: true,
+            past: false,
+            claims: [ClaimName::Instance, ClaimName::Host].map(|name| Claim::new(setup, name)),
+        });
+        self.responders.len() - 1
+    }
+
+    /// "A power cut ends a dock: from then on it holds nothing".
+    pub fn cut(&mut self, responder: usize) {
+        self.responders[responder].runs = false;
+        for claim in &mut self.responders[responder].claims {
+            claim.holds = false;
+        }
+    }
+
+    pub fn hear(&mut self, responder: usize, message: &Message) {
+        for claim in &mut self.responders[responder].claims {
+            claim.hear(message);
+        }
+    }
+
+    /// Gives how many holdings began.
+    pub fn write(&mut self, responder: usize, message: &Message) -> u64 {
+        let mut began = 0;
+        for claim in &mut self.responders[responder].claims {
+            if claim.is_answered_by(message) && !claim.holds {
+                claim.holds = true;
+                began += 1;
+            }
+        }
+        began
+    }
+
+    /// Before an entry at this time: the 1,200 ms that are over now, "that last millisecond included", of those who still run.
+    pub fn not_in_time(&mut self, time: u64) -> Option<Violation> {
+        let mut found = None;
+        for (number, responder) in self.responders.iter_mut().enumerate() {
+            if responder.past || time <= responder.start + HOLDING_TIME {
+                continue;
+            }
+            responder.past = true;
+            if !responder.runs {
+                continue;
+            }
+            for claim in responder.claims.iter().filter(|claim| !claim.opposed) {
+                self.asked += 1;
+                if !claim.holds {
+                    found = Some(Violation::NotInTime {
+                        name: text_of(&claim.name),
+                        responder: number,
+                    });
+                }
+            }
+        }
+        found
+    }
+
+    /// After an entry: two who hold one name with different data in a type of both.
+    pub fn two_holders(&self) -> Option<Violation> {
+        let holdings: Vec<(usize, &Claim)> = self
+            .responders
+            .iter()
+            .enumerate()
+            .flat_map(|(number, responder)| {
+                responder.claims.iter().map(move |claim| (number, claim))
+            })
+            .filter(|(_, claim)| claim.holds)
+            .collect();
+        for (at, (one, claim)) in holdings.iter().enumerate() {
+            for (other, others) in &holdings[at + 1..] {
+                if one != other && claim.differs_from(others) {
+                    return Some(Violation::TwoHolders {
+                        name: text_of(&claim.name),
+                        one: *one,
+                        other: *other,
+                    });
+                }
+            }
+        }
+        None
+    }
+}
+
+impl Violation {
+    pub fn same_kind(&self, other: &Violation) -> bool {
+        std::mem::discriminant(self) == std::mem::discriminant(other)
+    }
+}
+
+impl fmt::Display for Violation {
+    fn fmt(&self, f: &mut fmt::Formatter) -> fmt::Result {
+        match self {
+            Violation::TwoHolders { name, one, other } => write!(
+                f,
+                "responders {one} and {other} hold {name} at once with different data"
+            ),
+            Violation::NotInTime { name, responder } => write!(
+                f,
+                "responder {responder} does not hold {name} 1,200 ms after its start"
+            ),
+            Violation::Refusal { expected, given } => {
+                write!(f, "refusal {given:?}, expected {expected:?}")
+            }
+            Violation::Unreadable { responder } => {
+                write!(f, "responder {responder} sent a packet that can't be read")
+            }
+        }
+    }
+}
+
+#[cfg(test)]
+mod tests {
+    use super::*;
+    use crate::hostile::{Draft, Record};
+    use reference::compose;
+
+    fn setup(host: &str, a: [u8; 4], aaaa: Option<[u8; 16]>) -> Setup {
+        Setup {
+            instance: b"booth".to_vec(),
+            service: b"_voice".to_vec(),
+            protocol: b"_tcp".to_vec(),
+            host: host.as_bytes().to_vec(),
+            domain: b"local".to_vec(),
+            port: 4000,
+            txt: vec![0],
+            a,
+            aaaa,
+        }
+    }
+
+    fn plain() -> Setup {
+        setup("dock", [10, 0, 0, 7], None)
+    }
+
+    fn read(bytes: &[u8]) -> Message {
+        Message::read(bytes).unwrap()
+    }
+
+    fn announcement(setup: &Setup) -> Message {
+        let records = setup.records();
+        read(&compose::response(&records.iter().collect::<Vec<_>>()))
+    }
+
+    fn host_probe(setup: &Setup) -> Message {
+        read(&compose::probe(setup, ClaimName::Host))
+    }
+
+    fn host() -> Claim {
+        Claim::new(&plain(), ClaimName::Host)
+    }
+
+    /// An A record of dock.local with other data, changed, in a section of a message.
+    fn message(flags: u16, section: usize, change: fn(&mut Record)) -> Message {
+        let mut record = Record {
+            owner: host().name.into_wire(),
+            rtype: rtype::A,
+            class: 0x8001,
+            ttl: 120,
+            rdata: vec![10, 0, 0, 8],
+        };
+        change(&mut record);
+        let mut draft = Draft::new(flags);
+        draft.sections[section].push(record);
+        read(&draft.bytes())
+    }
+
+    #[test]
+    fn other_data_conflicts_in_every_section_of_a_response() {
+        for section in 0..3 {
+            assert!(host().conflicts(&message(0x8400, section, |_| ())));
+            assert!(!host().conflicts(&message(0, section, |_| ())));
+        }
+        let recased = |record: &mut Record| record.owner.make_ascii_uppercase();
+        assert!(host().conflicts(&message(0x8400, 0, recased)));
+    }
+
+    #[test]
+    fn what_never_conflicts() {
+        let harmless: [fn(&mut Record); 6] = [
+            |record| record.rdata = vec![10, 0, 0, 7],
+            |record| record.ttl = 0,
+            |record| record.ttl = 0x8000_0078,
+            |record| record.class = 3,
+            |record| (record.rtype, record.rdata) = (rtype::AAAA, vec![0; 16]),
+            |record| record.owner = b"\x04desk\x05local\x00".to_vec(),
+        ];
+        for change in harmless {
+            assert!(!host().conflicts(&message(0x8400, 0, change)));
+        }
+    }
+
+    #[test]
+    fn later_by_unsigned_bytes_and_by_length() {
+        let ours = Claim::new(&setup("dock", [169, 254, 99, 200], None), ClaimName::Host);
+        let theirs = |a, aaaa| host_probe(&setup("DOCK", a, aaaa));
+        assert!(ours.is_later(&theirs([169, 254, 200, 50], None)));
+        assert!(!ours.is_later(&theirs([169, 254, 99, 200], None)));
+        assert!(!ours.is_later(&theirs([169, 254, 99, 199], Some([9; 16]))));
+        assert!(ours.is_later(&theirs([169, 254, 99, 200], Some([9; 16]))));
+    }
+
+    #[test]
+    fn a_probe_needs_its_question_and_an_authority_record_under_the_name() {
+        let probe = |change: fn(&mut Draft)| {
+            let mut draft = Draft::new(0);
+            let name = host().name.into_wire();
+            draft
+                .questions
+                .push((name.clone(), rtype::ANY, 0x8000 | class::ANY));
+            draft.sections[1].push(Record {
+                owner: name,
+                rtype: rtype::A,
+                class: 1,
+                ttl: 0,
+                rdata: vec![10, 0, 0, 8],
+            });
+            change(&mut draft);
+            host().is_later(&read(&draft.bytes()))
+        };
+        assert!(probe(|_| ()));
+        assert!(!probe(|draft| draft.questions[0].1 = rtype::A));
+        assert!(!probe(|draft| draft.questions[0].2 = 3));
+        assert!(!probe(|draft| draft.questions.clear()));
+        assert!(!probe(|draft| draft.sections.swap(0, 1)));
+        assert!(!probe(|draft| draft.sections[1][0].owner = vec![0]));
+        assert!(!probe(|draft| draft.flags = 0x8400));
+    }
+
+    #[test]
+    fn holding_begins_with_a_response_and_ends_with_a_conflict_or_a_cut() {
+        let mut judge = Judge::default();
+        let one = judge.start(0, &plain());
+        let other = judge.start(0, &setup("Dock", [10, 0, 0, 8], None));
+        assert_eq!(judge.write(one, &host_probe(&plain())), 0);
+        assert_eq!(judge.write(one, &announcement(&plain())), 2);
+        assert_eq!(judge.two_holders(), None);
+        let theirs = announcement(&setup("Dock", [10, 0, 0, 8], None));
+        judge.write(other, &theirs);
+        // both names: SRV of the instance has another target
+        assert!(matches!(
+            judge.two_holders(),
+            Some(Violation::TwoHolders { .. })
+        ));
+        judge.hear(one, &theirs);
+        assert_eq!(judge.two_holders(), None);
+        judge.write(one, &announcement(&plain()));
+        assert!(judge.two_holders().is_some());
+        judge.cut(other);
+        assert_eq!(judge.two_holders(), None);
+    }
+
+    #[test]
+    fn equal_data_in_the_types_of_both_may_be_held_by_two() {
+        let mut judge = Judge::default();
+        for aaaa in [None, Some([1; 16])] {
+            let setup = setup("dock", [10, 0, 0, 7], aaaa);
+            let number = judge.start(0, &setup);
+            judge.write(number, &announcement(&setup));
+        }
+        assert_eq!(judge.two_holders(), None);
+        let other = setup("dock", [10, 0, 0, 7], Some([2; 16]));
+        let number = judge.start(0, &other);
+        judge.write(number, &announcement(&other));
+        assert!(judge.two_holders().is_some());
+    }
+
+    #[test]
+    fn a_ptr_alone_begins_no_holding() {
+        let mut judge = Judge::default();
+        let number = judge.start(0, &plain());
+        let ptr = read(&compose::response(&[&plain().records()[0]]));
+        assert_eq!(judge.write(number, &ptr), 0);
+    }
+
+    /// A responder started at 100 that wrote nothing; what the entry at the time given finds.
+    fn unheld(time: u64, before: impl Fn(&mut Judge, usize)) -> Option<Violation> {
+        let mut judge = Judge::default();
+        let number = judge.start(100, &plain());
+        before(&mut judge, number);
+        judge.not_in_time(time)
+    }
+
+    #[test]
+    fn the_1200_ms_are_asked_at_a_later_entry() {
+        assert_eq!(unheld(1300, |_, _| ()), None);
+        assert!(matches!(
+            unheld(1301, |_, _| ()),
+            Some(Violation::NotInTime { .. })
+        ));
+    }
+
+    #[test]
+    fn the_1200_ms_are_not_asked_after_a_cut_or_against_opposition() {
+        assert_eq!(unheld(1301, |judge, number| judge.cut(number)), None);
+        let held = |judge: &mut Judge, number| {
+            judge.write(number, &announcement(&plain()));
+        };
+        assert_eq!(unheld(1301, held), None);
+        // the host name is contested, the instance name is still asked for
+        let host = |judge: &mut Judge, number| {
+            let theirs = setup("dock", [10, 0, 0, 8], None);
+            judge.hear(number, &host_probe(&theirs));
+        };
+        let Some(Violation::NotInTime { name, .. }) = unheld(1301, host) else {
+            panic!("the instance name is not held");
+        };
+        assert_eq!(name, "booth._voice._tcp.local");
+        let earlier = |judge: &mut Judge, number| {
+            let theirs = setup("dock", [10, 0, 0, 6], None);
+            judge.hear(number, &host_probe(&theirs));
+        };
+        let Some(Violation::NotInTime { name, .. }) = unheld(1301, earlier) else {
+            panic!("earlier records do not excuse");
+        };
+        assert_eq!(name, "dock.local");
+    }
+}

@@ -1,0 +1,186 @@
+//! One link: plays the entries of a list through the consoles, and holds each against the premises and the conclusions of demand 3.
+
+use std::io;
+
+use reference::message::Message;
+
+use crate::console::{Answer, Claims, Console, State};
+use crate::counts::Counts;
+use crate::entry::{Call, Entry, Packet};
+use crate::judge::{Judge, Violation};
+use crate::premises::{Limits, Premises};
+
+pub struct Link<'a> {
+    consoles: &'a mut [Console],
+    /// The responder that each console runs.
+    running: Vec<Option<Running>>,
+    judge: Judge,
+    premises: Premises,
+    pub counts: Counts,
+    /// The list so far, each entry with its answer; none for a power cut, and where nothing runs.
+    pub played: Vec<(Entry, Option<Answer>)>,
+    pub violation: Option<Violation>,
+}
+
+#[derive(Clone, Copy)]
+struct Running {
+    number: usize,
+    /// The clock of its last accepted call.
+    last: u64,
+    states: [State; 2],
+}
+
+/// What an entry brought, for who makes the next ones.
+pub struct Outcome {
+    pub accepted: bool,
+    pub sent: Option<Packet>,
+    pub claims: Claims,
+}
+
+impl Link<'_> {
+    pub fn new(consoles: &mut [Console], limits: Limits) -> Link<'_> {
+        Link {
+            running: vec![None; consoles.len()],
+            consoles,
+            judge: Judge::default(),
+            premises: Premises::new(limits),
+            counts: Counts::default(),
+            played: Vec::new(),
+            violation: None,
+        }
+    }
+
+    pub fn broken_premise(&self) -> Option<&'static str> {
+        self.premises.broken()
+    }
+
+    pub fn runs(&self, console: usize) -> bool {
+        self.running[console].is_some()
+    }
+
+    /// The number of the responder that a console runs.
+    pub fn number(&self, console: usize) -> Option<usize> {
+        self.running[console].map(|running| running.number)
+    }
+
+    /// Plays one entry. A power cut, and a call where nothing runs, have no outcome.
+    pub fn play(&mut self, entry: Entry) -> io::Result<Option<Outcome>> {
+        self.counts.entries += 1;
+        self.premises.before(entry.time);
+        let late = self.judge.not_in_time(entry.time);
+        self.counts.asked = self.judge.asked;
+        self.found(late);
+        let outcome = match &entry.call {
+            Call::Cut => {
+                self.cut(entry.console);
+                None
+            }
+            Call::Start { .. } => Some(self.call(&entry)?),
+            _ if self.runs(entry.console) => Some(self.call(&entry)?),
+            _ => None,
+        };
+        let (answer, outcome) = outcome.unzip();
+        self.played.push((entry, answer));
+        let two = self.judge.two_holders();
+        self.found(two);
+        Ok(outcome)
+    }
+
+    fn found(&mut self, violation: Option<Violation>) {
+        if self.violation.is_none() {
+            self.violation = violation;
+        }
+    }
+
+    fn cut(&mut self, console: usize) {
+        if let Some(running) = self.running[console].take() {
+            self.counts.cuts += 1;
+            self.judge.cut(running.number);
+            self.premises.cut(running.number);
+        }
+    }
+
+    fn call(&mut self, entry: &Entry) -> io::Result<(Answer, Outcome)> {
+        let last = self.running[entry.console].map_or(0, |running| running.last);
+        let expected = entry.call.refusal(last);
+        let (answer, claims) = self.consoles[entry.console].call(&entry.call.line())?;
+        let given = match answer {
+            Answer::Refused(number) => Some(number),
+            _ => None,
+        };
+        if given != expected {
+            self.found(Some(Violation::Refusal { expected, given }));
+        }
+        let sent = match &answer {
+            Answer::Sent(packet) => Some(Packet::from(&packet[..])),
+            _ => None,
+        };
+        match given {
+            Some(_) => self.counts.refused += 1,
+            None => self.accepted(entry, &claims, sent.as_ref()),
+        }
+        let outcome = Outcome {
+            accepted: given.is_none(),
+            sent,
+            claims,
+        };
+        Ok((answer, outcome))
+    }
+
+    /// Takes note of a call that was not refused.
+    fn accepted(&mut self, entry: &Entry, claims: &Claims, sent: Option<&Packet>) {
+        if let Call::Start { .. } = entry.call {
+            self.started(entry, claims);
+        }
+        let Some(mut running) = self.running[entry.console] else {
+            return;
+        };
+        for (before, after) in running.states.iter().zip(&claims.states) {
+            self.counts.turn(*before, *after);
+        }
+        running.last = entry.call.clock();
+        running.states = claims.states;
+        self.running[entry.console] = Some(running);
+        self.premises
+            .accepted(running.number, entry.call.clock(), claims.due);
+        if let Call::Receive { packet, .. } = &entry.call {
+            self.heard(running.number, packet);
+        }
+        if let Some(packet) = sent {
+            self.sent(running.number, packet);
+        }
+    }
+
+    /// "Each start not refused begins a dock"; one that a console runs already ends with it.
+    fn started(&mut self, entry: &Entry, claims: &Claims) {
+        let Call::Start { clock, setup, .. } = &entry.call else {
+            return;
+        };
+        self.cut(entry.console);
+        self.counts.starts += 1;
+        self.premises.start(*clock);
+        self.running[entry.console] = Some(Running {
+            number: self.judge.start(entry.time, setup),
+            last: *clock,
+            states: claims.states,
+        });
+    }
+
+    fn heard(&mut self, number: usize, packet: &Packet) {
+        self.counts.heard += 1;
+        self.premises.heard(number, packet);
+        // one that can't be read was to be refused, and counts as found already
+        if let Ok(message) = Message::read(packet) {
+            self.judge.hear(number, &message);
+        }
+    }
+
+    fn sent(&mut self, number: usize, packet: &Packet) {
+        self.counts.sent += 1;
+        self.premises.sent(number, packet);
+        match Message::read(packet) {
+            Ok(message) => self.counts.held += self.judge.write(number, &message),
+            Err(_) => self.found(Some(Violation::Unreadable { responder: number })),
+        }
+    }
+}

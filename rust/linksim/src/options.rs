@@ -1,0 +1,65 @@
+//! The command line.
+
+use crate::premises::{Limits, DEMANDED};
+
+pub const USAGE: &str =
+    "usage: linksim [--console PATH] [--lists N | --seconds T] [--seed S] [--delay MS] [--late MS]
+  --delay and --late above 100 and 50 break the premises of demand 3 on purpose";
+
+#[derive(Debug, PartialEq, Eq)]
+pub struct Options {
+    pub console: String,
+    pub lists: u64,
+    pub seconds: Option<u64>,
+    /// Of the first list; each next has the next seed.
+    pub seed: u64,
+    pub limits: Limits,
+}
+
+impl Options {
+    pub fn read(mut words: impl Iterator<Item = String>) -> Result<Options, String> {
+        let mut options = Options {
+            console: "target/bin/console".to_string(),
+            lists: 1000,
+            seconds: None,
+            seed: 1,
+            limits: DEMANDED,
+        };
+        while let Some(word) = words.next() {
+            let value = words.next().ok_or(format!("{word} needs a value"))?;
+            let number = || {
+                let number = value.parse::<u64>();
+                number.map_err(|_| format!("{word} needs a number, not {value}"))
+            };
+            match word.as_str() {
+                "--console" => options.console = value,
+                "--lists" => options.lists = number()?,
+                "--seconds" => options.seconds = Some(number()?),
+                "--seed" => options.seed = number()?,
+                "--delay" => options.limits.delay = number()?,
+                "--late" => options.limits.late = number()?,
+                _ => return Err(format!("{word} is no option")),
+            }
+        }
+        Ok(options)
+    }
+}
+
+#[cfg(test)]
+mod tests {
+    use super::*;
+
+    fn read(line: &str) -> Result<Options, String> {
+        Options::read(line.split_whitespace().map(str::to_string))
+    }
+
+    #[test]
+    fn options() {
+        let options = read("--delay 600 --seed 7").unwrap();
+        assert_eq!((options.limits.delay, options.limits.late), (600, 50));
+        assert_eq!((options.seed, options.seconds), (7, None));
+        assert!(read("--late").is_err());
+        assert!(read("--late soon").is_err());
+        assert!(read("--early 3").is_err());
+    }
+}

@@ -1,0 +1,99 @@
+//! Calls that the table of refusals has a number for: "refused ones may carry any time".
+
+use std::rc::Rc;
+
+use reference::message::HEADER;
+use reference::{MDNS_PORT, MOST_TIME};
+
+use crate::entry::{Call, Packet, LEAST_OUT, LEAST_REPLY_DRAW, MOST_REPLY_DRAW, MOST_START_DRAW};
+use crate::random::Random;
+use crate::setups;
+
+pub fn start(random: &mut Random, clock: u64) -> Call {
+    let legal = Rc::new(setups::draw(random));
+    let illegal = Rc::new(setups::illegal(random));
+    let start = |clock, draw, setup| Call::Start { clock, draw, setup };
+    match random.up_to(2) {
+        0 => start(MOST_TIME + 1, 0, legal),
+        1 => start(clock, MOST_START_DRAW + 1, legal),
+        _ => start(clock, 0, illegal),
+    }
+}
+
+pub fn tick(random: &mut Random, clock: u64, last: u64) -> Call {
+    let tick = |clock, out| Call::Tick { clock, out };
+    match random.up_to(1) {
+        0 => tick(wrong_clock(random, last), LEAST_OUT),
+        _ => tick(clock, small(random)),
+    }
+}
+
+/// With a packet of a responder, which another call has to bring yet.
+pub fn receive(random: &mut Random, clock: u64, last: u64, packet: Packet) -> Call {
+    let draw = LEAST_REPLY_DRAW;
+    let receive = |clock, port, draw, packet, out| Call::Receive {
+        clock,
+        port,
+        draw,
+        packet,
+        out,
+    };
+    match random.up_to(5) {
+        0 => {
+            let wrong = wrong_clock(random, last);
+            receive(wrong, MDNS_PORT, draw, packet, LEAST_OUT)
+        }
+        1 => {
+            let wrong = random.pick(&[0, LEAST_REPLY_DRAW - 1, MOST_REPLY_DRAW + 1, u64::MAX]);
+            receive(clock, MDNS_PORT, wrong, packet, LEAST_OUT)
+        }
+        2 => receive(clock, MDNS_PORT, draw, packet, small(random)),
+        3 => {
+            let wrong = random.pick(&[0, 53, MDNS_PORT - 1, MDNS_PORT + 1, 65536 + MDNS_PORT]);
+            receive(clock, wrong, draw, packet, LEAST_OUT)
+        }
+        4 => {
+            let short = packet[..HEADER - 1].into();
+            receive(clock, MDNS_PORT, draw, short, LEAST_OUT)
+        }
+        _ => {
+            // without its last byte a record is cut off
+            let cut = packet[..packet.len() - 1].into();
+            receive(clock, MDNS_PORT, draw, cut, LEAST_OUT)
+        }
+    }
+}
+
+/// Before the last time, or above 2^62.
+fn wrong_clock(random: &mut Random, last: u64) -> u64 {
+    match last {
+        0 => random.pick(&[MOST_TIME + 1, u64::MAX]),
+        _ => random.pick(&[last - 1, 0, MOST_TIME + 1, u64::MAX]),
+    }
+}
+
+fn small(random: &mut Random) -> usize {
+    random.pick(&[0, LEAST_OUT - 1])
+}
+
+#[cfg(test)]
+mod tests {
+    use super::*;
+    use reference::compose;
+    use reference::setup::ClaimName;
+
+    #[test]
+    fn each_is_refused() {
+        let mut random = Random::new(1);
+        for _ in 0..1000 {
+            let setup = setups::draw(&mut random);
+            let probe = Packet::from(compose::probe(&setup, ClaimName::Host));
+            for last in [0, 1, 500] {
+                assert!(start(&mut random, 500).refusal(last).is_some());
+                assert!(tick(&mut random, 500, last).refusal(last).is_some());
+                let receive = receive(&mut random, 500, last, probe.clone());
+                assert!(receive.refusal(last).is_some());
+            }
+        }
+    }
+}

@@ -1,0 +1,403 @@
+//! Makes a random hostile list: a discrete-event simulation on the link's time. It keeps the premises by planning each delivery
+//! and each due step within its time; what else comes, and in which order within a millisecond, is drawn.
+
+use std::io;
+use std::rc::Rc;
+
+use reference::setup::Setup;
+use reference::{MDNS_PORT, MOST_TIME};
+
+use crate::entry::{Call, Entry, Packet};
+use crate::entry::{LEAST_OUT, LEAST_REPLY_DRAW, MOST_REPLY_DRAW, MOST_START_DRAW};
+use crate::hostile;
+use crate::link::{Link, Outcome};
+use crate::premises::Limits;
+use crate::queue::Queue;
+use crate::random::Random;
+use crate::refused;
+use crate::setups;
+use crate::style::Style;
+
+/// The link's time at which a list begins: clocks may be far behind it, or far ahead.
+const BEGIN: u64 = 1_000_000;
+/// No list is longer, so that a clock ahead by `MOST_TIME` less this stays legal.
+const MOST_LENGTH: u64 = 60_000;
+
+pub struct Simulation<'a> {
+    link: Link<'a>,
+    limits: Limits,
+    style: Style,
+    random: Random,
+    queue: Queue<Event>,
+    /// What each console runs, as far as calls to it need it.
+    seats: Vec<Seat>,
+    /// Packets that stood on the link.
+    seen: Vec<Packet>,
+    now: u64,
+    end: u64,
+}
+
+enum Event {
+    Start {
+        console: usize,
+    },
+    Cut {
+        console: usize,
+    },
+    /// A due step is taken, unless it is not due any more.
+    Step {
+        to: Target,
+        step: usize,
+        due: u64,
+    },
+    /// A packet is taken, from port 5353.
+    Delivery {
+        to: Target,
+        packet: Packet,
+    },
+    /// A hostile packet is made for, and taken by, one responder.
+    Hostile {
+        to: Target,
+    },
+    EarlyTick {
+        to: Target,
+    },
+    Refused {
+        to: Target,
+        packet: Option<Packet>,
+    },
+}
+
+/// A responder, by its console and number: an event for one that was cut comes to nothing.
+#[derive(Clone, Copy)]
+struct Target {
+    console: usize,
+    number: usize,
+}
+
+#[derive(Default)]
+struct Seat {
+    setup: Option<Rc<Setup>>,
+    /// The clock less the link's time.
+    offset: i64,
+    last: u64,
+    /// For which due time a step is planned.
+    planned: [Option<u64>; 3],
+}
+
+impl<'a> Simulation<'a> {
+    /// Plays a whole list, or as much of it as comes before a violation.
+    pub fn play(
+        mut link: Link<'a>,
+        limits: Limits,
+        seed: u64,
+        consoles: usize,
+    ) -> io::Result<Link<'a>> {
+        link.counts.lists += 1;
+        let mut random = Random::new(seed);
+        let mut simulation = Simulation {
+            link,
+            limits,
+            style: Style::draw(&mut random),
+            random,
+            queue: Queue::new(),
+            seats: (0..consoles).map(|_| Seat::default()).collect(),
+            seen: Vec::new(),
+            now: BEGIN,
+            end: BEGIN,
+        };
+        simulation.plan_starts(consoles);
+        simulation.run()?;
+        Ok(simulation.link)
+    }
+
+    /// 2 to 6 responders that start in the same millisecond, close together, or apart.
+    fn plan_starts(&mut self, consoles: usize) {
+        let count = 2 + self.random.place(consoles - 1);
+        let apart = self.random.pick(&[0, 1, 100, 250, 1000, 3000]);
+        for console in 0..count {
+            let wait = self.random.up_to(apart);
+            self.at(wait, Event::Start { console });
+        }
+        self.end += apart + self.random.pick(&[1201, 1300, 2500, 4000, 8000]);
+        assert!(self.end < BEGIN + MOST_LENGTH);
+    }
+
+    fn run(&mut self) -> io::Result<()> {
+        while let Some((time, event)) = self.queue.pop() {
+            if time > self.end || self.link.violation.is_some() {
+                break;
+            }
+            self.now = time;
+            self.happen(event)?;
+        }
+        Ok(())
+    }
+
+    /// Plans an event; equal times are ordered at random.
+    fn at(&mut self, wait: u64, event: Event) {
+        let order = self.random.number();
+        self.queue.push(self.now + wait, order, event);
+    }
+
+    fn lives(&self, to: Target) -> bool {
+        self.link.number(to.console) == Some(to.number)
+    }
+
+    fn happen(&mut self, event: Event) -> io::Result<()> {
+        match event {
+            Event::Start { console } => self.start(console),
+            Event::Cut { console } => self.cut(console),
+            Event::Delivery { to, packet } if !self.lives(to) => self.stale(to.console, packet),
+            Event::Step { to, .. }
+            | Event::Hostile { to }
+            | Event::EarlyTick { to }
+            | Event::Refused { to, .. }
+                if !self.lives(to) =>
+            {
+                Ok(())
+            }
+            Event::Step { to, step, due } => self.step(to, step, due),
+            Event::Delivery { to, packet } => self.receive(to, packet),
+            Event::Hostile { to } => self.hostile(to),
+            Event::EarlyTick { to } => self.tick(to),
+            Event::Refused { to, packet } => self.refused(to, packet),
+        }
+    }
+
+    /// The clock of a responder now.
+    fn clock(&self, console: usize) -> u64 {
+        (self.now as i64 + self.seats[console].offset) as u64
+    }
+
+    fn play_call(&mut self, console: usize, call: Call) -> io::Result<Option<Outcome>> {
+        self.link.play(Entry {
+            time: self.now,
+            console,
+            call,
+        })
+    }
+
+    fn start(&mut self, console: usize) -> io::Result<()> {
+        if self.random.chance(self.style.extras) {
+            let call = refused::start(&mut self.random, self.now);
+            self.play_call(console, call)?;
+        }
+        // after a cut often the set-up of before
+        let setup = match &self.seats[console].setup {
+            Some(setup) if self.random.chance(60) => setup.clone(),
+            _ => Rc::new(setups::draw(&mut self.random)),
+        };
+        let clock = match self.random.up_to(3) {
+            0 => 0,
+            1 => MOST_TIME - MOST_LENGTH,
+            2 => self.now,
+            _ => self.random.up_to(1 << 40),
+        };
+        let draw = match self.random.up_to(3) {
+            0 => 0,
+            1 => MOST_START_DRAW,
+            _ => self.random.up_to(MOST_START_DRAW),
+        };
+        self.seats[console] = Seat {
+            setup: Some(setup.clone()),
+            offset: clock as i64 - self.now as i64,
+            last: clock,
+            planned: [None; 3],
+        };
+        let outcome = self.play_call(console, Call::Start { clock, draw, setup })?;
+        self.follow(console, outcome);
+        if self.random.chance(self.style.cuts) {
+            let wait = self.random.pick(&[0, 250, 1000, 1200, 3000]);
+            let wait = self.random.up_to(wait);
+            self.at(wait, Event::Cut { console });
+        }
+        Ok(())
+    }
+
+    fn cut(&mut self, console: usize) -> io::Result<()> {
+        self.play_call(console, Call::Cut)?;
+        if self.random.chance(80) {
+            let wait = self.random.pick(&[0, 1, 100, 1000]);
+            let wait = self.random.up_to(wait);
+            self.at(wait, Event::Start { console });
+        }
+        Ok(())
+    }
+
+    /// A planned step; one that moved meanwhile is planned anew already.
+    fn step(&mut self, to: Target, step: usize, due: u64) -> io::Result<()> {
+        if self.seats[to.console].planned[step] != Some(due) {
+            return Ok(());
+        }
+        self.seats[to.console].planned[step] = None;
+        self.tick(to)
+    }
+
+    fn tick(&mut self, to: Target) -> io::Result<()> {
+        let clock = self.clock(to.console);
+        let out = self.out();
+        let outcome = self.play_call(to.console, Call::Tick { clock, out })?;
+        self.follow(to.console, outcome);
+        Ok(())
+    }
+
+    fn receive(&mut self, to: Target, packet: Packet) -> io::Result<()> {
+        let call = Call::Receive {
+            clock: self.clock(to.console),
+            port: MDNS_PORT,
+            draw: self.reply_draw(),
+            packet,
+            out: self.out(),
+        };
+        let outcome = self.play_call(to.console, call)?;
+        self.follow(to.console, outcome);
+        Ok(())
+    }
+
+    /// "One sent before a dock's start need not reach it", but it may reach the one that runs now.
+    fn stale(&mut self, console: usize, packet: Packet) -> io::Result<()> {
+        match self.target(console) {
+            Some(to) if self.random.chance(30) => self.receive(to, packet),
+            _ => Ok(()),
+        }
+    }
+
+    fn out(&mut self) -> usize {
+        self.random.pick(&[LEAST_OUT, LEAST_OUT, 4096])
+    }
+
+    fn reply_draw(&mut self) -> u64 {
+        let any = LEAST_REPLY_DRAW + self.random.up_to(MOST_REPLY_DRAW - LEAST_REPLY_DRAW);
+        self.random.pick(&[LEAST_REPLY_DRAW, MOST_REPLY_DRAW, any])
+    }
+
+    fn hostile(&mut self, to: Target) -> io::Result<()> {
+        let Some(setup) = self.seats[to.console].setup.clone() else {
+            return Ok(());
+        };
+        let packet: Packet = hostile::packet(&mut self.random, &setup, &self.seen).into();
+        // now and then all hear it, within any time
+        if self.random.chance(50) {
+            for other in self.others(to.console) {
+                let wait = self.random.up_to(200);
+                let packet = packet.clone();
+                self.at(wait, Event::Delivery { to: other, packet });
+            }
+        }
+        self.receive(to, packet)
+    }
+
+    /// The responder that a console runs.
+    fn target(&self, console: usize) -> Option<Target> {
+        let number = self.link.number(console)?;
+        Some(Target { console, number })
+    }
+
+    fn others(&self, console: usize) -> Vec<Target> {
+        (0..self.seats.len())
+            .filter(|other| *other != console)
+            .filter_map(|other| self.target(other))
+            .collect()
+    }
+
+    /// After a call: its packet has to reach the others, due steps have to be taken, and other things may happen.
+    fn follow(&mut self, console: usize, outcome: Option<Outcome>) {
+        let (Some(outcome), Some(to)) = (outcome, self.target(console)) else {
+            return;
+        };
+        if !outcome.accepted {
+            return;
+        }
+        self.seats[console].last = self.clock(console);
+        if let Some(packet) = outcome.sent {
+            self.plan_deliveries(to, packet);
+        }
+        for (step, due) in outcome.claims.due.into_iter().enumerate() {
+            self.plan_step(to, step, due);
+        }
+        self.plan_extras(to, outcome.claims.due);
+    }
+
+    fn plan_deliveries(&mut self, from: Target, packet: Packet) {
+        for to in self.others(from.console) {
+            let delay = self.style.delays.time(&mut self.random, self.limits.delay);
+            let delivery = || Event::Delivery {
+                to,
+                packet: packet.clone(),
+            };
+            self.at(delay, delivery());
+            if self.random.chance(self.style.extras) {
+                let (again, stale) = (self.random.up_to(delay), self.random.up_to(3000));
+                let wait = self.random.pick(&[delay, again, stale]);
+                self.at(wait, delivery());
+            }
+            if self.random.chance(self.style.extras) {
+                let wait = self.random.up_to(delay);
+                let packet = Some(packet.clone());
+                self.at(wait, Event::Refused { to, packet });
+            }
+        }
+        // a packet may come back to its sender
+        if self.random.chance(self.style.extras) {
+            let wait = self.random.up_to(self.limits.delay);
+            let packet = packet.clone();
+            self.at(wait, Event::Delivery { to: from, packet });
+        }
+        self.seen.push(packet);
+    }
+
+    /// `due` is on the responder's clock.
+    fn plan_step(&mut self, to: Target, step: usize, due: Option<u64>) {
+        let seat = &mut self.seats[to.console];
+        if seat.planned[step] == due {
+            return;
+        }
+        seat.planned[step] = due;
+        let Some(due) = due else {
+            return;
+        };
+        let late = self.style.lateness.time(&mut self.random, self.limits.late);
+        let wait = (due + late).saturating_sub(self.clock(to.console));
+        self.at(wait, Event::Step { to, step, due });
+    }
+
+    /// Early ticks, refused calls and hostile packets, often close to a due time.
+    fn plan_extras(&mut self, to: Target, due: [Option<u64>; 3]) {
+        let clock = self.clock(to.console);
+        let waits: Vec<u64> = due
+            .into_iter()
+            .flatten()
+            .map(|due| due.saturating_sub(clock))
+            .collect();
+        let extras = [
+            (self.style.extras, Event::EarlyTick { to }),
+            (self.style.extras, Event::Refused { to, packet: None }),
+            (self.style.hostility, Event::Hostile { to }),
+        ];
+        for (chance, event) in extras {
+            if self.random.chance(chance) {
+                let most = self.random.pick(&[0, 50, 300, 1500]);
+                let any = self.random.up_to(most);
+                let near = waits.first().map_or(any, |_| self.random.pick(&waits));
+                let wait = self
+                    .random
+                    .pick(&[any, near, near + 1, near.saturating_sub(1)]);
+                self.at(wait, event);
+            }
+        }
+    }
+
+    /// A call that the table of refusals has a number for.
+    fn refused(&mut self, to: Target, packet: Option<Packet>) -> io::Result<()> {
+        let clock = self.clock(to.console);
+        let last = self.seats[to.console].last;
+        let random = &mut self.random;
+        let call = match packet {
+            Some(packet) => refused::receive(random, clock, last, packet),
+            None if random.chance(20) => refused::start(random, clock),
+            None => refused::tick(random, clock, last),
+        };
+        self.play_call(to.console, call).map(|_| ())
+    }
+}

@@ -1,0 +1,102 @@
+//! The two programs on the loopback interface. Names carry the process id, so that runs beside each other do not meet.
+
+use std::process::{Child, Command, Output, Stdio};
+
+const RESPONDER: &str = env!("CARGO_BIN_EXE_responder");
+const BROWSER: &str = env!("CARGO_BIN_EXE_browser");
+
+/// A service that only this test has.
+fn service(test: &str) -> String {
+    format!("_{test}{}._tcp", std::process::id())
+}
+
+fn responder(service: &str, host: &str, port: u16, seconds: u64) -> Child {
+    let (port, seconds) = (port.to_string(), seconds.to_string());
+    let host = format!("{host}-{}", std::process::id());
+    let mut command = Command::new(RESPONDER);
+    command.args(["--interface", "127.0.0.1", "--instance", "booth"]);
+    command.args(["--address", "10.0.0.7", "--txt", "room=3"]);
+    command.args(["--service", service, "--host", &host, "--port", &port]);
+    command.args(["--seconds", &seconds]);
+    command.stdout(Stdio::piped()).spawn().unwrap()
+}
+
+fn browser(service: &str, seconds: &str) -> Output {
+    let mut command = Command::new(BROWSER);
+    command.args(["--interface", "127.0.0.1", "--service", service]);
+    command.args(["--count", "1", "--seconds", seconds]);
+    command.output().unwrap()
+}
+
+fn lines(output: &Output) -> String {
+    String::from_utf8(output.stdout.clone()).unwrap()
+}
+
+#[test]
+fn of_two_responders_one_holds_the_name_and_the_browser_finds_it() {
+    let service = service("two");
+    let first = responder(&service, "one", 4000, 5);
+    let second = responder(&service, "other", 4001, 5);
+    let found = browser(&service, "5");
+    let name = format!("booth.{service}.local");
+    let told = [first, second].map(|child| lines(&child.wait_with_output().unwrap()));
+    let held = told
+        .each_ref()
+        .map(|lines| lines.contains(&format!("held      {name}")));
+    let lost = told
+        .each_ref()
+        .map(|lines| lines.contains(&format!("lost      {name}")));
+    // of SRV records with ports 4000 and 4001 the second is later, unless the first held the name before the second began
+    assert_ne!(held[0], held[1], "{told:?}");
+    assert_eq!(lost, [held[1], held[0]], "{told:?}");
+    assert_eq!(found.status.code(), Some(0));
+    for line in [
+        "found     booth",
+        if held[0] {
+            "port     4000"
+        } else {
+            "port     4001"
+        },
+        "address  10.0.0.7",
+        "txt      room=3",
+    ] {
+        assert!(lines(&found).contains(line), "{}", lines(&found));
+    }
+}
+
+#[test]
+fn signals_stop_a_program_cleanly() {
+    for signal in ["INT", "TERM"] {
+        let child = responder(&service("stop"), "stop", 4000, 20);
+        std::thread::sleep(std::time::Duration::from_millis(1000));
+        let id = child.id().to_string();
+        let sent = Command::new("sh")
+            .args(["-c", "kill -s $0 $1", signal, &id])
+            .status();
+        assert!(sent.unwrap().success());
+        let output = child.wait_with_output().unwrap();
+        assert_eq!(output.status.code(), Some(0));
+        assert!(lines(&output).ends_with("stopped\n"), "{}", lines(&output));
+    }
+}
+
+#[test]
+fn a_service_that_no_one_has_is_not_found() {
+    let none = browser(&service("none"), "1");
+    assert_eq!(none.status.code(), Some(3));
+    assert!(!lines(&none).contains("found"));
+}
+
+#[test]
+fn help_and_errors() {
+    for program in [RESPONDER, BROWSER] {
+        let help = Command::new(program).arg("--help").output().unwrap();
+        assert_eq!(help.status.code(), Some(0));
+        assert!(lines(&help).contains("usage:"));
+        let wrong = Command::new(program).arg("--dog").output().unwrap();
+        assert_eq!(wrong.status.code(), Some(1));
+        assert!(String::from_utf8_lossy(&wrong.stderr).contains("no option '--dog'"));
+    }
+    let mut refused = responder("_no--good._tcp", "no", 1, 1);
+    assert_eq!(refused.wait().unwrap().code(), Some(1));
+}

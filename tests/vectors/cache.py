@@ -1,0 +1,385 @@
+#!/usr/bin/env python3
+# Writes the console script of the cache's vectors: `put`, `look`, `slot` and `clear`, each case under a comment that says what it shows (paper 01,
+# 'The cache', refusals 1, 4, 5, 6 and 8, 'Corner readings'; RFC 6762, 10). Run by make.sh; the expected answers come from the reference program.
+import sys
+
+sys.dont_write_bytecode = True
+from packets import *
+
+FLUSH = 0x8001
+LATEST = 1 << 62
+DESK = name(b"desk", b"local")
+BOOTH = name(b"booth", b"_voice", b"_tcp", b"local")
+SERVICE = name(b"_voice", b"_tcp", b"local")
+
+
+def show(what):
+    print("\n# " + what)
+
+
+def text(b):
+    return b.hex() or "-"
+
+
+def put(now, packet, port=5353):
+    print("put", now, port, text(packet))
+
+
+def look(now, owner, rtype=A, start=0):
+    print("look", now, text(owner), rtype, start)
+
+
+def slot(*which):
+    for k in which:
+        print("slot", k)
+
+
+def clear():
+    print("clear")
+
+
+def four(n):
+    return bytes([10, 0, n >> 8, n & 255])
+
+
+def response(*answers, authority=(), additional=(), flags=0x8400):
+    records = [*answers, *authority, *additional]
+    return header(an=len(answers), ns=len(authority), ar=len(additional), flags=flags) + b"".join(records)
+
+
+def address(n=7, owner=DESK, cls=1, ttl=120):
+    return record(owner, A, four(n), cls=cls, ttl=ttl)
+
+
+def strings(n):
+    """TXT rdata of n bytes."""
+    part = b"\xff" + b"t" * 255
+    rest = n % 256
+    return part * (n // 256) + (bytes([rest - 1]) + b"u" * (rest - 1) if rest else b"")
+
+
+def full(now, ttl=120):
+    """A table of 64 live entries, entry i with the address of number i."""
+    clear()
+    put(now, response(*(address(i, ttl=ttl) for i in range(64))))
+
+
+# --- form ---------------------------------------------------------------------------------------------------------------
+
+show("before the first put the table and the store are zeros; slots are 0 to 63")
+slot(0, 63, 64, 65, 18446744073709551615)
+look(0, DESK)
+for line in ("slot", "slot x", "slot 0 0", "clear 0", "clear ", "look", "look 0 00 1", "look 0 00 1 0 0", "look x 00 1 0", "look 0 0 1 0", "look 0 00 x 0", "look 0 00 1 x", "put", "put 0 5353", "put 0 5353 00 0", "put x 5353 -", "put 0 x -", "put 0 5353 0"):
+    print(line)
+
+# --- one record ---------------------------------------------------------------------------------------------------------
+
+show("01's announcement: entry 0 takes it, live until 120 s after now, and not at that very ms")
+clear()
+put(1000, ANNOUNCED)
+slot(0, 1)
+look(1000, HOST)
+look(120999, HOST)
+look(121000, HOST)
+
+show("PTR, SRV, TXT, A and AAAA, with names cut by pointers: stored expanded, unused bytes 0")
+clear()
+put(0, header(an=5) + record(SERVICE, PTR, labels(b"booth") + pointer(12), ttl=4500) + record(pointer(41), SRV, bytes([0, 0, 0, 0, 0x0F, 0xA0]) + labels(b"dock") + pointer(24), cls=FLUSH) + record(pointer(41), TXT, b"\4a=bc", cls=FLUSH, ttl=4500) + record(HOST, A, four(7)) + record(HOST, AAAA, bytes(15) + b"\1"))
+slot(0, 1, 2, 3, 4, 5)
+look(1, SERVICE, PTR)
+look(1, BOOTH, SRV)
+look(1, BOOTH, TXT)
+look(1, HOST, AAAA)
+
+show("names in rdata are expanded before they are compared: the same PTR, once cut and once whole, is one entry; case counts there")
+clear()
+put(0, response(record(SERVICE, PTR, labels(b"booth") + pointer(12))))
+put(10, response(record(SERVICE, PTR, BOOTH)))
+put(20, response(record(SERVICE, PTR, name(b"Booth", b"_voice", b"_tcp", b"local"))))
+slot(0, 1)
+
+show("owners that differ in case are one: refreshed, and the spelling stays as it was first stored; a lookup in either case")
+clear()
+put(0, response(address()))
+put(500, response(address(owner=name(b"DESK", b"Local"), ttl=10)))
+slot(0, 1)
+look(600, name(b"dEsK", b"LOCAL"))
+
+show("only ASCII letters fold: '[' and '{', 0xC9 and 0xE9 are others")
+clear()
+put(0, response(address(owner=name(b"a[\xc9"))))
+for owner in (b"A[\xc9", b"a{\xc9", b"a[\xe9"):
+    look(0, name(owner))
+
+# --- rule 1 -------------------------------------------------------------------------------------------------------------
+
+show("a flush at 5000 leaves an entry received at 4000, and sets one received at 3999 to expire by 6000 (two starred readings)")
+for received in (4000, 3999):
+    clear()
+    put(received, response(address(1)))
+    put(5000, response(address(2, cls=FLUSH)))
+    slot(0, 1)
+    look(5999, DESK)
+    look(6000, DESK)
+
+show("a burst that announces two records of one name and type: neither cuts the other short, in one message or in two within a second")
+clear()
+put(5000, response(address(1, cls=FLUSH), address(2, cls=FLUSH)))
+slot(0, 1)
+put(6000, response(address(3, cls=FLUSH)))
+slot(0, 1, 2)
+put(6001, response(address(3, cls=FLUSH)))
+slot(0, 1, 2)
+
+show("the address of a device that is gone, beside its new one: live for a second more, then not")
+clear()
+put(0, response(address(1, cls=FLUSH)))
+put(60000, response(address(2, cls=FLUSH)))
+for now in (60000, 60999, 61000):
+    look(now, DESK)
+
+show("a flush leaves other types, other names and what expires sooner; without the bit nothing is flushed")
+clear()
+put(0, response(address(1), record(DESK, TXT, b"\1a"), address(1, owner=HOST), address(2, ttl=2), address(3, ttl=3)))
+put(1500, response(address(9)))
+slot(0)
+put(1500, response(address(9, cls=FLUSH)))
+slot(0, 1, 2, 3, 4, 5)
+
+show("a flush by a record that is in the table: it is refreshed, and the other entries of its name and type are cut short")
+clear()
+put(0, response(address(1), address(2)))
+put(5000, response(address(2, cls=FLUSH)))
+slot(0, 1)
+
+show("a flush in Additional counts; one in Authority, of class 3, or of another type does not")
+for message in (response(additional=[address(9, cls=FLUSH)]), response(authority=[address(9, cls=FLUSH)]), response(address(9, cls=0x8003)), response(record(DESK, 99, b"x", cls=FLUSH))):
+    clear()
+    put(0, response(address(1)))
+    put(5000, message)
+    slot(0, 1)
+
+# --- rule 2 -------------------------------------------------------------------------------------------------------------
+
+show("TTL 0 with the equal entry: it expires by now plus 1,000, and a second goodbye does not lengthen that")
+clear()
+put(0, response(address()))
+put(2000, response(address(ttl=0)))
+slot(0)
+put(2500, response(address(ttl=0)))
+slot(0)
+look(2999, DESK)
+look(3000, DESK)
+
+show("TTL 0 where the entry expires sooner: its expiry stays")
+clear()
+put(0, response(address(ttl=2)))
+put(1500, response(address(ttl=0)))
+slot(0)
+
+show("TTL 0 without the equal entry, with other rdata, or when it has expired: nothing")
+clear()
+put(0, response(address(ttl=0)))
+slot(0)
+put(0, response(address(1, ttl=1)))
+put(10, response(address(2, ttl=0)))
+put(1000, response(address(1, ttl=0)))
+slot(0, 1)
+
+show("a TTL with its top bit set counts as 0: a goodbye")
+clear()
+put(0, response(address(ttl=0x80000078)))
+slot(0)
+put(0, response(address()))
+put(10, response(address(ttl=0xFFFFFFFF)))
+slot(0)
+
+show("the greatest TTL, and the latest time")
+clear()
+put(LATEST, response(address(ttl=0x7FFFFFFF)))
+slot(0)
+look(LATEST, DESK)
+
+show("a goodbye with the flush bit: the other old entries of that name and type are cut short too")
+clear()
+put(0, response(address(1), address(2)))
+put(5000, response(address(2, cls=FLUSH, ttl=0)))
+slot(0, 1)
+
+show("a record and its goodbye in one message, in both orders")
+for ttls in ((120, 0), (0, 120)):
+    clear()
+    put(0, response(*(address(ttl=ttl) for ttl in ttls)))
+    slot(0)
+
+# --- rule 3 -------------------------------------------------------------------------------------------------------------
+
+show("refreshed: received now and expiry by the new TTL, also where that is sooner")
+clear()
+put(0, response(address()))
+put(5000, response(address(ttl=1)))
+slot(0)
+
+show("the lowest entry that is not live takes a record: below or above an expired equal one, which is not refreshed")
+clear()
+put(0, response(address(1, ttl=9), address(2, ttl=1), address(3, ttl=1)))
+put(2000, response(address(3)))
+slot(0, 1, 2)
+put(9000, response(address(2)))
+slot(0, 1)
+
+show("a slot that is taken again is written whole: nothing of the longer record before is left")
+clear()
+put(0, response(record(filled(255), TXT, strings(768), ttl=1)))
+put(1000, response(address()))
+slot(0)
+
+show("a full table: records that are new are turned away and counted, an equal one is refreshed, a goodbye and a flush still work")
+full(0)
+put(10, response(address(64), address(65, owner=HOST), address(63)))
+slot(0, 63)
+put(20, response(address(5, ttl=0), address(64)))
+slot(5)
+put(1020, response(address(64), address(65)))
+slot(5)
+put(2000, response(address(66, cls=FLUSH)))
+slot(0, 5, 63)
+put(3000, response(address(67)))
+slot(0)
+
+show("a table that fills within a message, whose last two records are turned away")
+clear()
+put(0, response(*(address(i) for i in range(66))))
+slot(63)
+
+show("counts are per call")
+full(0)
+put(0, response(address(64)))
+put(0, response(address(64), address(65)))
+put(0, response())
+
+# --- long rdata ---------------------------------------------------------------------------------------------------------
+
+show("TXT of 768 bytes is taken, of 769 passed over and counted; also in a full table, and with TTL 0")
+clear()
+put(0, response(record(DESK, TXT, strings(768)), record(DESK, TXT, strings(769))))
+slot(0, 1)
+look(0, DESK, TXT)
+full(0)
+put(0, response(record(DESK, TXT, strings(769)), record(DESK, TXT, strings(769), ttl=0), record(DESK, TXT, strings(768))))
+
+show("TXT of 769 bytes with the flush bit: passed over after rule 1")
+clear()
+put(0, response(record(DESK, TXT, b"\1a")))
+put(5000, response(record(DESK, TXT, strings(769), cls=FLUSH)))
+slot(0)
+
+show("TXT of no bytes and TXT of one empty string are two entries")
+clear()
+put(0, response(record(DESK, TXT, b""), record(DESK, TXT, b"\0")))
+slot(0, 1)
+
+show("an owner of 255 bytes and an SRV whose target has 255")
+clear()
+put(0, response(record(filled(255), SRV, bytes(6) + filled(255))))
+slot(0)
+look(0, filled(255), SRV)
+
+# --- which records ------------------------------------------------------------------------------------------------------
+
+show("records of other classes and types between those that are taken; class is its low 15 bits")
+clear()
+put(0, response(address(1, cls=3), address(2), record(DESK, 47, b"nsec"), record(DESK, 255, b""), address(3, cls=255), record(DESK, TXT, b"\1a", cls=0x8003), address(4), address(5, cls=0x7FFF), address(6, cls=FLUSH)))
+slot(0, 1, 2, 3)
+
+show("Answer and Additional records are taken, in this order; Authority ones, and those of a query, are not")
+clear()
+put(0, response(address(1), authority=[address(2)], additional=[address(3)]))
+slot(0, 1, 2)
+clear()
+put(0, response(address(1), authority=[address(2)], additional=[address(3)], flags=0))
+slot(0)
+
+# --- refusals -----------------------------------------------------------------------------------------------------------
+
+show("a message malformed in its last record: refused as 6, and nothing has changed")
+clear()
+put(0, response(address(1)))
+for bad in (record(DESK, A, b"\1\2\3"), address(3)[:-1], record(DESK, PTR, b"\xc0\x0c\0"), record(pointer(4000), A, four(3)), record(DESK, TXT, b"\2a")):
+    put(5000, response(address(1, cls=FLUSH, ttl=0), address(2, cls=FLUSH), additional=[bad]))
+slot(0, 1)
+
+show("times: before an entry's receive time, a dead one's too, and above 2^62")
+clear()
+put(5000, response(address(ttl=1)))
+for now in (4999, 5000, LATEST, LATEST + 1, 18446744073709551615):
+    put(now, response())
+    look(now, DESK)
+put(LATEST, response(address(1, ttl=1)))
+put(LATEST - 1, response())
+
+show("ports other than 5353, some of them equal to it in 16 bits; opcode and RCODE; lengths of 0, 11, 12, 8,972 and 8,973 bytes")
+clear()
+for port in (0, 5352, 5354, 5353 + 65536, 18446744073709551615):
+    put(0, response(address()), port)
+put(0, response(address(), flags=0x8C00))
+put(0, response(address(), flags=0x8403))
+for length in (0, 11, 12, 8972, 8973):
+    put(0, (response(address()) + bytes(9000))[:length])
+    slot(0)
+
+show("the order of refusals: 1 before 4 before 5 before 6")
+put(0, b"\0", 1)
+put(LATEST + 1, b"\0", 1)
+put(0, response(b"\xc0\x0c"), 1)
+put(0, response(b"\xc0\x0c", flags=0x8C00))
+look(LATEST + 1, b"")
+
+# --- lookups ------------------------------------------------------------------------------------------------------------
+
+show("lookups from slots 0, 63, 64 and 2^64 - 1, and others, in a full table")
+full(0)
+for start in (0, 1, 62, 63, 64, 65, 4294967296, 18446744073709551615):
+    look(0, DESK, A, start)
+show("the lowest live match from a slot on: dead entries and those of other names and types are stepped over")
+clear()
+put(0, response(address(0, owner=HOST), address(1, ttl=1), record(DESK, TXT, b"\1a"), address(3), address(4)))
+for now in (999, 1000):
+    for start in range(6):
+        look(now, DESK, A, start)
+
+show("types that no entry has; 65,537 and 65,552 are not 1 and 16")
+for rtype in (0, 99, 255, 65535, 65536, 65537, 65552, 18446744073709551615):
+    look(1000, DESK, rtype)
+
+show("a lookup of a name that is a beginning or an end of one in the table, or longer by a label")
+for owner in (name(b"desk"), name(b"local"), name(b"des", b"local"), name(b"desk", b"local", b"x"), name(b"x", b"desk", b"local")):
+    look(1000, owner)
+
+show("a name with a pointer, with bytes past its zero byte, without its zero byte, empty; the root, which is a name")
+for owner in (pointer(12), labels(b"desk") + pointer(0), DESK + b"\0", DESK + DESK, DESK[:-1], b"", b"\0"):
+    look(1000, owner)
+show("names of 254, 255 and 256 bytes, a label of 63 and one of 64, and each byte 0x40, 0x80, 0xbf and 0xc0 where a label starts")
+for owner in (filled(254), filled(255), filled(256), name(b"a" * 63), bytes([64]) + b"a" * 64 + b"\0", b"\x40\0", b"\x80\0", b"\xbf\0", b"\xc0\0", labels(b"a") + b"\x40\0"):
+    look(1000, owner)
+look(1000, b"\1" * 19000)
+
+show("an entry of the root: found by the root alone")
+clear()
+put(0, response(address(owner=b"\0")))
+look(0, b"\0")
+look(0, DESK)
+
+show("the calls on the responder, the reader and the TXT pairs leave the cache as it is")
+print("start 0 0 626f6f7468 5f766f696365 5f746370 646f636b 6c6f63616c 4000 00 0a000007 -")
+print("recv 0 5353 20", text(response(address(9))))
+print("read", text(response(address(9))))
+print("txt 6b 00 00")
+slot(0, 1)
+
+show("clear: zeros again, and a time before the last is accepted")
+full(LATEST)
+clear()
+slot(0, 63)
+put(0, response(address()))
+slot(0)

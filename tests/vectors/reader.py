@@ -1,0 +1,248 @@
+#!/usr/bin/env python3
+# Writes the console script of the reader's vectors: `read` calls, each case under a comment that says what it shows
+# (paper 01, 'Reading a message'; RFC 1035, 4.1.4). Run by make.sh; the expected answers come from the reference program.
+
+import sys
+
+sys.dont_write_bytecode = True
+from packets import *
+
+
+def show(what):
+    print("\n# " + what)
+
+
+def read(packet):
+    print("read " + (packet.hex() or "-"))
+
+
+# --- the examples of the papers ---------------------------------------------------------------------------------------
+
+show("01's announcement of dock.local, 10.0.0.7: 38 bytes")
+assert len(ANNOUNCED) == 38
+read(ANNOUNCED)
+
+show("01's probe of dock.local: 44 bytes, the owner of the Authority record is a pointer")
+probe = header(qd=1, ns=1, flags=0) + question(HOST) + record(pointer(12), A, bytes([10, 0, 0, 7]))
+assert len(probe) == 44
+read(probe)
+
+show("RFC 1035, 4.1.4: F.ISI.ARPA at 20, FOO.F.ISI.ARPA at 40, ARPA at 64, the root at 92, and pointers to the last three")
+p = header(qd=9, flags=0) + question(name(b"ab"))
+assert len(p) == 20
+p += question(name(b"F", b"ISI", b"ARPA"))
+p += labels(b"www")
+assert len(p) == 40
+p += question(labels(b"FOO") + pointer(20))
+p += labels(b"thirteenbytes")
+assert len(p) == 64
+p += question(pointer(26))
+p += question(name(b"sixteen..bytes.."))
+assert len(p) == 92
+p += question(b"\0") + question(pointer(40)) + question(pointer(64)) + question(pointer(92))
+read(p)
+
+# --- names ------------------------------------------------------------------------------------------------------------
+
+show("a pointer at 12 to 12: malformed")
+read(header(qd=1) + question(pointer(12)))
+
+show("a pointer into the middle of a label of its own run: malformed")
+read(header(qd=1) + question(bytes.fromhex("057801610079c00e")))
+
+show("a pointer into the middle of a label of an earlier run: the name that stands there")
+read(header(qd=2) + question(bytes.fromhex("057801610079") + b"\0") + question(pointer(14)))
+
+show("a pointer to the start of its own run, after a label: malformed")
+read(header(qd=1) + question(labels(b"a") + pointer(12)))
+
+show("a pointer to a run that points on, twice: labels and pointers hand over")
+read(header(qd=3) + question(name(b"a")) + question(labels(b"b") + pointer(12)) + question(labels(b"c") + pointer(19)))
+
+show("a pointer to a pointer to a pointer to the root of another name")
+read(header(qd=4) + question(name(b"a")) + question(pointer(14)) + question(pointer(19)) + question(pointer(25)))
+
+show("a pointer forward: malformed")
+read(header(qd=2) + question(pointer(18)) + question(name(b"a")))
+
+show("two pointers at one another: malformed")
+read(header(qd=2) + question(pointer(18)) + question(pointer(12)))
+
+show("pointers to 0, 11 and 12: a target is at least 12")
+for target in (0, 11, 12):
+    read(header(qd=2) + question(name(b"a")) + question(pointer(target)))
+
+show("the high bits of a pointer's first byte: 0xc0 and 0xff, of which the low six belong to the target")
+long = header(an=1, ar=1) + record(b"\0", 65280, b"x" * 4097 + name(b"deep") + b"x" * 4000)
+read(long + record(pointer(12 + 11 + 4097), A, bytes(4)))
+read(header(qd=2) + question(name(b"a")) + question(b"\xff\x0c"))
+
+show("names of 254, 255 and 256 bytes: at most 255")
+for n in (254, 255, 256):
+    assert len(filled(n)) == n
+    read(header(qd=1) + question(filled(n)))
+
+show("names of 254, 255 and 256 bytes by a pointer to one of 251 bytes")
+for n in (2, 3, 4):
+    read(header(qd=2) + question(filled(251)) + question(labels(b"c" * n) + pointer(12)))
+
+show("a name of 255 bytes of one-byte labels, and one label more")
+read(header(qd=1) + question(labels(*[b"a"] * 127) + b"\0"))
+read(header(qd=1) + question(labels(*[b"a"] * 128) + b"\0"))
+
+show("labels of 63 bytes, and each byte 0x40..0xbf where a label starts: malformed")
+read(header(qd=1) + question(name(b"a" * 63)))
+for b in range(0x40, 0xC0):
+    read(header(qd=1) + question(bytes([b]) + b"a" * b + b"\0"))
+
+show("0x40 and 0xbf where a second label starts, and behind a pointer: malformed")
+for b in (0x40, 0xBF):
+    read(header(qd=1) + question(labels(b"a") + bytes([b]) + b"a" * b + b"\0"))
+    read(header(an=1, ar=1) + record(b"\0", 65280, bytes([b, 0])) + record(pointer(23), A, bytes(4)))
+
+show("a pointer of one byte at the end, and none of its bytes")
+read(header(qd=1) + b"\xc0")
+read(header(qd=1) + labels(b"a") + b"\xc0")
+read(header(qd=1) + labels(b"a"))
+read(header(qd=1))
+
+show("a label that overruns by one byte, and one without its zero byte")
+read(header(qd=1) + b"\x05abcd")
+read(header(qd=1) + b"\x05abcde")
+
+show("bytes of a label are any bytes: zeros, dots, capitals, 0xff")
+read(header(qd=1) + question(name(b"\0.A\xff")))
+
+show("the root as a name")
+read(header(qd=1) + question(b"\0"))
+
+show("the longest chain of pointers in 8,972 bytes")
+chain = b"\0"
+base = 12 + 11
+n = (8972 - base - 1 - 16) // 2
+for i in range(n):
+    chain += pointer(base if i == 0 else base + 1 + 2 * (i - 1))
+p = header(an=1, ar=1) + record(b"\0", 65280, chain) + record(pointer(base + 1 + 2 * (n - 1)), A, bytes([1, 2, 3, 4]))
+read(p)
+
+# --- sections ---------------------------------------------------------------------------------------------------------
+
+show("no questions, no records: ID and flags alone")
+read(header(ident=0xBEEF, flags=0x8580))
+
+show("one of each section, in order")
+read(header(1, 1, 1, 1) + question(HOST, A, 0x8001) + record(pointer(12), A, bytes([1, 2, 3, 4]))
+     + record(pointer(12), AAAA, bytes(range(16))) + record(pointer(12), TXT, b"\x01a", cls=0x8001))
+
+show("counts larger than the message, section by section")
+body = question(HOST) + record(pointer(12), A, bytes(4)) * 3
+for counts in ((1, 1, 1, 1), (2, 1, 1, 1), (1, 2, 1, 1), (1, 1, 2, 1), (1, 1, 1, 2), (65535, 1, 1, 1), (1, 65535, 0, 0), (0, 0, 0, 1)):
+    read(header(*counts) + body)
+
+show("counts smaller than what follows: the rest is ignored")
+read(header(1, 1, 0, 0) + body)
+read(header(1, 0, 0, 0) + question(HOST) + b"\xc0")
+
+show("bytes after the last record, whatever they are")
+read(ANNOUNCED + b"\xff")
+read(ANNOUNCED + b"\x40" * 9)
+
+show("a header cut short, field by field of a question and of a record")
+for cut in (1, 2, 3, 4):
+    read(header(qd=1) + question(HOST)[:-cut])
+for cut in range(1, 15):
+    read(header(an=1) + record(HOST, A, bytes(4))[:-cut])
+
+# --- rdata ------------------------------------------------------------------------------------------------------------
+
+show("A of 3, 4 and 5 bytes in every section and class: 4 alone is well formed")
+for section in ((0, 1, 0, 0), (0, 0, 1, 0), (0, 0, 0, 1)):
+    for cls in (1, 0x8001, 3, 255, 0, 65535):
+        for n in (3, 4, 5):
+            read(header(*section) + record(HOST, A, bytes(n), cls=cls))
+
+show("AAAA of 15, 16 and 17 bytes, A and AAAA of none")
+for n in (15, 16, 17):
+    read(header(an=1) + record(HOST, AAAA, bytes(n)))
+read(header(an=1) + record(HOST, AAAA, b""))
+read(header(an=1) + record(HOST, A, b""))
+
+show("PTR: one name that ends at the rdata's end; the pointer in it is expanded")
+read(header(an=1) + record(HOST, PTR, name(b"Booth", b"local")))
+read(header(an=1) + record(HOST, PTR, labels(b"Booth") + pointer(17)))
+read(header(an=1) + record(HOST, PTR, pointer(12)))
+read(header(an=1) + record(HOST, PTR, b"\0"))
+
+show("PTR: a byte too many, a byte too few, none, two names, a pointer to itself")
+read(header(an=1) + record(HOST, PTR, pointer(12) + b"\0"))
+read(header(an=1) + record(HOST, PTR, name(b"a"), length=2) + b"\0\0")
+read(header(an=1) + record(HOST, PTR, b""))
+read(header(an=1) + record(HOST, PTR, name(b"a") + name(b"b")))
+read(header(an=1) + record(HOST, PTR, pointer(34)))
+
+show("SRV: six bytes and one name that ends at the rdata's end, the pointer expanded and the case kept")
+six = bytes([0, 1, 0, 2, 0x0F, 0xA0])
+read(header(an=1) + record(HOST, SRV, six + name(b"Dock", b"Local")))
+read(header(an=1) + record(HOST, SRV, six + labels(b"other") + pointer(17)))
+read(header(an=1) + record(HOST, SRV, six + b"\0"))
+
+show("SRV: 0, 5, 6 bytes, a byte too many, a name that runs past the rdata")
+read(header(an=1) + record(HOST, SRV, b""))
+read(header(an=1) + record(HOST, SRV, six[:5]))
+read(header(an=1) + record(HOST, SRV, six))
+read(header(an=1) + record(HOST, SRV, six + b"\0\0"))
+read(header(an=1) + record(HOST, SRV, six + name(b"a"), length=8) + b"\0\0")
+
+show("TXT: strings that fill the rdata, none, an empty string, 255 bytes")
+for d in (b"", b"\0", b"\x03a=b\0\x01c", b"\xff" + b"x" * 255):
+    read(header(an=1) + record(HOST, TXT, d))
+
+show("TXT: a string that overruns by one, a length byte at the end")
+for d in (b"\x01", b"\x03ab", b"\x01a\x01", b"\xff" + b"x" * 254):
+    read(header(an=1) + record(HOST, TXT, d))
+
+show("other types are stepped over, whatever their rdata; names in it stay as they are")
+for rtype in (0, 2, 5, 15, 41, 47, 255, 65535):
+    read(header(an=1) + record(HOST, rtype, pointer(12) + b"\x40"))
+    read(header(an=1) + record(HOST, rtype, b""))
+
+show("rdata that runs past the message by one byte, and by 65,535")
+read(header(an=1) + record(HOST, 47, b"abc", length=4))
+read(header(an=1) + record(HOST, 47, b"abc", length=65535))
+
+show("a TTL with its top bit set counts as 0")
+for ttl in (0, 1, 4500, 0x7FFFFFFF, 0x80000000, 0x80000078, 0xFFFFFFFF):
+    read(header(an=1) + record(HOST, A, bytes(4), ttl=ttl))
+
+# --- refusals 4 and 5, and their order --------------------------------------------------------------------------------
+
+show("0, 1, 11 and 12 bytes: refused with 4 below 12")
+for n in (0, 1, 11, 12):
+    read(bytes(n))
+
+show("8,972 and 8,973 bytes: refused with 4 above 8,972")
+for n in (8972, 8973):
+    strings = b""
+    left = n - 12 - 11
+    while left:
+        k = min(left, 256)
+        strings += bytes([k - 1]) + b"t" * (k - 1)
+        left -= k
+    p = header(an=1) + record(b"\0", TXT, strings)
+    assert len(p) == n
+    read(p)
+read(ANNOUNCED + bytes(8972 - 38))
+read(ANNOUNCED + bytes(8973 - 38))
+
+show("opcode and RCODE: each of their eight bits is refused with 5")
+for bit in (0, 1, 2, 3, 11, 12, 13, 14):
+    read(header(flags=1 << bit))
+
+show("the flags' other bits are no one's business here: QR, AA, TC, RD, RA, Z")
+for bit in (4, 5, 6, 7, 8, 9, 10, 15):
+    read(header(flags=1 << bit))
+
+show("4 before 5, 5 before 6")
+read(header(flags=0x0800)[:11])
+read(header(flags=0x0800) + bytes(8961))
+read(header(qd=1, flags=0x0001) + question(pointer(12)))

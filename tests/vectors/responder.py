@@ -1,0 +1,440 @@
+#!/usr/bin/env python3
+# Writes the console script of the responder's vectors: `start`, `recv`, `tick`, `claims` and `out`, each case under a comment that says what it
+# shows (paper 01, 'Refusal numbers', 'Own records', 'Writing a packet', 'A claim's life', 'Which answers go out'). Run by make.sh; the expected
+# answers come from the reference program.
+import sys
+
+sys.dont_write_bytecode = True
+from packets import *
+
+INSTANCE = name(b"booth", b"_voice", b"_tcp", b"local")
+SERVICE = name(b"_voice", b"_tcp", b"local")
+TEN = bytes([10, 0, 0, 7])
+SIX = bytes.fromhex("fe80000000000000000000000000000a")
+OWN_SRV = bytes(4) + (4000).to_bytes(2, "big") + HOST
+LATE = 4 << 60
+
+
+def show(what):
+    print("\n# " + what)
+
+
+def text(b):
+    return b.hex() or "-"
+
+
+def start(now=0, draw=0, instance=b"booth", service=b"_voice", protocol=b"_tcp", host=b"dock", domain=b"local", port=4000, txt=b"\0", a=TEN, aaaa=b""):
+    print("start", now, draw, text(instance), text(service), text(protocol), text(host), text(domain), port, text(txt), text(a), text(aaaa))
+
+
+def tick(now, *out):
+    print("tick", now, *out)
+
+
+def recv(now, packet, draw=20, port=5353, out=()):
+    print("recv", now, port, draw, text(packet), *out)
+
+
+def claims():
+    print("claims")
+
+
+def out(at, n):
+    print("out", at, n)
+
+
+def query(questions, known=(), authority=()):
+    return header(qd=len(questions), an=len(known), ns=len(authority), flags=0) + b"".join(questions) + b"".join(known) + b"".join(authority)
+
+
+def response(answers=(), authority=(), additional=(), questions=()):
+    return header(qd=len(questions), an=len(answers), ns=len(authority), ar=len(additional)) + b"".join(questions) + b"".join(answers) + b"".join(authority) + b"".join(additional)
+
+
+def probe(owner, *records):
+    return query([question(owner)], authority=records)
+
+
+def state(which, aaaa=b""):
+    """A responder whose claims are in a state, and the time then. Started at 0 with draw 0."""
+    start(aaaa=aaaa)
+    if which == "waiting":
+        return 0
+    steps = {"probing": 1, "probing twice": 2, "probing three times": 3, "deferred": 1, "announced": 4, "held": 4, "lost": 1}[which]
+    for i in range(steps):
+        tick(250 * i)
+        tick(250 * i)
+    now = 250 * (steps - 1)
+    if which == "held":
+        tick(now + 1000)
+        tick(now + 1000)
+        return now + 1000
+    if which == "deferred":
+        recv(now, probe(HOST, record(HOST, A, b"\xff" * 4)))
+        recv(now, probe(INSTANCE, record(INSTANCE, SRV, b"\xff" * 6 + HOST)))
+    if which == "lost":
+        recv(now, response([record(HOST, A, b"\xff" * 4), record(INSTANCE, TXT, b"\1x")]))
+    return now
+
+
+STATES = ("waiting", "probing", "probing twice", "probing three times", "deferred", "announced", "held", "lost")
+
+# --- before any start ---------------------------------------------------------------------------------------------------
+
+show("before the first start: the blank state, refused by the ordinary rules; the out buffer is zeros")
+claims()
+tick(0)
+tick(1)
+recv(0, ANNOUNCED)
+recv(0, b"\0" * 11)
+out(0, 16)
+out(0, 4096)
+out(4095, 1)
+out(4096, 0)
+out(4096, 1)
+out(4097, 0)
+out(18446744073709551615, 18446744073709551615)
+
+# --- 01's example -------------------------------------------------------------------------------------------------------
+
+show("01's start: the instance's probe, more is due, then the 44-byte probe of dock.local; nothing more at 0 and at 249 ms")
+start()
+claims()
+tick(0)
+claims()
+tick(0)
+claims()
+tick(0)
+tick(249)
+show("each probe is due 250 ms after the last was sent, and 250 ms after the third the first announcement, all records; the host's has 38 bytes")
+for now in (250, 250, 250, 499, 500, 500, 749, 750, 750, 750):
+    tick(now)
+claims()
+show("the second announcement is due 1,000 ms after the first, and then no step is due")
+for now in (1749, 1750, 1750, 1750, 99999):
+    tick(now)
+claims()
+show("the bytes of the out buffer past a packet are kept")
+out(0, 120)
+out(1400, 100)
+
+show("a start with draw 250 and an AAAA: nothing at 249, probes at 250, the host's with A and AAAA by rising type; then all five records")
+start(1000, 250, aaaa=SIX, txt=b"\4a=bc")
+tick(1249)
+for now in (1250, 1250, 1500, 1500, 1750, 1750, 2000, 2000, 3000, 3000):
+    tick(now)
+claims()
+
+show("late ticks: steps count from when they were taken, one packet a tick")
+start(0, 100)
+for now in (5000, 5000, 5000, 5249, 5250, 9000, 9000, 9249, 9250, 20000, 20000, 20999, 21000, 21000, 50000):
+    tick(now)
+claims()
+
+# --- questions ----------------------------------------------------------------------------------------------------------
+
+show("asked after 249 ms by a probe: omitted; after 250 ms: sent")
+for gap in (249, 250):
+    now = state("held")
+    recv(now + gap, probe(HOST, record(HOST, A, TEN)))
+    claims()
+show("asked after 999 ms by a query: omitted; after 1,000 ms: sent")
+for gap in (999, 1000):
+    now = state("held")
+    recv(now + gap, query([question(HOST, A)]))
+    recv(now + gap, query([question(INSTANCE, SRV)]))
+    recv(now + gap, query([question(INSTANCE, TXT)]))
+show("a probe for the host is an ordinary query to the instance's records")
+now = state("held")
+recv(now + 500, query([question(HOST), question(INSTANCE)], authority=[record(HOST, A, TEN)]))
+recv(now + 1500, query([question(HOST), question(INSTANCE)], authority=[record(HOST, A, TEN)]))
+
+show("known PTR at TTL 2250 omits, at 2249 a reply is set; A at 60 omits, at 59 it goes out; SRV 60 and 59, TXT 2250 and 2249")
+for ttl in (2250, 2249):
+    now = state("held")
+    recv(now + 2000, query([question(SERVICE, PTR)], [record(SERVICE, PTR, INSTANCE, ttl=ttl)]))
+    claims()
+    tick(now + 2020)
+    recv(now + 2000 + 20, query([question(INSTANCE, TXT)], [record(INSTANCE, TXT, b"\0", ttl=ttl)]))
+for ttl in (60, 59):
+    now = state("held")
+    recv(now + 2000, query([question(HOST, A)], [record(HOST, A, TEN, ttl=ttl)]))
+    recv(now + 2000, query([question(INSTANCE, SRV)], [record(INSTANCE, SRV, OWN_SRV, ttl=ttl)]))
+show("a known answer of other rdata, type, class or owner, or in another section, does not omit; a TTL with its top bit counts as 0")
+for known, authority in (([record(HOST, A, b"\x0a\0\0\x08")], []), ([record(HOST, TXT, TEN[:0])], []), ([record(HOST, A, TEN, cls=3)], []), ([record(INSTANCE, A, TEN)], []), ([], [record(HOST, A, TEN)]), ([record(HOST, A, TEN, ttl=0x80000078)], []), ([record(HOST, A, TEN, cls=0x8001)], [])):
+    now = state("held")
+    recv(now + 2000, query([question(HOST, A)], known, authority))
+show("a known PTR whose name differs in case in its rdata does not omit; in its owner it does")
+now = state("held")
+recv(now + 2000, query([question(SERVICE, PTR)], [record(SERVICE, PTR, name(b"BOOTH", b"_voice", b"_tcp", b"local"), ttl=4500)]))
+claims()
+now = state("held")
+recv(now + 2000, query([question(SERVICE, PTR)], [record(name(b"_VOICE", b"_tcp", b"LOCAL"), PTR, INSTANCE, ttl=4500)]))
+claims()
+
+show("questions of type 255 and class 255, with the unicast bit, of class 3, of type 99, for other names; names in other case")
+now = state("held", aaaa=SIX)
+for i, q in enumerate((question(HOST), question(HOST, 255, 255), question(HOST, A, 0x8001), question(HOST, A, 0x80FF), question(HOST, A, 3), question(HOST, 99), question(HOST, 28), question(INSTANCE), question(name(b"other", b"local"), A), question(name(b"DOCK", b"Local"), A), question(SERVICE, 255), question(b"\0", 255))):
+    recv(now + 1000 * (i + 1), query([q]))
+    claims()
+tick(now + 13000)
+show("several questions: one packet, each record once, in the order of responses; PTR waits for its step")
+recv(now + 20000, query([question(HOST), question(INSTANCE), question(HOST, A), question(SERVICE, PTR)]), draw=120)
+claims()
+tick(now + 20119)
+tick(now + 20120)
+claims()
+show("every subset of SRV, TXT, A and AAAA asked for at once, with and without an AAAA")
+for aaaa in (SIX, b""):
+    now = state("held", aaaa=aaaa)
+    for subset in range(1, 16):
+        now += 1000
+        recv(now, query([q for i, q in enumerate((question(INSTANCE, SRV), question(INSTANCE, TXT), question(HOST, A), question(HOST, AAAA))) if subset >> i & 1]))
+now = state("held", aaaa=SIX)
+show("a PTR reply that is set stays as set; at its step it is dropped where PTR was multicast less than 1,000 ms ago")
+recv(now + 30000, query([question(SERVICE, PTR)]), draw=100)
+recv(now + 30010, query([question(SERVICE, PTR)]), draw=20)
+claims()
+tick(now + 30100)
+recv(now + 30101, query([question(SERVICE, PTR)]), draw=20)
+claims()
+start()
+for t in (0, 0, 250, 250, 500, 500, 750, 750):
+    tick(t)
+recv(1749, query([question(SERVICE, PTR)]), draw=20)
+recv(1750, query([question(SERVICE, PTR)]), draw=20)
+claims()
+tick(1770)
+tick(1770)
+tick(1770)
+claims()
+show("a PTR reply due while the claim is lost or waiting again: dropped")
+now = state("held")
+recv(now + 2000, query([question(SERVICE, PTR)]), draw=20)
+recv(now + 2001, response([record(INSTANCE, TXT, b"\1x")]))
+claims()
+tick(now + 2020)
+tick(now + 2020)
+claims()
+now = state("held")
+recv(now + 2000, query([question(SERVICE, PTR)]), draw=20)
+recv(now + 2001, response([record(INSTANCE, TXT, b"\1x")]))
+recv(now + 2002, response([record(INSTANCE, TXT, b"\1x")]))
+claims()
+tick(now + 2020)
+claims()
+show("questions in each state: only a held claim answers")
+for which in STATES:
+    now = state(which)
+    recv(now + 5000, query([question(HOST), question(INSTANCE), question(SERVICE)]))
+    claims()
+
+# --- probes heard -------------------------------------------------------------------------------------------------------
+
+show("probes heard in each state: earlier, equal and later data")
+for which in STATES:
+    now = state(which)
+    for address in (b"\x0a\0\0\x06", TEN, b"\x0a\0\0\x08"):
+        recv(now, probe(HOST, record(HOST, A, address)))
+        claims()
+show("169.254.200.50 is later than 169.254.99.200: bytes are unsigned; and the other way round")
+for own, theirs in ((bytes([169, 254, 99, 200]), bytes([169, 254, 200, 50])), (bytes([169, 254, 200, 50]), bytes([169, 254, 99, 200]))):
+    start(a=own)
+    tick(0)
+    tick(0)
+    recv(1, probe(HOST, record(HOST, A, theirs)))
+    claims()
+show("{A} is before {A, AAAA}; records in either order; repeats stay; class 3 and type 99 are later, class 0 and type 0 earlier")
+six = record(HOST, AAAA, SIX)
+ten = record(HOST, A, TEN)
+for own, theirs in ((b"", [ten, six]), (b"", [six, ten]), (SIX, [ten]), (SIX, [six, ten]), (SIX, [ten, six]), (SIX, [six]), (b"", [ten, ten]), (SIX, [ten, ten, six]), (b"", [record(HOST, A, TEN, cls=3)]), (b"", [record(HOST, 99, b"")]), (b"", [record(HOST, A, TEN, cls=0)]), (b"", [record(HOST, 0, b"\xff")]), (b"", [record(HOST, A, TEN, cls=0x8001)]), (b"", [record(HOST, A, TEN, ttl=0)]), (b"", [record(INSTANCE, A, b"\xff" * 4), ten])):
+    state("probing", aaaa=own)
+    recv(1, probe(HOST, *theirs))
+    claims()
+show("the instance's probes: SRV and TXT in either order, names in SRV expanded, case counts there; TXT that goes on is later")
+srv, strings = record(INSTANCE, SRV, OWN_SRV), record(INSTANCE, TXT, b"\0")
+for theirs in ([srv, strings], [strings, srv], [strings], [srv], [strings, record(INSTANCE, SRV, bytes(4) + b"\x0f\xa0" + name(b"DOCK", b"local"))], [strings, record(INSTANCE, SRV, bytes(4) + b"\x0f\xa0" + name(b"eock", b"local"))], [record(INSTANCE, TXT, b"\0\0"), srv], [record(INSTANCE, TXT, b""), srv]):
+    state("probing")
+    recv(1, probe(INSTANCE, *theirs))
+    claims()
+state("probing")
+p = query([question(INSTANCE)], authority=[record(pointer(12), TXT, b"\0"), record(pointer(12), SRV, bytes(4) + b"\x0f\xa0" + labels(b"dock") + pointer(30))])
+recv(1, p)
+claims()
+show("no probes: a type other than 255, class 3, no Authority record under the name, a response; class 255 and the unicast bit are probes")
+later = record(HOST, A, b"\xff" * 4)
+for p in (query([question(HOST, A)], authority=[later]), query([question(HOST, 255, 3)], authority=[later]), query([question(HOST)], authority=[record(INSTANCE, A, b"\xff" * 4)]), query([question(HOST)], [later]), response(questions=[question(HOST)], authority=[record(HOST, 99, b"x")]), query([question(HOST, 255, 255)], authority=[later]), query([question(HOST, 255, 0x8001)], authority=[later]), query([question(name(b"DOCK", b"LOCAL"))], authority=[record(name(b"Dock", b"local"), A, b"\xff" * 4)])):
+    state("probing")
+    recv(1, p)
+    claims()
+show("a deferred claim begins again after 1,000 ms, with three probes")
+now = state("deferred")
+for t in (999, 1000, 1000, 1250, 1250, 1500, 1500, 1750, 1750, 2750, 2750):
+    tick(t)
+claims()
+show("one probe for both names: each claim by itself")
+state("probing")
+recv(1, query([question(HOST), question(INSTANCE)], authority=[later, srv, strings]))
+claims()
+
+# --- conflicts ----------------------------------------------------------------------------------------------------------
+
+other = record(HOST, A, b"\x0a\0\0\x08")
+show("conflicts in each state: held goes back to waiting, any other is lost")
+for which in STATES:
+    now = state(which)
+    recv(now, response([other]))
+    claims()
+    recv(now, response([record(INSTANCE, SRV, OWN_SRV[:5] + b"\0" + HOST)]))
+    claims()
+show("conflicts in any section of a response, also one with questions; two records count once")
+for p in (response(authority=[other]), response(additional=[other]), response([other], questions=[question(HOST)]), response([other, other], additional=[other]), response([ten, other])):
+    now = state("held")
+    recv(now + 5, p)
+    claims()
+show("no conflicts: goodbyes, TTL with its top bit, the same rdata, class 3, type 99, an AAAA that we have not, PTR, a query; a response's questions are not answered")
+for p in (response([record(HOST, A, b"\x0a\0\0\x08", ttl=0)]), response([record(HOST, A, b"\x0a\0\0\x08", ttl=0x80000001)]), response([ten]), response([record(HOST, A, b"\x0a\0\0\x08", cls=3)]), response([record(HOST, 99, b"x")]), response([six]), response([record(SERVICE, PTR, HOST)]), response([record(INSTANCE, PTR, HOST)]), query([question(HOST)], [other], [other]), response(questions=[question(HOST), question(INSTANCE), question(SERVICE)])):
+    now = state("held")
+    recv(now + 5000, p)
+    claims()
+show("class 1 with the top bit conflicts; owners in other case too; SRV whose target differs only in case conflicts")
+for p in (response([record(HOST, A, b"\x0a\0\0\x08", cls=0x8001)]), response([record(name(b"DOCK", b"LOCAL"), A, b"\x0a\0\0\x08")]), response([record(INSTANCE, SRV, OWN_SRV[:6] + name(b"Dock", b"local"))]), response([record(INSTANCE, SRV, OWN_SRV)])):
+    now = state("held")
+    recv(now + 5, p)
+    claims()
+show("a held claim is lost to a conflict and won again: first probe at now plus the start draw, first announcement with all records")
+start(0, 30)
+for t in (30, 30, 280, 280, 530, 530, 780, 780):
+    tick(t)
+recv(900, response([other]))
+claims()
+for t in (929, 930, 1180, 1430, 1680, 1780, 2680, 2680):
+    tick(t)
+claims()
+show("a conflict with the second announcement to come: it is not sent")
+state("announced")
+recv(760, response([other, record(INSTANCE, TXT, b"\1x")]))
+claims()
+tick(1750)
+tick(1750)
+claims()
+
+# --- refusals -----------------------------------------------------------------------------------------------------------
+
+show("refusals of a start, in the order 1, 2, 7; a refused start changes nothing")
+start()
+tick(0)
+start(LATE + 1, 251, instance=b"")
+start(0, 251, instance=b"")
+start(0, 18446744073709551615)
+start(0, 0, instance=b"")
+start(0, 256 + 7)
+claims()
+show("refusals of a packet, in the order 1, 2, 3, 4, 5, 6, and none")
+good = query([question(HOST)])
+bad = header(qd=1, flags=0) + question(pointer(12))
+start(100)
+recv(99, good[:11], draw=19, port=53, out=(1451,))
+recv(LATE + 1, good[:11], draw=19, port=53, out=(1451,))
+recv(100, good[:11], draw=19, port=53, out=(1451,))
+recv(100, good[:11], draw=121, port=53, out=(0,))
+recv(100, good[:11], draw=276, port=53, out=(0,))
+recv(100, good[:11], port=53, out=(1451,))
+recv(100, good[:11], port=53)
+recv(100, good + bytes(8973 - len(good)), port=53)
+recv(100, good + bytes(8972 - len(good)))
+recv(100, good, port=5354)
+recv(100, good, port=5353 + 65536)
+recv(100, bad, port=53)
+recv(100, header(flags=0x0800))
+recv(100, header(flags=0x000F))
+recv(100, header(qd=1, flags=0x0001) + question(pointer(12)))
+recv(100, bad)
+recv(100, good, out=(1452,))
+recv(100, good, out=(4096,))
+recv(100, good, out=(4097,))
+recv(100, good, draw=120)
+claims()
+show("refusals of a tick, in the order 1, 3; OUT over 4,096 is a bad line")
+tick(99, 0)
+tick(LATE + 1, 0)
+tick(100, 1451)
+tick(100, 1452)
+tick(100, 4097)
+tick(100, 4096)
+claims()
+show("times 0 and 2^62: the last steps are kept at 2^62 + 1,000 and never come")
+start(LATE, 250)
+claims()
+tick(LATE)
+start(LATE - 750)
+for t in (LATE - 750, LATE - 750, LATE - 500, LATE - 500, LATE - 250, LATE - 250, LATE, LATE, LATE):
+    tick(t)
+claims()
+recv(LATE, query([question(SERVICE, PTR)]), draw=120)
+recv(LATE, response([other]))
+claims()
+tick(LATE + 1)
+
+# --- set-ups ------------------------------------------------------------------------------------------------------------
+
+show("service labels: 1 to 15 letters, digits or hyphens after '_', with a letter, no hyphen first, last or doubled")
+for service in (b"", b"_", b"voice", b"_a", b"_1", b"_1a", b"_-a", b"_a-", b"_a--b", b"_a-b-c", b"_" + b"a" * 15, b"_" + b"a" * 16, b"_a_b", b"_VOICE", b"_a.b", b"_a\0", b"_" + b"a" * 256, b"_1-2", b"__a"):
+    start(service=service)
+show("protocol and domain labels, exactly; labels and TXT too long, also by 256; empty ones")
+for protocol in (b"_udp", b"_TCP", b"_tcp\0", b"_tc", b"", b"_tcp" * 65):
+    start(protocol=protocol)
+for domain in (b"LOCAL", b"loca", b"local\0", b"", b"local" + b"x" * 256):
+    start(domain=domain)
+for n in (0, 1, 63, 64, 256, 257, 256 + 63, 512 + 5):
+    start(instance=b"i" * n)
+    start(host=b"h" * n)
+for strings in (b"", b"\0", b"\1", b"\1x\0", b"\xff" + b"x" * 255 + b"\x8f" + b"y" * 143, b"\xff" + b"x" * 255 + b"\x90" + b"y" * 144, b"\0" * 400, b"\0" * 401, b"\0" * 656):
+    start(txt=strings)
+show("bytes of A and AAAA, and ports")
+for a in (b"", TEN[:3], TEN + b"\0"):
+    start(a=a)
+for aaaa in (SIX[:15], SIX + b"\0", TEN):
+    start(aaaa=aaaa)
+for port in (0, 65535, 65536, 65536 + 4000):
+    start(port=port)
+
+
+def announced(what, **setup):
+    show(what)
+    start(**setup)
+    for t in (0, 0, 250, 250, 500, 500, 750, 750):
+        tick(t)
+    claims()
+
+
+LONGEST = dict(instance=bytes(range(1, 64)), service=b"_" + b"s" * 15, protocol=b"_udp", host=b"h" * 63, txt=b"\xff" + b"x" * 255 + b"\x8f" + b"y" * 143, aaaa=SIX, port=65535)
+announced("longest labels and a TXT of 400 bytes: probes, announcements, and all that is asked for at once", **LONGEST)
+longest = [labels(LONGEST[k]) for k in ("instance", "service", "protocol", "host")]
+recv(5000, query([question(longest[3] + name(b"local")), question(longest[0] + longest[1] + longest[2] + name(b"local"))]))
+announced("host label '_tcp': the service's name and the host's share '_tcp.local'", host=b"_tcp")
+announced("host label '_voice' and instance label '_tcp'", host=b"_voice", instance=b"_tcp")
+announced("host and instance label the same", host=b"booth")
+announced("labels that differ only in case are not pointed at: host 'Booth', instance 'booth'", host=b"Booth")
+announced("host label '_TCP' is not pointed at", host=b"_TCP")
+announced("labels with dots, zero bytes and the bytes of 'local'", instance=b"a.b\0\xff", host=b"\5local")
+announced("host label 'local', instance label 'local'", instance=b"local", host=b"local")
+announced("TXT with the bytes of a name is never pointed at", txt=b"\x0c" + HOST + b"\7\5local\0", host=b"dock")
+announced("instance label with the bytes of the labels after it", instance=b"x\6_voice\4_tcp\5local", host=b"x")
+show("names asked for in other case, and through pointers")
+recv(9000, query([question(name(b"X", b"LOCAL"), A), question(pointer(14), A)]))
+recv(11000, query([question(name(b"y", b"x", b"local"), A), question(pointer(14), A)]))
+
+show("all bytes of the out buffer past a packet are kept; a refused call keeps them all")
+out(0, 400)
+tick(11000, 1451)
+recv(11000, b"")
+out(0, 400)
+
+show("fields that are missing, left over, or not of their form")
+for bad in ("start", "start 0 0 61 5f61 5f746370 61 6c6f63616c 1 00 0a000007", "start 0 0 61 5f61 5f746370 61 6c6f63616c 1 00 0a000007 - 0", "start - 0 61 5f61 5f746370 61 6c6f63616c 1 00 0a000007 -",
+            "start 0 x 61 5f61 5f746370 61 6c6f63616c 1 00 0a000007 -", "start 0 0 6 5f61 5f746370 61 6c6f63616c 1 00 0a000007 -", "start 0 0 61 5f61 5f746370 61 6c6f63616c -1 00 0a000007 -", "start 0 0 61 5f61 5f746370 61 6c6f63616c 1 00 0A000007 -",
+            "start 000 00 61 5F61 5f746370 61 6c6f63616c 00004000 00 0a000007 -", "recv", "recv 0 5353 20", "recv 0 5353 20 0", "recv 0 5353 - 00", "recv 0 5353 20 00 1452 0", "recv 0 5353 20 00 -", "recv 0 5353 20 00 ", "recv 18446744073709551616 5353 20 00",
+            "recv 0 18446744073709551615 20 000000000000000000000000", "recv 0 005353 00020 000000000000000000000000 04096", "tick", "tick ", "tick -", "tick 0 -", "tick 0 1452 0", "tick 0 18446744073709551616", "tick 0 18446744073709551615", "claims ", "claims 0", "out", "out 0", "out 0 0", "out 0 0 0", "out - 0", "out 0 -", "out 0 4097", "out 1 4096", "out 1 18446744073709551615", "Claims"):
+    print(bad)
+claims()
