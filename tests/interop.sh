@@ -1,7 +1,7 @@
 #!/usr/bin/env bash
 # Interoperability: our responder and our browser against Avahi and python-zeroconf, in network namespaces that this script makes and removes.
 #   tests/interop.sh             runs where the peers are installed and namespaces can be made; else says 'skipped: ...' and succeeds
-#   tests/interop.sh --install   installs the peers first (Debian packages, as root)
+#   tests/interop.sh --install   installs the peers first where they are missing (Debian packages, as root); where they can't be had it says so and is skipped
 # Every wait has an end, so that it never hangs. Its last line is 'interop: N passed, M failed'.
 set -uo pipefail
 root=$(cd "$(dirname "$0")/.." && pwd)
@@ -11,8 +11,13 @@ skip() { echo "skipped: $*"; exit 0; }
 
 case ${1:-} in
 --install)
-    # shellcheck disable=SC2086
-    timeout 300 apt-get install -y --no-install-recommends $peers >/dev/null || { echo "the peers can't be installed: $peers" >&2; exit 1; }
+    . "$root/tests/interop/peers.sh"
+    if ! (find_peers) >/dev/null 2>&1 || (find_peers) | grep -q '^skipped: '; then
+        export DEBIAN_FRONTEND=noninteractive
+        timeout 120 apt-get update >/dev/null 2>&1
+        # shellcheck disable=SC2086
+        timeout 300 apt-get install -y --no-install-recommends $peers >/dev/null 2>&1 || skip "the peers can't be installed: $peers"
+    fi
     ;;
 '') ;;
 *) sed -n 2,5p "$0" >&2; exit 2 ;;

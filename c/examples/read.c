@@ -1,0 +1,64 @@
+// Shows a packet, given in hex: its questions and records, or the number of its refusal. It links the reader alone. Built and run by tests/capi.sh and try.
+#include "kurgashel.h"
+#include <stdio.h>
+#include <string.h>
+
+static uint8_t packet[9000];
+static size_t length;
+
+// A name as labels with dots between them; a byte that does not print is shown in decimal, as zone files have it.
+static void show_name(size_t at) {
+    struct kurgashel_name name = kurgashel_name(packet, length, at);
+    if (name.length == 1)
+        putchar('.');
+    for (size_t i = 0; i < name.length && name.bytes[i]; i += 1 + name.bytes[i]) {
+        for (size_t k = 1; k <= name.bytes[i]; k++) {
+            uint8_t b = name.bytes[i + k];
+            printf(b > ' ' && b < 127 && b != '.' && b != '\\' ? "%c" : "\\%03u", b);
+        }
+        putchar('.');
+    }
+}
+
+static void show_records(const char *section, size_t at, unsigned count) {
+    for (; count; count--) {
+        struct kurgashel_record record = kurgashel_record(packet, length, at);
+        printf("%-10s ", section);
+        show_name(record.owner);
+        printf(" type %u class %u%s ttl %u ", record.rtype, record.class_ & 32767u, record.class_ >> 15 ? " flush" : "", record.ttl);
+        if (record.rtype == 12 || record.rtype == 33) {
+            if (record.rtype == 33)
+                printf("port %u ", packet[record.rdata + 4] * 256u + packet[record.rdata + 5]);
+            show_name(record.rdata + (record.rtype == 33 ? 6 : 0));
+        } else {
+            for (size_t k = 0; k < record.rdata_length; k++)
+                printf("%02x", packet[record.rdata + k]);
+        }
+        putchar('\n');
+        at = record.next;
+    }
+}
+
+int main(int arguments, char **argument) {
+    unsigned byte;
+    for (const char *hex = arguments == 2 ? argument[1] : ""; length < sizeof packet && sscanf(hex, "%2x", &byte) == 1; hex += strlen(hex) > 1 ? 2 : 1)
+        packet[length++] = (uint8_t)byte;
+    struct kurgashel_message message = kurgashel_message(packet, length);
+    if (message.refusal) {
+        printf("refused %u\n", message.refusal);
+        return 0;
+    }
+    printf("%s, id %u\n", message.flags >> 15 ? "response" : "query", message.id);
+    size_t at = message.questions_at;
+    for (unsigned k = 0; k < message.questions; k++) {
+        struct kurgashel_question question = kurgashel_question(packet, length, at);
+        printf("%-10s ", "question");
+        show_name(question.name);
+        printf(" type %u class %u\n", question.rtype, question.class_);
+        at = question.next;
+    }
+    show_records("answer", message.answers_at, message.answers);
+    show_records("authority", message.authorities_at, message.authorities);
+    show_records("additional", message.additionals_at, message.additionals);
+    return 0;
+}
