@@ -1,4 +1,4 @@
--- Slots, Steps and Changes: lemmas. Flush, Found, Evict, Whole, Counts: the theorems.
+-- The theorems that specs/laws states: Slots, Flush, Found, Whole (found after the whole message), Evict, Counts. Lemmas: Steps, Changes.
 pub mod Slots
 pub mod Steps
 pub mod Changes

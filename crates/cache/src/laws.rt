@@ -1,2 +1,2 @@
-// What the cache rules come to, as a reader of RFC 6762 would ask it (section 10.2, section 10.1, and the specification, 'The cache'): theorems about the
-// definitions of `entries`. No code.
+// What the cache rules come to, as a reader of RFC 6762 would ask it (section 10.2, section 10.1, and the specification, 'The cache'): stated in specs/laws
+// about the definitions of `entries`, proved in proofs/laws. No code.

@@ -1,1 +1,10 @@
--- Laws that belong to no one function.
+-- Theorems: Whole, Composed, OwnPackets, Cases. What they are made of: Names, Sound, Records, Questions, Lists.
+mod Names
+mod Sound
+mod Records
+mod Questions
+mod Lists
+pub mod Whole
+pub mod Composed
+pub mod OwnPackets
+pub mod Cases

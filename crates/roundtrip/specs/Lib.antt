@@ -1,7 +1,4 @@
-pub mod Shapes
-pub mod Names
-pub mod Items
-pub mod Whole
-pub mod Sentence
-pub mod OwnPackets
+pub mod Writable
+pub mod Composed
+pub mod Statements
 pub mod Cases

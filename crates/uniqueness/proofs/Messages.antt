@@ -22,7 +22,7 @@ use Rattle.claims.specs.declared.steps.Output.the-variants.{Nothing, Probe, Res
 use Rattle.claims.specs.steps.Tick as steps
 use Rattle.facts.specs.probe.Probe.{some as someOf, under}
 use Rattle.writer.specs.own_packets.Own.{ownRecord, responseRecords, responseOf, noneIfEmpty, responsePacket, probePacket, probeOf}
-use Rattle.roundtrip.specs.OwnPackets.{response-back, probe-back}
+use Rattle.roundtrip.proofs.OwnPackets.{response-back, probe-back}
 use Rattle.responder.specs.Calls.{claimFor, listed, packets, packetFor}
 use Rattle.link.specs.Responder.{Claim, instance, host}
 use Rattle.link.specs.Premises.{Among}

@@ -12,7 +12,8 @@ use Rattle.cache.specs.entries.Cache.{Cache, goodbye, entryFor, taken, r
 use Rattle.cache.specs.declared.entries.Entry.{Entry}
 use Rattle.cache.specs.declared.entries.Slot.{Slot}
 use Rattle.cache.specs.declared.entries.Slot.the-variants.{At, Nowhere}
-use Rattle.cache.proofs.laws.Slots.{entryAt, at-set}
+use Rattle.cache.specs.laws.Slots.{entryAt}
+use Rattle.cache.proofs.laws.Slots.{at-set}
 
 -- the entry of slot i is as it was; or goes with a goodbye; or is that of the record, renewed; or was free and takes the record
 pub data Change (now : ℕ) (x : Record) (c : Cache) (i : ℕ) (e : Entry) : Type 0 where

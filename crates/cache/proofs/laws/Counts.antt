@@ -13,31 +13,8 @@ use Rattle.cache.specs.entries.Cache.{Cache, isCached, rule1, goodbye, t
 use Rattle.cache.specs.declared.entries.Entry.{Entry}
 use Rattle.cache.specs.declared.entries.Slot.{Slot}
 use Rattle.cache.specs.declared.entries.Slot.the-variants.{At, Nowhere}
+use Rattle.cache.specs.laws.Counts.{anyFrom, hasEqual, allLive, one, TurnedExactly, PassedExactly}
 use Rattle.cache.proofs.laws.Steps.{rule1-equal, rule1-free, rule1-turned, rule1-passed}
-
--- an entry of the table passes a test of it and its slot; the list's first entry is in slot i
-unfoldable pub anyFrom : (ℕ → Entry → Bool) → ℕ → List Entry → Bool
-anyFrom test i [] = false
-anyFrom test i (e ∷ es) = test i e || anyFrom test (suc i) es
-
--- some live entry equals the record; all entries are live
-abbrev pub hasEqual : ℕ → Record → Cache → Bool
-hasEqual now x c = anyFrom (holds now (c .store) (x .owner) (x .rtype) (x .rdata)) 0 (c .entries)
-
-abbrev pub allLive : ℕ → Cache → Bool
-allLive now c = not (anyFrom (isFree now) 0 (c .entries))
-
--- a record is one to be turned away: its TTL is not 0, its rdata is at most 768 bytes, no live entry equals it and all entries are live
-abbrev pub isTurnedAway : ℕ → Record → Cache → Bool
-isTurnedAway now x c = isCached (x .class) (x .rtype) && (not (ltb 768 (length (x .rdata))) && (not (eqb (x .ttl) 0) && (not (hasEqual now x c) && allLive now c)))
-
--- a record is one to be passed over: its rdata is over 768 bytes, whatever its TTL
-abbrev pub isPassedOver : Record → Bool
-isPassedOver x = isCached (x .class) (x .rtype) && ltb 768 (length (x .rdata))
-
--- 1 where a test holds
-abbrev pub one : Bool → ℕ
-one b = cond b 1 0
 
 -- a search finds nothing exactly where no entry passes
 abbrev found : Slot → Bool
@@ -105,8 +82,7 @@ module _ (now : ℕ) (x : Record) (c : Cache) where
       go false true = passed-goodbye (equalSlot now x c) ∙ sym (add-zero (c .passed))
       go false false = passed-renewed (equalSlot now x c) ∙ sym (add-zero (c .passed))
 
--- Turned away is counted exactly when TTL is not 0, rdata is at most 768 bytes, no live entry equals the record and all entries are live.
-pub turned-exactly : (now : ℕ) (x : Record) (c : Cache) → takeRecord now x c .turned ≡ c .turned + one (isTurnedAway now x c)
+pub turned-exactly : TurnedExactly
 unfolding takeRecord
 turned-exactly now x c = go (isCached (x .class) (x .rtype))
   where
@@ -124,8 +100,7 @@ turned-exactly now x c = go (isCached (x .class) (x .rtype))
         ∙ ap (λ (b : Bool). c .turned + one (not (ltb 768 (length (x .rdata))) && (not (eqb (x .ttl) 0) && (not (hasEqual now x c) && b)))) free-is
     go false = sym (add-zero (c .turned))
 
--- Passed over is counted exactly when rdata is over 768 bytes, TTL 0 too.
-pub passed-exactly : (now : ℕ) (x : Record) (c : Cache) → takeRecord now x c .passed ≡ c .passed + one (isPassedOver x)
+pub passed-exactly : PassedExactly
 unfolding takeRecord
 passed-exactly now x c = go (isCached (x .class) (x .rtype))
   where

@@ -5,30 +5,24 @@ use mathlib.Core.Bool.{Bool, true, false, cond}
 use mathlib.Core.Logic.{_⊎_, inl, inr}
 use Prim.Native.Nat.{ℕ, zero, suc, _+_, _*_, _<_}
 use native.Mathlib.Omega.{arith}
-use lib.ListN.{length, getD}
+use lib.ListN.{length}
 use lib.Seq.{sets}
 use lib.Dec.{ltb, eqb}
 use borrow.Author.Tests.{lt-ltb}
 use Rattle.wire.specs.message.Message.{Record, Message, isResponse}
 use Rattle.wire.specs.message.Layout.{Reads, read, refused, messageAt}
-use Rattle.cache.specs.entries.Entries.{blank, slotOf, isLive, soon, refreshed}
+use Rattle.cache.specs.entries.Entries.{slotOf, isLive, soon, refreshed}
 use Rattle.cache.specs.entries.Cache.{Cache, atStart, isCached, rule1, goodbye, slotFor, taken, renewed, equalSlot, freeSlot, rule23, afterRule1, takeRecord, takeRecords, takeMessage, takeRead, takeRefusal, takeIn}
 use Rattle.cache.specs.declared.entries.Entry.{Entry}
 use Rattle.cache.specs.declared.entries.Slot.{Slot}
 use Rattle.cache.specs.declared.entries.Slot.the-variants.{At, Nowhere}
+use Rattle.cache.specs.laws.Slots.{entryAt}
+use Rattle.cache.specs.laws.Evict.{Stays, NeverEvicted}
 use Rattle.cache.proofs.entries.Shape.{rule1-shape, record-shape}
-use Rattle.cache.proofs.laws.Slots.{entryAt, slot-other}
+use Rattle.cache.proofs.laws.Slots.{slot-other}
 use Rattle.cache.proofs.laws.Steps.{live-soon, rule1-store, rule1-at}
 use Rattle.cache.proofs.laws.Changes.{Change, as-was, aged, again, fresh, change}
 use Rattle.cache.proofs.laws.Flush.{ruled, free-dead}
-
--- the entry of a slot is live still and for the same record: type, lengths, and every byte of its slot
-pub record Stays (now : ℕ) (c d : Cache) (i : ℕ) : Type 0 where
-  pub rtype : entryAt d i .rtype ≡ entryAt c i .rtype
-  pub owner : entryAt d i .owner ≡ entryAt c i .owner
-  pub rdata : entryAt d i .rdata ≡ entryAt c i .rdata
-  pub bytes : slotOf (d .store) i ≡ slotOf (c .store) i
-  pub live : isLive now (entryAt d i) ≡ true
 
 on : (now : ℕ) (c d e : Cache) (i : ℕ) → Stays now c d i → Stays now d e i → Stays now c e i
 on now c d e i a b =
@@ -129,9 +123,7 @@ records-evict-none now (x ∷ xs) c i h l =
     let within : i < length (takeRecord now x c .entries) = omega (arith, record-shape now x c .entries) in
     on now c (takeRecord now x c) (takeRecords now xs (takeRecord now x c)) i a (records-evict-none now xs (takeRecord now x c) i within (a .live))
 
--- No live entry is ever evicted: after the call `take`, whatever its message and whether or not it is refused, each entry that was live is live
--- and for the same record.
-pub never-evicted : (now : ℕ) (es : List Entry) (store : List ℕ) (port : ℕ) (p : List ℕ) (i : ℕ) → i < length es → isLive now (getD es i blank) ≡ true → Stays now (atStart es store) (takeIn now es store port p) i
+pub never-evicted : NeverEvicted
 unfolding takeIn takeMessage
 never-evicted now es store port p i h l = go (eqb (takeRefusal now es store port p) 0) (messageAt p)
   where

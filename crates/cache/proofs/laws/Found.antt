@@ -1,4 +1,4 @@
--- Theorem: a record that was taken is found until its entry expires. Assumes nothing.
+-- Theorem: a record that was taken is found until its entry expires, right after the rules for it. Assumes nothing.
 use mathlib.Core.Path.{_≡_, refl, sym, ap, subst, _∙_}
 use mathlib.Core.List.{List}
 use mathlib.Core.Bool.{true, _&&_}
@@ -14,27 +14,18 @@ use Rattle.wire.proofs.case_folding.Equal.{same-refl}
 use Rattle.wire.specs.expansion.Equal.{sameBytes}
 use Rattle.wire.specs.message.Message.{Record}
 use Rattle.cache.specs.entries.Entries.{blank, rdataIn, isLive, isOf, liveOf, matches, holds, refreshed}
-use Rattle.cache.specs.entries.Cache.{Cache, isCached, rule1, entryFor, slotFor, taken, renewed, equalSlot, freeSlot, rule23, afterRule1, takeRecord, lookIn}
+use Rattle.cache.specs.entries.Cache.{Cache, rule1, entryFor, slotFor, taken, renewed, equalSlot, freeSlot, rule23, afterRule1, lookIn}
 use Rattle.cache.specs.declared.entries.Entry.{Entry}
 use Rattle.cache.specs.declared.entries.Slot.{Slot}
 use Rattle.cache.specs.declared.entries.Slot.the-variants.{At, Nowhere}
+use Rattle.cache.specs.laws.Slots.{entryAt}
+use Rattle.cache.specs.laws.Found.{goesTo, Entered, TakenFound}
 use Rattle.cache.proofs.entries.Searches.{lowest-here, from-slot}
 use Rattle.cache.proofs.entries.Single.{match-from, live-of}
 use Rattle.cache.proofs.entries.Shape.{rule1-shape}
-use Rattle.cache.proofs.laws.Slots.{entryAt, slot-written, owner-back}
+use Rattle.cache.proofs.laws.Slots.{slot-written, owner-back}
 use Rattle.cache.proofs.laws.Steps.{rule1-equal, rule1-free}
 use Rattle.cache.proofs.laws.Flush.{ruled, equal-holds, free-dead, live-first}
-
--- the slot that a record with a TTL goes to: that of the lowest live equal entry, else the lowest that is not live
-abbrev pub goesTo : ℕ → Cache → Slot → Slot
-goesTo now c (At i) = At i
-goesTo now c Nowhere = freeSlot now c
-
--- a record went to slot i of the cache d: its entry is that of now, and a lookup finds it as long as it is live
-pub record Taken (now : ℕ) (x : Record) (i : ℕ) (d : Cache) : Type 0 where
-  pub received : entryAt d i .received ≡ now
-  pub expiry : entryAt d i .expiry ≡ now + 1000 * x .ttl
-  pub found : (t : ℕ) → t < entryAt d i .expiry → lookIn t (d .entries) (d .store) (x .owner) (x .rtype) i ≡ At i
 
 -- a live entry of a name and type is found by a lookup from its slot on
 pub look-here : (t : ℕ) (es : List Entry) (store name : List ℕ) (rtype i : ℕ) → i < length es → isLive t (getD es i blank) ≡ true → isOf store name rtype i (getD es i blank) ≡ true → lookIn t es store name rtype i ≡ At i
@@ -60,7 +51,7 @@ unfolding holds
 holds-of now store name rtype d i e h = live-first now store name rtype i e (both (liveOf now store name rtype i e) (eqb (e .rdata) (length d) && sameBytes (rdataIn store i e) d) .0 h .0) .1
 
 module _ (now : ℕ) (x : Record) (c : Cache) (i : ℕ) (owner : length (x .owner) ≤ 255) (rdata : length (x .rdata) ≤ 768) (slots : 1024 * length (c .entries) ≤ length (c .store)) where
-  of-entry : (d : Cache) (e : Entry) → i < length (d .entries) → entryAt d i ≡ e → e .received ≡ now → e .expiry ≡ now + 1000 * x .ttl → isOf (d .store) (x .owner) (x .rtype) i e ≡ true → Taken now x i d
+  of-entry : (d : Cache) (e : Entry) → i < length (d .entries) → entryAt d i ≡ e → e .received ≡ now → e .expiry ≡ now + 1000 * x .ttl → isOf (d .store) (x .owner) (x .rtype) i e ≡ true → Entered now x i d
   of-entry d e h k r y o =
       record {
         received = ap (λ (z : Entry). z .received) k ∙ r;
@@ -68,37 +59,35 @@ module _ (now : ℕ) (x : Record) (c : Cache) (i : ℕ) (owner : length (x .owne
         found = λ t l. look-here t (d .entries) (d .store) (x .owner) (x .rtype) i h (lt-ltb t (entryAt d i .expiry) l) (ap (isOf (d .store) (x .owner) (x .rtype) i) k ∙ o);
       }
 
-  of-taken : (s : Slot) → freeSlot now c ≡ s → s ≡ At i → Taken now x i (taken now x c s)
+  of-taken : (s : Slot) → freeSlot now c ≡ s → s ≡ At i → Entered now x i (taken now x c s)
   of-taken (At j) f e =
       let same : j ≡ i = cc in
       let h : i < length (c .entries) = free-dead now c i (f ∙ e) .0 in
-      let at-i : Taken now x i (taken now x c (At i)) =
+      let at-i : Entered now x i (taken now x c (At i)) =
       of-entry (taken now x c (At i)) (entryFor now x) (omega (arith, length-set (c .entries) i (entryFor now x))) (getD-set-same (c .entries) i (entryFor now x) blank h) refl refl
       (of-fresh now x (c .store) i owner rdata (omega arith)) in
-      subst (λ (k : ℕ). Taken now x i (taken now x c (At k))) (sym same) at-i
+      subst (λ (k : ℕ). Entered now x i (taken now x c (At k))) (sym same) at-i
   of-taken Nowhere f e = let z : _≡_ {A = ℕ} 0 1 = cc in absurd (omega arith)
 
-  of-renewed : (s : Slot) → equalSlot now x c ≡ s → goesTo now c s ≡ At i → Taken now x i (renewed now x c s)
+  of-renewed : (s : Slot) → equalSlot now x c ≡ s → goesTo now c s ≡ At i → Entered now x i (renewed now x c s)
   of-renewed (At j) f e =
       let same : j ≡ i = cc in
       let k = equal-holds now x c i (f ∙ e) in
-      let at-i : Taken now x i (renewed now x c (At i)) =
+      let at-i : Entered now x i (renewed now x c (At i)) =
       of-entry (renewed now x c (At i)) (refreshed now (x .ttl) (entryAt c i)) (omega (arith, length-set (c .entries) i (refreshed now (x .ttl) (entryAt c i)), k .0))
       (getD-set-same (c .entries) i (refreshed now (x .ttl) (entryAt c i)) blank (k .0)) refl refl
       (of-again now (x .ttl) (c .store) (x .owner) (x .rtype) i (entryAt c i) ∙ holds-of now (c .store) (x .owner) (x .rtype) (x .rdata) i (entryAt c i) (k .1)) in
-      subst (λ (m : ℕ). Taken now x i (renewed now x c (At m))) (sym same) at-i
+      subst (λ (m : ℕ). Entered now x i (renewed now x c (At m))) (sym same) at-i
   of-renewed Nowhere f e = of-taken (freeSlot now c) refl e
 
--- A record that is taken is found by a lookup from its slot on until its entry expires, 1,000 times TTL after now.
-pub taken-found : (now : ℕ) (x : Record) (c : Cache) (i : ℕ) → length (x .owner) ≤ 255 → length (x .rdata) ≤ 768 → 1024 * length (c .entries) ≤ length (c .store) → isCached (x .class) (x .rtype) ≡ true → (x .ttl ≡ 0 → ⊥)
-    → goesTo now c (equalSlot now x c) ≡ At i → Taken now x i (takeRecord now x c)
+pub taken-found : TakenFound
 unfolding afterRule1 rule23
 taken-found now x c i owner rdata slots cached z k =
     let c₁ = rule1 now x c in
     let room : 1024 * length (c₁ .entries) ≤ length (c₁ .store) = omega (arith, rule1-shape now x c .entries, rule1-shape now x c .store) in
     let after : afterRule1 now x c₁ ≡ renewed now x c₁ (equalSlot now x c₁) = simp (le-ltb _ _ rdata, ne-eqb _ _ z) in
     let goes : goesTo now c₁ (equalSlot now x c₁) ≡ At i = ap (goesTo now c₁) (rule1-equal now x c) ∙ same (equalSlot now x c) ∙ k in
-    subst (Taken now x i) (sym (ruled now x c cached ∙ after)) (of-renewed now x c₁ i owner rdata room (equalSlot now x c₁) refl goes)
+    subst (Entered now x i) (sym (ruled now x c cached ∙ after)) (of-renewed now x c₁ i owner rdata room (equalSlot now x c₁) refl goes)
   where
     same : (s : Slot) → goesTo now (rule1 now x c) s ≡ goesTo now c s
     same (At j) = refl

@@ -1,4 +1,4 @@
--- Lemmas on slots of the store and on single entries of a table. Assumes nothing.
+-- Theorems on the slot of a record, and lemmas on slots of the store and on single entries of a table. Assumes nothing.
 use mathlib.Core.Path.{_≡_, refl, sym, ap, _∙_}
 use mathlib.Core.List.{List, [], _∷_, _++_, append-assoc}
 use mathlib.Core.Bool.{Bool, true, false, cond}
@@ -14,13 +14,10 @@ use Rattle.wire.proofs.octets.Sets.{drop-replicate}
 use Rattle.wire.specs.message.Message.{Record}
 use Rattle.cache.specs.entries.Entries.{blank, slotOf}
 use Rattle.cache.specs.entries.Tables.{lowest, each}
-use Rattle.cache.specs.entries.Cache.{Cache, slotFor}
+use Rattle.cache.specs.entries.Cache.{slotFor}
 use Rattle.cache.specs.declared.entries.Entry.{Entry}
 use Rattle.cache.specs.declared.entries.Slot.the-variants.{At}
-
--- the entry in a slot
-abbrev pub entryAt : Cache → ℕ → Entry
-entryAt c i = getD (c .entries) i blank
+use Rattle.cache.specs.laws.Slots.{OwnerBack, RdataBack, UnusedOwner, UnusedRdata}
 
 -- ---- bytes
 
@@ -65,31 +62,30 @@ take-replicate zero m h = refl
 take-replicate (suc k) zero h = absurd (omega arith)
 take-replicate (suc k) (suc m) h = ap (λ (l : List ℕ). 0 ∷ l) (take-replicate k m (omega arith))
 
--- "256 bytes owner, 768 rdata, .. unused bytes 0"
-module _ (x : Record) (short : length (x .owner) ≤ 256) (fits : length (x .rdata) ≤ 768) where
-  pub owner-back : take (length (x .owner)) (slotFor x) ≡ x .owner
-  owner-back =
-      part-sets (sets (replicate 1024 0) 0 (x .owner)) 256 (x .rdata) 0 (length (x .owner)) (inr (omega arith))
-      ∙ read-back (replicate 1024 0) 0 (x .owner) (omega (arith, length-replicate {A = ℕ} 1024 0))
+-- the slot of a record
+pub owner-back : OwnerBack
+owner-back x short fits =
+    part-sets (sets (replicate 1024 0) 0 (x .owner)) 256 (x .rdata) 0 (length (x .owner)) (inr (omega arith))
+    ∙ read-back (replicate 1024 0) 0 (x .owner) (omega (arith, length-replicate {A = ℕ} 1024 0))
 
-  pub rdata-back : take (length (x .rdata)) (drop 256 (slotFor x)) ≡ x .rdata
-  rdata-back =
-      let n : length (sets (replicate 1024 0) 0 (x .owner)) ≡ 1024 = length-sets (replicate 1024 0) 0 (x .owner) ∙ length-replicate {A = ℕ} 1024 0 in
-      read-back (sets (replicate 1024 0) 0 (x .owner)) 256 (x .rdata) (omega (arith, n))
+pub rdata-back : RdataBack
+rdata-back x short fits =
+    let n : length (sets (replicate 1024 0) 0 (x .owner)) ≡ 1024 = length-sets (replicate 1024 0) 0 (x .owner) ∙ length-replicate {A = ℕ} 1024 0 in
+    read-back (sets (replicate 1024 0) 0 (x .owner)) 256 (x .rdata) (omega (arith, n))
 
-  pub unused-owner : take (256 - length (x .owner)) (drop (length (x .owner)) (slotFor x)) ≡ replicate (256 - length (x .owner)) 0
-  unused-owner =
-      let o = length (x .owner) in
-      part-sets (sets (replicate 1024 0) 0 (x .owner)) 256 (x .rdata) o (256 - o) (inr (omega arith))
-      ∙ part-sets (replicate 1024 0) 0 (x .owner) o (256 - o) (inl (omega arith))
-      ∙ ap (take (256 - o)) (drop-replicate o 1024 0) ∙ take-replicate (256 - o) (1024 - o) (omega arith)
+pub unused-owner : UnusedOwner
+unused-owner x short fits =
+    let o = length (x .owner) in
+    part-sets (sets (replicate 1024 0) 0 (x .owner)) 256 (x .rdata) o (256 - o) (inr (omega arith))
+    ∙ part-sets (replicate 1024 0) 0 (x .owner) o (256 - o) (inl (omega arith))
+    ∙ ap (take (256 - o)) (drop-replicate o 1024 0) ∙ take-replicate (256 - o) (1024 - o) (omega arith)
 
-  pub unused-rdata : take (768 - length (x .rdata)) (drop (256 + length (x .rdata)) (slotFor x)) ≡ replicate (768 - length (x .rdata)) 0
-  unused-rdata =
-      let d = length (x .rdata) in
-      part-sets (sets (replicate 1024 0) 0 (x .owner)) 256 (x .rdata) (256 + d) (768 - d) (inl (omega arith))
-      ∙ part-sets (replicate 1024 0) 0 (x .owner) (256 + d) (768 - d) (inl (omega arith))
-      ∙ ap (take (768 - d)) (drop-replicate (256 + d) 1024 0) ∙ take-replicate (768 - d) (1024 - (256 + d)) (omega arith)
+pub unused-rdata : UnusedRdata
+unused-rdata x short fits =
+    let d = length (x .rdata) in
+    part-sets (sets (replicate 1024 0) 0 (x .owner)) 256 (x .rdata) (256 + d) (768 - d) (inl (omega arith))
+    ∙ part-sets (replicate 1024 0) 0 (x .owner) (256 + d) (768 - d) (inl (omega arith))
+    ∙ ap (take (768 - d)) (drop-replicate (256 + d) 1024 0) ∙ take-replicate (768 - d) (1024 - (256 + d)) (omega arith)
 
 -- ---- entries
 

@@ -15,7 +15,8 @@ use Rattle.cache.specs.entries.Entries.{blank, ownerIn, rdataIn, isLive,
 use Rattle.cache.specs.entries.Tables.{each}
 use Rattle.cache.specs.entries.Cache.{Cache, withEntries, rule1, equalSlot, freeSlot}
 use Rattle.cache.specs.declared.entries.Entry.{Entry}
-use Rattle.cache.proofs.laws.Slots.{entryAt, at-each, lowest-each}
+use Rattle.cache.specs.laws.Slots.{entryAt}
+use Rattle.cache.proofs.laws.Slots.{at-each, lowest-each}
 
 -- ---- "the lesser of itself and now plus 1,000"
 pub soon-by : (now : ℕ) (e : Entry) → soon now e .expiry ≤ now + 1000

@@ -1,8 +1,8 @@
 -- Theorem: a record that was taken is found after the whole message, until its entry expires. Assumes nothing.
 use mathlib.Core.Path.{_≡_, sym, ap, subst, _∙_}
-use mathlib.Core.List.{List, _∷_, _++_}
+use mathlib.Core.List.{List, _∷_}
 use mathlib.Core.Bool.{true, _&&_}
-use Prim.Native.Nat.{ℕ, _+_, _*_, _<_, _≤_}
+use Prim.Native.Nat.{ℕ, _<_}
 use native.Mathlib.Omega.{arith}
 use lib.ListN.{length, take}
 use lib.Dec.{leb, eqb}
@@ -10,20 +10,17 @@ use borrow.Author.Tests.{lt-ltb, ltb-true}
 use mathlib.Mathlib.Data.Bool.Basic.{and-eq-true-eq-eq-true-and-eq-true as both}
 use Rattle.wire.specs.case_folding.Fold.{sameName}
 use Rattle.wire.specs.message.Message.{Record}
-use Rattle.cache.specs.entries.Entries.{isLive, isOf, liveOf, matches}
-use Rattle.cache.specs.entries.Cache.{Cache, isCached, equalSlot, takeRecord, takeRecords, lookIn}
+use Rattle.cache.specs.entries.Entries.{isOf, liveOf, matches}
+use Rattle.cache.specs.entries.Cache.{Cache, takeRecord, takeRecords, lookIn}
 use Rattle.cache.specs.declared.entries.Slot.the-variants.{At}
+use Rattle.cache.specs.laws.Slots.{entryAt}
+use Rattle.cache.specs.laws.Found.{Entered, Remains, FoundAfter}
+use Rattle.cache.specs.laws.Evict.{Stays}
 use Rattle.cache.proofs.entries.Searches.{found-at}
 use Rattle.cache.proofs.entries.Shape.{records-append, records-shape}
-use Rattle.cache.proofs.laws.Slots.{entryAt}
 use Rattle.cache.proofs.laws.Flush.{live-first}
-use Rattle.cache.proofs.laws.Found.{goesTo, Taken, look-here, taken-found}
-use Rattle.cache.proofs.laws.Evict.{Stays, still, records-evict-none}
-
--- slot i of a cache has a live entry, which a lookup of a record's name and type from that slot on finds until it expires
-pub record Kept (now : ℕ) (x : Record) (i : ℕ) (d : Cache) : Type 0 where
-  pub live : now < entryAt d i .expiry
-  pub found : (t : ℕ) → t < entryAt d i .expiry → lookIn t (d .entries) (d .store) (x .owner) (x .rtype) i ≡ At i
+use Rattle.cache.proofs.laws.Found.{look-here, taken-found}
+use Rattle.cache.proofs.laws.Evict.{still, records-evict-none}
 
 -- what a lookup finds is of the name and type that it looks for
 of-found : (t : ℕ) (d : Cache) (name : List ℕ) (rtype i : ℕ) → lookIn t (d .entries) (d .store) name rtype i ≡ At i → (i < length (d .entries)) × (isOf (d .store) name rtype i (entryAt d i) ≡ true)
@@ -39,7 +36,7 @@ of-stays now c d name rtype i s =
     λ j. eqb (s .rtype j) rtype && (eqb (s .owner j) (length name) && sameName (take (s .owner j) (s .bytes j)) name)
 
 -- the records after the one that was taken
-after : (now : ℕ) (x : Record) (xs : List Record) (i : ℕ) (d : Cache) → (x .ttl ≡ 0 → ⊥) → Taken now x i d → Kept now x i (takeRecords now xs d)
+after : (now : ℕ) (x : Record) (xs : List Record) (i : ℕ) (d : Cache) → (x .ttl ≡ 0 → ⊥) → Entered now x i d → Remains now x i (takeRecords now xs d)
 after now x xs i d z k =
     let later : now < entryAt d i .expiry = omega (arith, still now (x .ttl) z, k .expiry) in
     let o = of-found now d (x .owner) (x .rtype) i (k .found now later) in
@@ -52,12 +49,8 @@ after now x xs i d z k =
       found = λ t l. look-here t (e .entries) (e .store) (x .owner) (x .rtype) i within (lt-ltb t (entryAt e i .expiry) l) is;
     }
 
--- A record that is taken is live after the whole message, and found by a lookup from its slot on until its entry expires. Later records of the
--- message may give that entry another expiry, as an equal record or a goodbye does; none takes its slot.
-pub found-after : (now : ℕ) (before : List Record) (x : Record) (later : List Record) (c₀ : Cache) (i : ℕ) → (c : Cache) → c ≡ takeRecords now before c₀
-    → length (x .owner) ≤ 255 → length (x .rdata) ≤ 768 → 1024 * length (c .entries) ≤ length (c .store) → isCached (x .class) (x .rtype) ≡ true → (x .ttl ≡ 0 → ⊥)
-    → goesTo now c (equalSlot now x c) ≡ At i → Kept now x i (takeRecords now (before ++ (x ∷ later)) c₀)
+pub found-after : FoundAfter
 unfolding takeRecords
 found-after now before x later c₀ i c e owner rdata slots cached z k =
-    subst (Kept now x i) (sym (records-append now before (x ∷ later) c₀ ∙ ap (λ (d : Cache). takeRecords now later (takeRecord now x d)) (sym e)))
+    subst (Remains now x i) (sym (records-append now before (x ∷ later) c₀ ∙ ap (λ (d : Cache). takeRecords now later (takeRecord now x d)) (sym e)))
     (after now x later i (takeRecord now x c) z (taken-found now x c i owner rdata slots cached z k))

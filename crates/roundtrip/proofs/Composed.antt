@@ -1,11 +1,9 @@
--- The specification's sentence on compression for a whole packet: "Every name, SRV and PTR rdata too, is cut at its longest suffix of whole labels that stands earlier
--- byte for byte in a name of the packet (..), pointers there followed, and points to the smallest such offset; the root alone is never pointed to."
--- `composed` says it of every message that can be written. Assumes nothing.
+-- Every name of a written packet is cut as the specification's sentence says. Assumes nothing.
 use Prim.Native.Nat.{ℕ, _+_, _≤_}
 use native.Mathlib.Nat.{add-zero}
 use mathlib.Core.Path.{_≡_, refl, sym, ap, subst, _∙_}
-use mathlib.Core.List.{List, [], _∷_, _++_, append-assoc, append-nil}
-use mathlib.Core.Bool.{Bool, true, false, cond, _||_}
+use mathlib.Core.List.{List, [], _++_, append-assoc, append-nil}
+use mathlib.Core.Bool.{true, false}
 use native.Mathlib.Omega.{arith}
 use borrow.Author.Tests.{ne-eqb}
 use lib.ListN.{length, take, drop, length-append}
@@ -16,27 +14,15 @@ use Rattle.wire.proofs.labels.Encoded.{made-of}
 use Rattle.wire.specs.rdata.Answers.{targetIn}
 use Rattle.wire.specs.expansion.Opened.{namesIn}
 use Rattle.writer.specs.compression.Compression.{nameBytes, namePlaces}
-use Rattle.writer.specs.compression.Sentence.{Rising, empty, Cuts}
+use Rattle.writer.specs.compression.Sentence.{empty}
 use Rattle.writer.proofs.compression.AsSaid.{is-cut}
-use Rattle.wire.specs.message.Message.{Question, Record, Message}
-use Rattle.writer.specs.Items.{Writing, u16, fields, dataBytes, dataPlaces, putBytes, putName, putFields, putRecord, putQuestion}
-use Rattle.writer.specs.own_packets.Packets.{putAll, header, written}
-use Rattle.roundtrip.specs.Shapes.{Shaped, four, target, strings, sixteen, server, other, IsRecord, IsQuestion, Each, none, one, Writable}
-use Rattle.roundtrip.specs.Items.{Sound, name-sound, record-sound, question-sound}
-
--- A packet under construction in which every name is cut as the sentence says, by the names that stand before it; its places are the labels of those
--- names, each where it stands, and nothing else.
-pub data Composed : Writing → Type 0 where
-  -- the header
-  headed : (bs : List ℕ) → Composed (record { bytes = bs; places = [] })
-  -- bytes in which no name stands: numbers, addresses, strings
-  plain : {w : Writing} (bs : List ℕ) → Composed w → Composed (putBytes w bs)
-  -- a name, behind such bytes: it is cut by what stands before them, and the labels that it has in place are noted
-  named :
-      {w : Writing} (front : List ℕ) (ls : List (List ℕ)) (bs ps : List ℕ)
-      → Composed w
-      → Cuts (w .bytes) (w .places) (length (w .bytes) + length front) ls bs ps
-      → Composed (record { bytes = w .bytes ++ (front ++ bs); places = w .places ++ ps })
+use Rattle.wire.specs.message.Message.{Question, Record}
+use Rattle.writer.specs.Items.{Writing, u16, fields, dataBytes, dataPlaces, putName, putFields, putRecord, putQuestion}
+use Rattle.writer.specs.own_packets.Packets.{putAll, header}
+use Rattle.roundtrip.specs.Writable.{Shaped, four, target, strings, sixteen, server, other, IsRecord, IsQuestion, Each, none, one}
+use Rattle.roundtrip.specs.Composed.{Composed, headed, plain, named}
+use Rattle.roundtrip.specs.Statements.{MessageComposed}
+use Rattle.roundtrip.proofs.Sound.{Sound, name-sound, record-sound, question-sound}
 
 -- ---- a name
 
@@ -142,7 +128,7 @@ module _ {A : Type 0} (put : Writing → A → Writing) (Ok : A → Type 0)
   all none w s c = (s, c)
   all (one {x} {xs} ok rest) w s c = all rest (put w x) (keeps w s x ok) (step w s c x ok)
 
-pub composed : (m : Message) → Writable m → Composed (written m)
+pub composed : MessageComposed
 composed m ok =
     let start : Sound (header m) = (let g : 12 ≤ 12 = omega arith in empty g) in
     let a = all putQuestion IsQuestion question-sound put-question (ok .questions) (header m) start (headed _) in

@@ -1,22 +1,23 @@
 -- The round trip of a whole message: the packet that is written for it is read as it, whatever bytes follow. Assumes nothing.
-use Prim.Native.Nat.{ℕ, zero, suc, _+_, _*_, _/_, _%_, _<_, _≤_}
-use mathlib.Core.Path.{_≡_, refl, sym, ap, ap₂, _∙_}
-use mathlib.Core.List.{List, [], _∷_, _++_, append-assoc, append-nil}
-use mathlib.Core.Bool.{Bool, true, false, cond, _&&_, _||_}
+use Prim.Native.Nat.{ℕ, _+_, _/_, _%_, _≤_}
+use mathlib.Core.Path.{_≡_, refl, ap, _∙_}
+use mathlib.Core.List.{List, _++_, append-assoc}
+use mathlib.Core.Bool.{true}
 use native.Mathlib.Omega.{arith}
-use borrow.Author.Tests.{le-leb, le-ltb, lt-leb, eq-eqb, ne-eqb}
-use lib.ListN.{length, getD, take, drop, length-append}
-use lib.Dec.{eqb, ltb, leb}
-use Rattle.wire.specs.octets.Octets.{byteAt, word16, word32}
-use Rattle.writer.specs.compression.Sentence.{Rising, empty, next}
-use Rattle.wire.specs.message.Message.{Question, Record, Message}
-use Rattle.wire.specs.message.Layout.{questionAt, recordAt, Listing, listing, listFrom, Reads, read, refused, plainHeader, additionalsOf, authoritiesOf, answersOf, questionsOf, messageAt}
-use Rattle.wire.specs.declared.message.Section.{Section}
-use Rattle.wire.specs.declared.message.Layout.{Layout}
-use Rattle.writer.specs.Items.{Writing, u16, putRecord, putQuestion}
+use borrow.Author.Tests.{le-ltb}
+use lib.ListN.{length, getD, length-append}
+use Rattle.wire.specs.octets.Octets.{word16}
+use Rattle.writer.specs.compression.Sentence.{empty}
+use Rattle.wire.specs.message.Message.{Question, Record}
+use Rattle.wire.specs.message.Layout.{questionAt, recordAt, listing, listFrom, read, plainHeader, additionalsOf, authoritiesOf, answersOf, questionsOf, messageAt}
+use Rattle.writer.specs.Items.{Writing, putRecord, putQuestion}
 use Rattle.writer.specs.own_packets.Packets.{putAll, header, packetOf}
-use Rattle.roundtrip.specs.Shapes.{IsRecord, IsQuestion, Each, none, one, Writable, layoutOf}
-use Rattle.roundtrip.specs.Items.{Sound, record-back, record-sound, record-more, question-back, question-sound, question-more, More, all-sound, all-more, all-back}
+use Rattle.roundtrip.specs.Writable.{IsRecord, IsQuestion}
+use Rattle.roundtrip.specs.Statements.{MessageBack}
+use Rattle.roundtrip.proofs.Sound.{Sound, record-sound, question-sound}
+use Rattle.roundtrip.proofs.Records.{record-back}
+use Rattle.roundtrip.proofs.Questions.{question-back}
+use Rattle.roundtrip.proofs.Lists.{More, record-more, question-more, all-sound, all-more, all-back}
 
 -- a message from its sections
 sections : (P : List ℕ) (i f nq na nn nr : ℕ) (qs : List Question) (an ns ar : List Record) (a b c d : ℕ) → 12 ≤ length P → length P ≤ 8972 → plainHeader f ≡ true
@@ -51,9 +52,7 @@ sections P i f nq na nn nr qs an ns ar a b c d long most plain ei ef eq ea en er
       end = d;
     }) (record { id = ei j; flags = ef j; questions = qs; answers = an; authorities = ns; additionals = ar }))
 
--- The round trip: a message that can be written, in a packet of at most 8,972 bytes, is read back whole: the header, each question and each record in
--- its section, in order, every name and every rdata byte for byte, and the end of the packet.
-pub message-back : (m : Message) → Writable m → (post : List ℕ) → length (packetOf m ++ post) ≤ 8972 → messageAt (packetOf m ++ post) ≡ read (layoutOf m) m
+pub message-back : MessageBack
 unfolding packetOf
 message-back m ok post most =
     sections P (m .id) (m .flags) (length (m .questions)) (length (m .answers)) (length (m .authorities)) (length (m .additionals)) (m .questions) (m .answers) (m .authorities) (m .additionals)

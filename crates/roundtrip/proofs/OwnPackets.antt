@@ -1,31 +1,30 @@
--- The round trip of own packets: for every set-up that keeps the rules, a response of any records that it has, and a claim's probe, are read as exactly
--- those records, in order, names and rdata byte for byte; and they are at most 1,009 bytes long. Assumes nothing.
-use Prim.Native.Nat.{ℕ, zero, suc, _+_, _<_, _≤_}
-use mathlib.Core.Path.{_≡_, refl, sym, ap, ap₂, _∙_}
-use mathlib.Core.List.{List, [], _∷_, _++_, append-nil, map}
-use mathlib.Core.Bool.{Bool, true, false, cond, _&&_, _||_}
+-- The theorems on own packets: an own record can be written, and what it takes is bounded; the rest is the general theorems. Assumes nothing.
+use Prim.Native.Nat.{ℕ, _+_, _<_, _≤_}
+use mathlib.Core.Path.{_≡_, refl, sym, ap, _∙_}
+use mathlib.Core.List.{List, [], _∷_, append-nil, map}
+use mathlib.Core.Bool.{Bool, true, false, cond, _||_}
 use native.Mathlib.Omega.{arith}
-use lib.ListN.{length, drop, take, length-append}
-use lib.Dec.{eqb, leb}
+use lib.ListN.{length, take}
+use lib.Dec.{eqb}
 use Rattle.wire.proofs.labels.Encoded.{is-name}
 use Rattle.wire.specs.labels.Labels.{encode}
-use Rattle.wire.specs.message.Message.{Question, Record, Message}
-use Rattle.wire.specs.message.Layout.{Reads, read, messageAt}
+use Rattle.wire.specs.message.Layout.{messageAt}
 use Rattle.own.specs.declared.records.Setup.{Setup}
 use Rattle.own.specs.declared.records.Claim.{Claim}
-use Rattle.own.specs.records.Setups.{validSetup, instanceLabels, hostLabels}
+use Rattle.own.specs.records.Setups.{instanceLabels}
 use Rattle.own.specs.records.Records.{ownName, ownType, ownTtl, ownRdata, srvRdata}
 use Rattle.own.proofs.records.Valid.{Valid, valid, instance-name, host-name, own-is-name}
 use Rattle.writer.specs.Items.{Writing, putRecord, putQuestion}
-use Rattle.writer.specs.own_packets.Packets.{header, putAll, packetOf, written}
+use Rattle.writer.specs.own_packets.Packets.{header, putAll, packetOf}
 use Rattle.writer.specs.own_packets.Own.{ownRecord, responseRecords, probeRecords, claimIndex, responseOf, probeOf, noneIfEmpty, responsePacket, probePacket}
-use Rattle.writer.specs.own_packets.Ready.{sizes, sizeOf}
+use Rattle.writer.specs.own_packets.Ready.{sizes}
 use Rattle.writer.proofs.Use.{question-size, record-size}
 use Rattle.writer.proofs.own_packets.Owned.{own-names}
 use Rattle.writer.proofs.own_packets.Room.{response-size, probe-size, claim-size}
-use Rattle.roundtrip.specs.Shapes.{Shaped, four, target, strings, sixteen, server, IsRecord, IsQuestion, Each, none, one, Writable, layoutOf}
-use Rattle.roundtrip.specs.Sentence.{Composed, composed}
-use Rattle.roundtrip.specs.Whole.{message-back}
+use Rattle.roundtrip.specs.Writable.{Shaped, four, target, strings, sixteen, server, IsRecord, Each, none, one, Writable}
+use Rattle.roundtrip.specs.Statements.{ResponseBack, ProbeBack, PacketsFit, OwnComposed}
+use Rattle.roundtrip.proofs.Composed.{composed}
+use Rattle.roundtrip.proofs.Whole.{message-back}
 
 module _ (s : Setup) (ok : Valid s) where
   -- an own record can be written
@@ -86,8 +85,7 @@ some : (is : List ℕ) (packet : List ℕ) → (is ≡ [] → ⊥) → noneIfEmp
 some [] packet h = absurd (h refl)
 some (i ∷ is) packet h = refl
 
--- "All five always fit in 1,452 bytes": any response and any probe is at most 1,009 bytes long.
-pub packets-fit : (s : Setup) → validSetup s ≡ true → (chosen : List Bool) (claim : Claim) → (length (responsePacket s chosen) ≤ 1009) × (length (probePacket s claim) ≤ 1009)
+pub packets-fit : PacketsFit
 unfolding responsePacket probePacket
 packets-fit s h chosen claim = (go (responseRecords s chosen), probe-long s (valid s h) claim)
   where
@@ -95,22 +93,18 @@ packets-fit s h chosen claim = (go (responseRecords s chosen), probe-long s (val
     go [] = omega arith
     go (i ∷ is) = response-long s (valid s h) chosen
 
--- The round trip of a response: reading it gives the message, with exactly the chosen records.
-pub response-back : (s : Setup) → validSetup s ≡ true → (chosen : List Bool) → (responseRecords s chosen ≡ [] → ⊥)
-    → messageAt (responsePacket s chosen) ≡ read (layoutOf (responseOf s chosen)) (responseOf s chosen)
+pub response-back : ResponseBack
 unfolding responsePacket
 response-back s h chosen nz =
     ap messageAt (some (responseRecords s chosen) (packetOf (responseOf s chosen)) nz ∙ sym (append-nil (packetOf (responseOf s chosen))))
     ∙ message-back (responseOf s chosen) (response-writable s (valid s h) chosen) [] (omega (arith, response-long s (valid s h) chosen, ap length (append-nil (packetOf (responseOf s chosen)))))
 
--- The round trip of a probe: its question, and the claim's records in Authority.
-pub probe-back : (s : Setup) → validSetup s ≡ true → (claim : Claim) → messageAt (probePacket s claim) ≡ read (layoutOf (probeOf s claim)) (probeOf s claim)
+pub probe-back : ProbeBack
 unfolding probePacket
 probe-back s h claim =
     ap messageAt (sym (append-nil (packetOf (probeOf s claim))))
     ∙ message-back (probeOf s claim) (probe-writable s (valid s h) claim) [] (omega (arith, probe-long s (valid s h) claim, ap length (append-nil (packetOf (probeOf s claim)))))
 
--- Every name of an own packet is cut as the specification's sentence says.
-pub own-composed : (s : Setup) → validSetup s ≡ true → (chosen : List Bool) (claim : Claim) → Composed (written (responseOf s chosen)) × Composed (written (probeOf s claim))
+pub own-composed : OwnComposed
 own-composed s h chosen claim =
     (composed (responseOf s chosen) (response-writable s (valid s h) chosen), composed (probeOf s claim) (probe-writable s (valid s h) claim))

@@ -1,18 +1,20 @@
--- Messages that can be written: names that are names, rdata as its type asks, TTLs without the top bit. Assumes nothing: these are definitions.
+-- Messages that can be written (specification, 'Reading a message'): names that are names, rdata as its type asks, TTLs without the top bit; and where
+-- their parts lie in the packet. Assumes nothing: these are definitions.
 use Prim.Native.Nat.{ℕ, _<_, _≤_}
 use mathlib.Core.Path.{_≡_}
 use mathlib.Core.List.{List, [], _∷_}
-use mathlib.Core.Bool.{Bool, true}
+use mathlib.Core.Bool.{true}
 use lib.ListN.{length, drop}
 use Rattle.wire.specs.names.Names.{isName}
 use Rattle.wire.specs.rdata.Rdata.{stringsFill}
 use Rattle.wire.specs.message.Message.{Question, Record, Message}
 use Rattle.wire.specs.message.Layout.{plainHeader}
 use Rattle.wire.specs.declared.message.Layout.{Layout}
-use Rattle.writer.specs.Items.{putQuestion, putRecord}
+use Rattle.writer.specs.Items.{Writing, putQuestion, putRecord}
 use Rattle.writer.specs.own_packets.Packets.{header, putAll, packetOf}
 
--- rdata as its type asks (1 A, 12 PTR, 16 TXT, 28 AAAA, 33 SRV)
+-- rdata as its type asks (1 A, 12 PTR, 16 TXT, 28 AAAA, 33 SRV): "A needs 4 bytes, AAAA 16. PTR is one name, SRV is 6 bytes and one name, .. TXT
+-- strings fill the rdata exactly"
 pub data Shaped : ℕ → List ℕ → Type 0 where
   four : {k : ℕ} {d : List ℕ} → k ≡ 1 → length d ≡ 4 → Shaped k d
   target : {k : ℕ} {d : List ℕ} → k ≡ 12 → isName d ≡ true → Shaped k d
@@ -21,6 +23,7 @@ pub data Shaped : ℕ → List ℕ → Type 0 where
   server : {k : ℕ} {d : List ℕ} → k ≡ 33 → 6 ≤ length d → isName (drop 6 d) ≡ true → Shaped k d
   other : {k : ℕ} {d : List ℕ} → (k ≡ 1 → ⊥) → (k ≡ 12 → ⊥) → (k ≡ 16 → ⊥) → (k ≡ 28 → ⊥) → (k ≡ 33 → ⊥) → Shaped k d
 
+-- "A TTL with its top bit set counts as 0": such a one is not read back
 pub record IsRecord (r : Record) : Type 0 where
   pub owned : isName (r .owner) ≡ true
   pub shaped : Shaped (r .rtype) (r .rdata)
@@ -41,17 +44,24 @@ pub record Writable (m : Message) : Type 0 where
   pub authorities : Each IsRecord (m .authorities)
   pub additionals : Each IsRecord (m .additionals)
 
+-- the packet up to the end of each section
+abbrev pub toQuestions : Message → Writing
+toQuestions m = putAll putQuestion (header m) (m .questions)
+
+abbrev pub toAnswers : Message → Writing
+toAnswers m = putAll putRecord (toQuestions m) (m .answers)
+
+abbrev pub toAuthorities : Message → Writing
+toAuthorities m = putAll putRecord (toAnswers m) (m .authorities)
+
 -- where the parts of a message lie in its packet
 abbrev pub layoutOf : Message → Layout
 layoutOf m = record {
   id = m .id;
   flags = m .flags;
   questions = record { at = 12; count = length (m .questions) };
-  answers = record { at = length (putAll putQuestion (header m) (m .questions) .bytes); count = length (m .answers) };
-  authorities = record { at = length (putAll putRecord (putAll putQuestion (header m) (m .questions)) (m .answers) .bytes); count = length (m .authorities) };
-  additionals = record {
-    at = length (putAll putRecord (putAll putRecord (putAll putQuestion (header m) (m .questions)) (m .answers)) (m .authorities) .bytes);
-    count = length (m .additionals);
-  };
+  answers = record { at = length (toQuestions m .bytes); count = length (m .answers) };
+  authorities = record { at = length (toAnswers m .bytes); count = length (m .authorities) };
+  additionals = record { at = length (toAuthorities m .bytes); count = length (m .additionals) };
   end = length (packetOf m);
 }

@@ -1,23 +1,20 @@
 -- Names, numbers and rdata are read back. Assumes nothing.
-use Prim.Native.Nat.{ℕ, zero, suc, _+_, _*_, _/_, _%_, _<_, _≤_}
-use mathlib.Core.Path.{_≡_, refl, sym, ap, ap₂, _∙_}
-use mathlib.Core.List.{List, [], _∷_, _++_, append-assoc, append-nil}
-use mathlib.Core.Bool.{Bool, true, false, cond, _&&_, _||_}
+use Prim.Native.Nat.{ℕ, _+_, _/_, _%_, _≤_}
+use mathlib.Core.Path.{_≡_, refl, sym, ap, _∙_}
+use mathlib.Core.List.{List, [], _++_, append-assoc}
+use mathlib.Core.Bool.{true}
 use native.Mathlib.Omega.{arith}
-use borrow.Author.Tests.{le-leb, lt-leb, eq-eqb, ne-eqb}
-use lib.ListN.{length, getD, take, drop, length-append, length-drop, take-append-drop}
+use borrow.Author.Tests.{le-leb, eq-eqb, ne-eqb}
+use lib.ListN.{length, getD, take, drop, length-append, take-append-drop}
 use lib.Seq.{take-at, drop-at, drop-drop, getD-drop, length-take-le}
-use lib.Dec.{eqb, ltb, leb}
-use Rattle.wire.specs.octets.Octets.{byteAt, word16, word32}
-use Rattle.wire.specs.names.Names.{Reading, name, malformed, nameAt, isName}
-use Rattle.wire.specs.rdata.Rdata.{Rdata, rdata, unfit, stringsFill, asItLies, endingName, rdataIn, rdataAt}
-use Rattle.wire.specs.rdata.Answers.{targetIn}
-use Rattle.wire.specs.expansion.Opened.{namesIn}
-use Rattle.writer.specs.compression.Compression.{nameBytes, namePlaces}
+use Rattle.wire.specs.octets.Octets.{word16}
+use Rattle.wire.specs.names.Names.{name, nameAt, isName}
+use Rattle.wire.specs.rdata.Rdata.{rdata, stringsFill, rdataIn, rdataAt}
+use Rattle.writer.specs.compression.Compression.{nameBytes}
 use Rattle.writer.specs.compression.Sentence.{Rising}
 use Rattle.writer.proofs.compression.Written.{name-back}
 use Rattle.writer.specs.Items.{dataBytes}
-use Rattle.roundtrip.specs.Shapes.{Shaped, four, target, strings, sixteen, server, other}
+use Rattle.roundtrip.specs.Writable.{Shaped, four, target, strings, sixteen, server, other}
 
 -- numbers from what is left at a place
 pub word-at : (P r : List ℕ) (e : ℕ) → drop e P ≡ r → (i n : ℕ) → getD r i 0 ≡ n / 256 → getD r (i + 1) 0 ≡ n % 256 → word16 P (e + i) ≡ n

@@ -1,0 +1,30 @@
+-- The cases of specs/Cases.antt, computed. Assumes nothing.
+use mathlib.Core.Path.{refl}
+use Rattle.wire.specs.name_pieces.Pieces.{pieceAt}
+use Rattle.wire.specs.names.Names.{nameAt, fromRun, readFrom}
+use Rattle.wire.specs.rdata.Rdata.{stringsFill}
+use Rattle.wire.specs.expansion.Equal.{sameBytes}
+use Rattle.writer.specs.compression.Compression.{standsAt, placeOf, cutFrom, nameBytes, starts, namePlaces}
+use Rattle.own.specs.records.Setups.{labelFits, isLetter, isNameByte, nameBytes as lettersOnly, someLetter, hyphensApart, serviceRule, serviceFits, protocolFits, domainFits, txtFits, validSetup, serviceLabels, instanceLabels, hostLabels}
+use Rattle.own.specs.records.Records.{hasRecord, ownLabels, ownName, ownType, ownClass, ownTtl, srvRdata, ownRdata}
+use Rattle.writer.specs.Items.{putName, dataBytes, dataPlaces, putFields}
+use Rattle.writer.specs.own_packets.Packets.{packetOf}
+use Rattle.writer.specs.own_packets.Own.{ownRecord, picked, responseRecords, probeRecords, responseOf, probeOf, responsePacket, probePacket}
+use Rattle.roundtrip.specs.Cases.{SampleValid, Announced, Probed, InstanceProbed}
+
+pub sample-valid : SampleValid
+unfolding labelFits isLetter isNameByte lettersOnly someLetter hyphensApart serviceRule serviceFits protocolFits domainFits txtFits validSetup stringsFill sameBytes
+sample-valid = refl
+
+packets : Announced × Probed × InstanceProbed
+unfolding nameAt fromRun readFrom pieceAt sameBytes standsAt placeOf cutFrom nameBytes starts namePlaces serviceLabels instanceLabels hostLabels hasRecord ownLabels ownName ownType ownClass ownTtl srvRdata ownRdata putName dataBytes dataPlaces putFields packetOf ownRecord picked responseRecords probeRecords responseOf probeOf responsePacket probePacket
+packets = (refl, refl, refl)
+
+pub announced : Announced
+announced = packets .0
+
+pub probed : Probed
+probed = packets .1
+
+pub instance-probed : InstanceProbed
+instance-probed = packets .2

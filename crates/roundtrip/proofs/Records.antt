@@ -1,0 +1,125 @@
+-- A record is read back. Assumes nothing.
+use Prim.Native.Nat.{ℕ, _+_, _/_, _%_, _<_, _≤_}
+use mathlib.Core.Path.{_≡_, refl, ap, ap₂, _∙_}
+use mathlib.Core.List.{List, _++_, append-assoc}
+use native.Mathlib.Omega.{arith}
+use borrow.Author.Tests.{le-leb, lt-leb}
+use lib.ListN.{length, drop, length-append}
+use lib.Seq.{drop-at}
+use Rattle.wire.specs.octets.Octets.{word16, word32}
+use Rattle.wire.specs.names.Names.{Reading, name, nameAt}
+use Rattle.wire.specs.rdata.Rdata.{rdata, rdataAt}
+use Rattle.writer.specs.compression.Compression.{nameBytes, namePlaces}
+use Rattle.writer.specs.compression.Sentence.{Rising}
+use Rattle.writer.proofs.compression.Places.{rising-append}
+use Rattle.writer.proofs.compression.Written.{written-rising}
+use Rattle.wire.specs.message.Message.{Record, ttlOf}
+use Rattle.wire.specs.message.Layout.{recordFrom, recordRead, item, bytesOf, withRdata, recordMeant, recordAt}
+use Rattle.writer.specs.Items.{Writing, fields, dataBytes, putName, putFields, putRecord}
+use Rattle.roundtrip.specs.Writable.{Shaped, IsRecord}
+use Rattle.roundtrip.proofs.Names.{word-at, name-here, data-back}
+use Rattle.roundtrip.proofs.Sound.{Sound}
+
+-- a record from its parts
+assemble : (P o D : List ℕ) (at E k c t n : ℕ) → nameAt P at ≡ name o E → E + 10 + n ≤ length P → word16 P E ≡ k → word16 P (E + 2) ≡ c → word32 P (E + 4) ≡ t
+    → t < 2147483648 → word16 P (E + 8) ≡ n → rdataAt P k (E + 10) n ≡ rdata D
+    → recordAt P at ≡ item (record { owner = o; rtype = k; class = c; ttl = t; rdata = D }) (E + 10 + n)
+unfolding recordAt recordRead
+assemble P o D at E k c t n nm fits ek ec et st en ed =
+    let long : E + 10 + word16 P (E + 8) ≤ length P = omega arith in
+    let some : E + 10 ≤ length P = omega arith in
+    let et′ : ttlOf (word32 P (E + 4)) ≡ t = ap ttlOf et ∙ simp (lt-leb 2147483648 t st) in
+    ap (λ (x : Reading). recordMeant P (bytesOf x) (recordFrom P at x)) nm ∙ simp (le-leb (E + 10) (length P) some, le-leb (E + 10 + word16 P (E + 8)) (length P) long)
+    (ap
+    (withRdata o (record {
+      owner = at;
+      span = length o;
+      rtype = word16 P E;
+      class = word16 P (E + 2);
+      ttl = ttlOf (word32 P (E + 4));
+      rdata = E + 10;
+      rdlength = word16 P (E + 8);
+      next = E + 10 + word16 P (E + 8);
+    })) (ap₂ (λ (x y : ℕ). rdataAt P x (E + 10) y) ek en ∙ ed)
+    ∙ λ i. item (record { owner = o; rtype = ek i; class = ec i; ttl = et′ i; rdata = D }) (E + 10 + en i))
+
+-- what follows the owner's name
+fields-back : (p os : List ℕ) (m : ℕ) → Rising 12 m os → length p ≤ 16384 → (o post : List ℕ) (at k c t : ℕ) (d : List ℕ) → Shaped k d → t < 2147483648
+    → nameAt (p ++ (fields k c t (length (dataBytes p os k d)) ++ (dataBytes p os k d ++ post))) at ≡ name o (length p)
+    → recordAt (p ++ (fields k c t (length (dataBytes p os k d)) ++ (dataBytes p os k d ++ post))) at
+    ≡ item (record { owner = o; rtype = k; class = c; ttl = t; rdata = d }) (length p + 10 + length (dataBytes p os k d))
+fields-back p os m low small o post at k c t d ok st nm =
+    assemble P o d at (length p) k c t (length D) nm long ek ec et st en (data-back p os m small low F post refl ok)
+  where
+    D : List ℕ
+    D = dataBytes p os k d
+
+    F : List ℕ
+    F = fields k c t (length D)
+
+    P : List ℕ
+    P = p ++ (F ++ (D ++ post))
+
+    left : drop (length p) P ≡ F ++ (D ++ post)
+    left = drop-at p (F ++ (D ++ post)) (length p) refl
+
+    long : length p + 10 + length D ≤ length P
+    long = omega (arith, length-append p (F ++ (D ++ post)), length-append D post)
+
+    ek : word16 P (length p) ≡ k
+    ek = let z : length p + 0 ≡ length p = omega arith in rw z at (word-at P (F ++ (D ++ post)) (length p) left 0 k refl refl)
+
+    ec : word16 P (length p + 2) ≡ c
+    ec = word-at P (F ++ (D ++ post)) (length p) left 2 c refl refl
+
+    et : word32 P (length p + 4) ≡ t
+    et =
+        let s : length p + 4 + 2 ≡ length p + 6 = omega arith in
+        let a : word16 P (length p + 4) ≡ t / 65536 = word-at P (F ++ (D ++ post)) (length p) left 4 (t / 65536) refl refl in
+        let b : word16 P (length p + 6) ≡ t % 65536 = word-at P (F ++ (D ++ post)) (length p) left 6 (t % 65536) refl refl in
+        rw s (omega arith)
+
+    en : word16 P (length p + 8) ≡ length D
+    en = word-at P (F ++ (D ++ post)) (length p) left 8 (length D) refl refl
+
+-- A record is read back, whatever follows it.
+pub record-back : (w : Writing) → Sound w → (r : Record) → IsRecord r → length (putRecord w r .bytes) ≤ 16384 → (post : List ℕ)
+    → recordAt (putRecord w r .bytes ++ post) (length (w .bytes)) ≡ item r (length (putRecord w r .bytes))
+unfolding putName putFields
+record-back w sound r ok small post =
+    ap (λ (P : List ℕ). recordAt P (length p)) (append-assoc p₁ (F ++ D) post)
+    ∙ fields-back p₁ os₁ (length p₁) low₁ (omega (arith, parts, length-append p nb)) (r .owner) post (length p) (r .rtype) (r .class) (r .ttl) (r .rdata) (ok .shaped) (ok .counts) owner-read
+    ∙ ap (item r) total
+  where
+    p : List ℕ
+    p = w .bytes
+
+    os : List ℕ
+    os = w .places
+
+    nb : List ℕ
+    nb = nameBytes p os (r .owner)
+
+    p₁ : List ℕ
+    p₁ = p ++ nb
+
+    os₁ : List ℕ
+    os₁ = os ++ namePlaces p os (length p) (r .owner)
+
+    D : List ℕ
+    D = dataBytes p₁ os₁ (r .rtype) (r .rdata)
+
+    F : List ℕ
+    F = fields (r .rtype) (r .class) (r .ttl) (length D)
+
+    parts : length (p₁ ++ (F ++ D)) ≡ length p₁ + (10 + length D)
+    parts = omega (arith, length-append p₁ (F ++ D))
+
+    total : length p₁ + 10 + length D ≡ length (p₁ ++ (F ++ D))
+    total = omega (arith, parts)
+
+    low₁ : Rising 12 (length p₁) os₁
+    low₁ = rw (length-append p nb) (rising-append sound (written-rising p os (r .owner) (ok .owned) (length p)))
+
+    owner-read : nameAt (p₁ ++ (F ++ (D ++ post))) (length p) ≡ name (r .owner) (length p₁)
+    owner-read = name-here p os (length p) (omega (arith, parts, length-append p nb)) sound (F ++ (D ++ post)) (r .owner) (ok .owned)
