@@ -1,5 +1,5 @@
 #!/usr/bin/env python3
-"""Fails if a public function of a crate has a `requires`, since every caller may call with anything (paper 01; demand 1), or no `ensures`.
+"""Fails if a public function of a crate has a `requires`, since every caller may call with anything (specification, R-GEN-8), or no `ensures`.
 
 Of what a function prints no contract can speak: the functions of the console's own crates that do nothing else are proved safe and ending."""
 import pathlib

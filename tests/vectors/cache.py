@@ -1,5 +1,5 @@
 #!/usr/bin/env python3
-# Writes the console script of the cache's vectors: `put`, `look`, `slot` and `clear`, each case under a comment that says what it shows (paper 01,
+# Writes the console script of the cache's vectors: `put`, `look`, `slot` and `clear`, each case under a comment that says what it shows (specification,
 # 'The cache', refusals 1, 4, 5, 6 and 8, 'Corner readings'; RFC 6762, 10). Run by make.sh; the expected answers come from the reference program.
 import sys
 
@@ -74,7 +74,7 @@ for line in ("slot", "slot x", "slot 0 0", "clear 0", "clear ", "look", "look 0 
 
 # --- one record ---------------------------------------------------------------------------------------------------------
 
-show("01's announcement: entry 0 takes it, live until 120 s after now, and not at that very ms")
+show("the specification's announcement: entry 0 takes it, live until 120 s after now, and not at that very ms")
 clear()
 put(1000, ANNOUNCED)
 slot(0, 1)

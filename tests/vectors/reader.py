@@ -1,6 +1,6 @@
 #!/usr/bin/env python3
 # Writes the console script of the reader's vectors: `read` calls, each case under a comment that says what it shows
-# (paper 01, 'Reading a message'; RFC 1035, 4.1.4). Run by make.sh; the expected answers come from the reference program.
+# (specification, 'Reading a message'; RFC 1035, 4.1.4). Run by make.sh; the expected answers come from the reference program.
 
 import sys
 
@@ -16,13 +16,13 @@ def read(packet):
     print("read " + (packet.hex() or "-"))
 
 
-# --- the examples of the papers ---------------------------------------------------------------------------------------
+# --- the examples of the documents ---------------------------------------------------------------------------------------
 
-show("01's announcement of dock.local, 10.0.0.7: 38 bytes")
+show("the specification's announcement of dock.local, 10.0.0.7: 38 bytes")
 assert len(ANNOUNCED) == 38
 read(ANNOUNCED)
 
-show("01's probe of dock.local: 44 bytes, the owner of the Authority record is a pointer")
+show("the specification's probe of dock.local: 44 bytes, the owner of the Authority record is a pointer")
 probe = header(qd=1, ns=1, flags=0) + question(HOST) + record(pointer(12), A, bytes([10, 0, 0, 7]))
 assert len(probe) == 44
 read(probe)

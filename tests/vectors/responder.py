@@ -1,6 +1,6 @@
 #!/usr/bin/env python3
 # Writes the console script of the responder's vectors: `start`, `recv`, `tick`, `claims` and `out`, each case under a comment that says what it
-# shows (paper 01, 'Refusal numbers', 'Own records', 'Writing a packet', 'A claim's life', 'Which answers go out'). Run by make.sh; the expected
+# shows (specification, 'Refusal numbers', 'Own records', 'Writing a packet', 'A claim's life', 'Which answers go out'). Run by make.sh; the expected
 # answers come from the reference program.
 import sys
 
@@ -95,9 +95,9 @@ out(4096, 1)
 out(4097, 0)
 out(18446744073709551615, 18446744073709551615)
 
-# --- 01's example -------------------------------------------------------------------------------------------------------
+# --- the specification's example -------------------------------------------------------------------------------------------------------
 
-show("01's start: the instance's probe, more is due, then the 44-byte probe of dock.local; nothing more at 0 and at 249 ms")
+show("the specification's start: the instance's probe, more is due, then the 44-byte probe of dock.local; nothing more at 0 and at 249 ms")
 start()
 claims()
 tick(0)

@@ -1,6 +1,6 @@
 #!/usr/bin/env python3
 # Writes the console script of the TXT lookup's vectors: `txt` calls, each case under a comment that says what it shows
-# (paper 01, 'TXT pairs'; RFC 6763, 6). Run by make.sh.
+# (specification, 'TXT pairs'; RFC 6763, 6). Run by make.sh.
 
 
 def show(what):

@@ -43,7 +43,7 @@ fn fields(p: &mut Vec<u8>, rtype: u16, class: u16, ttl: u32, length: usize) {
     p.extend((length as u16).to_be_bytes());
 }
 
-/// Paper 01's announcement of one address: 38 bytes.
+/// The specification's announcement of one address: 38 bytes.
 pub fn address() -> Vec<u8> {
     let mut p = response(1);
     label(&mut p, b"dock");

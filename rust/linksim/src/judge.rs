@@ -1,4 +1,4 @@
-//! Demand 3's two conclusions, judged by the packets alone, from paper 01, 'A claim's life'. Nothing here asks the console.
+//! Demand 3's two conclusions, judged by the packets alone, from the specification, 'A claim's life'. Nothing here asks the console.
 //! A responder is known by the number of its start among the accepted ones.
 
 use std::cmp::Ordering;

@@ -1,5 +1,5 @@
 //! A Multicast DNS / DNS-SD responder, cache and TXT reader, written from
-//! paper 01 (`01-scope.md`), RFC 6762 and RFC 6763. Comments quote paper 01.
+//! the specification (docs/SPECIFICATION.md), RFC 6762 and RFC 6763. Comments quote the specification.
 
 pub mod cache;
 pub mod compose;
@@ -14,7 +14,7 @@ pub mod setup;
 pub mod tally;
 pub mod txt;
 
-/// Record types. The five of paper 01 are A, PTR, TXT, AAAA and SRV.
+/// Record types. The five of the specification are A, PTR, TXT, AAAA and SRV.
 pub mod rtype {
     pub const A: u16 = 1;
     pub const PTR: u16 = 12;

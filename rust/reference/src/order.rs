@@ -1,4 +1,4 @@
-//! The tiebreak of RFC 6762 section 8.2, as narrowed by "Later" in paper 01.
+//! The tiebreak of RFC 6762 section 8.2, as narrowed by "Later" in the specification.
 
 use std::cmp::Ordering;
 

@@ -1,4 +1,4 @@
-//! "Refusal numbers" of paper 01. Number 8 has no case here: this cache owns
+//! "Refusal numbers" of the specification. Number 8 has no case here: this cache owns
 //! its table, which always has 64 entries of legal lengths.
 
 #[derive(Clone, Copy, Debug, PartialEq, Eq)]

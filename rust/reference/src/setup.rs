@@ -191,7 +191,7 @@ impl Setup {
 pub mod tests {
     use super::*;
 
-    /// Paper 01's dock: dock.local, 10.0.0.7, with booth._voice._tcp.local.
+    /// The specification's dock: dock.local, 10.0.0.7, with booth._voice._tcp.local.
     pub fn example() -> Setup {
         Setup {
             instance: b"booth".to_vec(),

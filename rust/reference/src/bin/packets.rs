@@ -5,7 +5,7 @@
 use reference::compose::response;
 use reference::setup::{OwnRecord, Setup};
 
-/// Paper 01's set-up with an AAAA and another host label.
+/// The specification's set-up with an AAAA and another host label.
 fn set_up(host: &[u8]) -> Setup {
     Setup {
         instance: b"booth".to_vec(),
