@@ -14,4 +14,9 @@ cargo run --release --quiet --manifest-path "$root/rust/kurgashel/Cargo.toml" --
 sed 's/Waiting/0/g; s/Probing/1/g; s/Held/3/g' "$root/target/claim_rust.out" | cmp - "$root/target/claim_c.out"
 echo "both examples: the names are held after $(grep -n 'host 3' "$root/target/claim_c.out" | head -1 | cut -d: -f1) packets"
 
+# the reader's archive is enough for a program that only reads
+cc -O2 -Wall -Wextra -I"$root/c/include" "$root/c/examples/read.c" "$root/target/staticlib/libkurgashel_reader.a" -o "$root/target/read"
+"$root/target/read" 00008400000000010000000004646f636b056c6f63616c00000180010000007800040a000007 | grep -qx 'answer     dock.local. type 1 class 1 flush ttl 120 0a000007'
+echo "the example over the reader alone: an address is read"
+
 cargo test --release --quiet --manifest-path "$root/rust/kurgashel/Cargo.toml"

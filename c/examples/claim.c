@@ -1,4 +1,4 @@
-// A responder claims its names on an empty link, in simulated time. Built and run by tests/capi.sh.
+// A responder claims its names on an empty link, in simulated time. Built and run by tests/capi.sh and tests/install.sh.
 #include "kurgashel.h"
 #include <stdio.h>
 

@@ -6,7 +6,8 @@
  *
  * Time is in milliseconds, on any clock of the caller's that never goes back, at most 2^62.
  *
- * Link target/staticlib/libkurgashel.a (written by tools/library). A program that calls only the reader, the cache or the TXT lookup gets only that part.
+ * Link libkurgashel.a: tools/library writes it to target/staticlib, and after make install pkg-config --cflags --libs kurgashel tells the flags. A program
+ * that calls only the reader, the cache or the TXT lookup gets only that part.
  */
 #ifndef KURGASHEL_H
 #define KURGASHEL_H

@@ -1,4 +1,4 @@
-//! A responder claims its names on an empty link, in simulated time. Run by tests/capi.sh.
+//! A responder claims its names on an empty link, in simulated time. Run by tests/capi.sh and tests/install.sh.
 
 use kurgashel::{Refusal, Responder, Setup, OUT_BYTES};
 
