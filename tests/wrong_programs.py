@@ -24,7 +24,8 @@ import time
 ROOT = pathlib.Path(__file__).resolve().parent.parent
 TARGET = ROOT / "target"
 PARTS = ("src", "specs", "proofs")
-SHAPE = re.compile(r"has no `Need-|has no `[a-z]+-lts|no file `|is not declared|expected .* found|this tuple has \d+ components")
+# what is no failed fact: a name that is not there (the needs of a function are called after its statements), a text that does not parse, a tuple of another size
+SHAPE = re.compile(r"that can be named from here|: error: expected |this tuple has \d+ components")
 
 
 class Unfit(Exception):

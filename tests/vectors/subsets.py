@@ -3,7 +3,7 @@
 # written of three set-ups, as one statement for each set-up that the definitions give those bytes. Run by make.sh.
 import sys
 
-HEAD = '''-- Every non-empty subset of the own records as a response, for three set-ups, against the bytes that the second program writes: `responsePacket` is what
+HEAD = '''-- Every non-empty subset of the own records as a response, for three set-ups, against the bytes that the reference program writes: `responsePacket` is what
 -- the contract of `own_packets::respond` says of the buffer. A packet stands as one number, its bytes after a 1. Made by tests/vectors/subsets.py. Assumes nothing.
 use Prim.Native.Nat.{ℕ, _+_, _*_}
 use mathlib.Core.Path.{_≡_, refl}
