@@ -131,7 +131,8 @@ def tried(kit, kept, edit):
             shutil.copytree(ROOT / "crates" / name / part, copy / part)
     for file, text in texts.items():
         (copy / file).write_text(text)
-    shutil.copytree(TARGET / "rlib" / f"{name}.rlib" / "toolchain" / "checked", copy / "kept" / kept)
+    # links: the prover replaces a file and never writes into one
+    shutil.copytree(TARGET / "rlib" / f"{name}.rlib" / "toolchain" / "checked", copy / "kept" / kept, copy_function=os.link)
     source = copy / "src" / ("main.rt" if (copy / "src" / "main.rt").is_file() else "lib.rt")
     run = subprocess.run([*kit.words(name, source), "--incremental", copy / "kept"], stdout=subprocess.PIPE, stderr=subprocess.STDOUT, text=True)
     (TARGET / "wrong" / name / f"{edit.stem}.log").write_text(run.stdout)
