@@ -1,8 +1,9 @@
 -- Laws that belong to no one function.
 pub mod Parts
 pub mod Cases
-pub mod Round
-pub mod Told
 pub mod Lengths
+pub mod Stands
+pub mod Round
+pub mod Front
 pub mod Whole
 pub mod Encoded

@@ -3,11 +3,13 @@
 ghost use mathlib.Core.Path.{_≡_};
 ghost use Prim.Native.Nat.{_+_, _≤_, _<_};
 ghost use lib.ListN.{length};
-ghost use Rattle.capi_responder.specs.codec.Numbers.{bytes64};
-ghost use Rattle.capi_responder.specs.codec.Codec.{decode, claimTag, claimDue, sentFlag, sentTime, replyFlag, replyDue, caseBytes, claimBytes, sentBytes, replyBytes, multicastsBytes, lifeBytes, MulticastsFit, LifeFits, withLife, stateWith, withSetup};
+ghost use Rattle.capi_responder.specs.codec.Numbers.{bytes64, Fits64};
+ghost use Rattle.capi_responder.specs.codec.Layout as layout;
+ghost use Rattle.capi_responder.specs.codec.Codec.{claimTag, claimDue, sentFlag, sentTime, replyFlag, replyDue};
+ghost use Rattle.capi_responder.specs.codec.Codec.{caseBytes, claimBytes, sentBytes, replyBytes, multicastsBytes, lifeBytes};
+ghost use Rattle.capi_responder.specs.codec.Codec.{decode, MulticastsFit, LifeFits, withLife, stateWith, withSetup};
 ghost use Rattle.capi_responder.specs.encoder.Laid.{Laid};
-use crate::codec::SETUP_SIZE;
-use crate::codec::STATE_SIZE;
+use crate::layout;
 use claims::Claim;
 use claims::Life;
 use claims::Multicasts;
@@ -22,8 +24,8 @@ fn put(out: &mut [u8], at: usize, s: &[u8])
 }
 
 // The eight bytes of a number.
-fn number_bytes(n: u64) -> [u8; 8]
-    ensures { λ r. ⌜ (r ≡ bytes64 n) × (n < 18446744073709551616) ⌝ }
+fn number_bytes(n: u64) -> [u8; layout::NUMBER_SIZE]
+    ensures { λ r. ⌜ (r ≡ bytes64 n) × Fits64 n ⌝ }
 {
     let n1 = n / 256;
     let n2 = n1 / 256;
@@ -45,8 +47,8 @@ fn number_bytes(n: u64) -> [u8; 8]
 }
 
 fn put_number(out: &mut [u8], at: usize, n: u64)
-    requires { ⌜ at + 8 ≤ length (now out) ⌝ }
-    ensures { λ _. ⌜ Laid (now (out .entry)) at (bytes64 n) (now (out .exit)) × (n < 18446744073709551616) ⌝ }
+    requires { ⌜ at + layout.numberSize ≤ length (now out) ⌝ }
+    ensures { λ _. ⌜ Laid (now (out .entry)) at (bytes64 n) (now (out .exit)) × Fits64 n ⌝ }
 {
     let bytes = number_bytes(n);
     put(out, at, &bytes);
@@ -54,8 +56,8 @@ fn put_number(out: &mut [u8], at: usize, n: u64)
 
 // A case byte and its number.
 fn put_case(out: &mut [u8], at: usize, tag: u8, n: u64)
-    requires { ⌜ at + 9 ≤ length (now out) ⌝ }
-    ensures { λ _. ⌜ Laid (now (out .entry)) at (caseBytes tag n) (now (out .exit)) × (n < 18446744073709551616) ⌝ }
+    requires { ⌜ at + layout.caseSize ≤ length (now out) ⌝ }
+    ensures { λ _. ⌜ Laid (now (out .entry)) at (caseBytes tag n) (now (out .exit)) × Fits64 n ⌝ }
 {
     let first = [tag];
     put(out, at, &first);
@@ -129,64 +131,66 @@ fn reply_due(r: Reply) -> u64
 }
 
 fn put_claim(out: &mut [u8], at: usize, c: Claim)
-    requires { ⌜ at + 9 ≤ length (now out) ⌝ }
-    ensures { λ _. ⌜ Laid (now (out .entry)) at (claimBytes c) (now (out .exit)) × (claimDue c < 18446744073709551616) ⌝ }
+    requires { ⌜ at + layout.caseSize ≤ length (now out) ⌝ }
+    ensures { λ _. ⌜ Laid (now (out .entry)) at (claimBytes c) (now (out .exit)) × Fits64 (claimDue c) ⌝ }
 {
     put_case(out, at, claim_tag(c), claim_due(c));
 }
 
-fn put_sent(out: &mut [u8], at: usize, s: Sent)
-    requires { ⌜ at + 9 ≤ length (now out) ⌝ }
-    ensures { λ _. ⌜ Laid (now (out .entry)) at (sentBytes s) (now (out .exit)) × (sentTime s < 18446744073709551616) ⌝ }
+// The last multicast of an own record, by its index.
+fn put_sent(out: &mut [u8], i: usize, s: Sent)
+    requires { ⌜ (i < layout.records) × (layout.stateSize ≤ length (now out)) ⌝ }
+    ensures { λ _. ⌜ Laid (now (out .entry)) (layout.multicast i) (sentBytes s) (now (out .exit)) × Fits64 (sentTime s) ⌝ }
 {
+    let at = layout::MULTICASTS + i * layout::CASE_SIZE;
     put_case(out, at, sent_flag(s), sent_time(s));
 }
 
-fn put_reply(out: &mut [u8], at: usize, r: Reply)
-    requires { ⌜ at + 9 ≤ length (now out) ⌝ }
-    ensures { λ _. ⌜ Laid (now (out .entry)) at (replyBytes r) (now (out .exit)) × (replyDue r < 18446744073709551616) ⌝ }
+fn put_reply(out: &mut [u8], r: Reply)
+    requires { ⌜ layout.stateSize ≤ length (now out) ⌝ }
+    ensures { λ _. ⌜ Laid (now (out .entry)) layout.reply (replyBytes r) (now (out .exit)) × Fits64 (replyDue r) ⌝ }
 {
-    put_case(out, at, reply_flag(r), reply_due(r));
+    put_case(out, layout::REPLY, reply_flag(r), reply_due(r));
 }
 
-fn put_multicasts(out: &mut [u8], at: usize, sent: Multicasts)
-    requires { ⌜ at + 45 ≤ length (now out) ⌝ }
-    ensures { λ _. ⌜ Laid (now (out .entry)) at (multicastsBytes sent) (now (out .exit)) × MulticastsFit sent ⌝ }
+fn put_multicasts(out: &mut [u8], sent: Multicasts)
+    requires { ⌜ layout.stateSize ≤ length (now out) ⌝ }
+    ensures { λ _. ⌜ Laid (now (out .entry)) layout.multicasts (multicastsBytes sent) (now (out .exit)) × MulticastsFit sent ⌝ }
 {
     let ptr = sent.ptr;
     let srv = sent.srv;
     let txt = sent.txt;
     let a = sent.a;
     let aaaa = sent.aaaa;
-    put_sent(out, at, ptr);
-    put_sent(out, at + 9, srv);
-    put_sent(out, at + 18, txt);
-    put_sent(out, at + 27, a);
-    put_sent(out, at + 36, aaaa);
+    put_sent(out, own::records::PTR, ptr);
+    put_sent(out, own::records::SRV, srv);
+    put_sent(out, own::records::TXT, txt);
+    put_sent(out, own::records::A, a);
+    put_sent(out, own::records::AAAA, aaaa);
 }
 
 // Writes what changes, behind the set-up.
 fn lay_life(out: &mut [u8], life: Life)
-    requires { ⌜ length (now out) ≡ 667 ⌝ }
-    ensures { λ _. ⌜ Laid (now (out .entry)) 579 (lifeBytes life) (now (out .exit)) × LifeFits life ⌝ }
+    requires { ⌜ length (now out) ≡ layout.stateSize ⌝ }
+    ensures { λ _. ⌜ Laid (now (out .entry)) layout.setupSize (lifeBytes life) (now (out .exit)) × LifeFits life ⌝ }
 {
     let instance = life.instance;
     let host = life.host;
     let sent = life.sent;
     let reply = life.reply;
-    put_claim(out, 579, instance);
-    put_claim(out, 588, host);
-    put_multicasts(out, 597, sent);
-    put_reply(out, 642, reply);
-    put_number(out, 651, life.draw);
-    put_number(out, 659, life.last);
+    put_claim(out, layout::INSTANCE_CLAIM, instance);
+    put_claim(out, layout::HOST_CLAIM, host);
+    put_multicasts(out, sent);
+    put_reply(out, reply);
+    put_number(out, layout::DRAW, life.draw);
+    put_number(out, layout::LAST, life.last);
 }
 
 // Writes what changes into a state's bytes; those of its set-up stay, and so does a buffer of another length.
 pub fn put_life(state: &mut [u8], life: Life)
     ensures { λ _. ⌜ (now (state .exit) ≡ withLife (now (state .entry)) life) × (decode (now (state .exit)) ≡ stateWith (now (state .entry)) life) ⌝ }
 {
-    if state.len() == STATE_SIZE {
+    if state.len() == layout::STATE_SIZE {
         lay_life(state, life);
     }
 }
@@ -195,10 +199,10 @@ pub fn put_life(state: &mut [u8], life: Life)
 pub fn put_setup(state: &mut [u8], setup: &[u8])
     ensures { λ _. ⌜ now (state .exit) ≡ withSetup (now (state .entry)) (now (setup .entry)) ⌝ }
 {
-    if state.len() != STATE_SIZE {
+    if state.len() != layout::STATE_SIZE {
         return;
     }
-    if setup.len() == SETUP_SIZE {
+    if setup.len() == layout::SETUP_SIZE {
         put(state, 0, setup);
     }
 }

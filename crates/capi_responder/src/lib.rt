@@ -2,6 +2,7 @@
 // numbers. What a state says is in `state`. c/include/kurgashel.h declares these functions.
 pub mod codec;
 pub mod encoder;
+pub mod layout;
 pub mod state;
 
 ghost use mathlib.Core.Path.{_≡_};
@@ -56,7 +57,7 @@ fn answered(answer: Answer, more: bool) -> Called
 fn setup_for(setup: &[u8], room: usize) -> Setup
     ensures { λ r. ⌜ r ≡ setupFor (now (setup .entry)) room ⌝ }
 {
-    if room == crate::codec::STATE_SIZE {
+    if room == crate::layout::STATE_SIZE {
         return crate::codec::read_setup(setup);
     }
     let blank = responder::blank_state();

@@ -1,24 +1,30 @@
--- How many bytes what changes takes, piece by piece. Assumes nothing.
+-- How many bytes the parts of a state take. Assumes nothing.
 use mathlib.Core.Path.{_≡_, refl}
-use Prim.Native.Nat.{ℕ}
-use lib.ListN.{length}
-use Rattle.claims.specs.declared.Multicasts.{Multicasts}
+use Prim.Native.Nat.{_+_}
+use native.Mathlib.Omega.{arith}
+use lib.ListN.{length, length-append}
+use Rattle.own.specs.declared.records.Label.{Label}
+use Rattle.own.specs.declared.records.Service.{Service}
+use Rattle.own.specs.declared.records.Strings.{Strings}
+use Rattle.own.specs.declared.records.Setup.{Setup}
 use Rattle.claims.specs.declared.Life.{Life}
 use Rattle.capi_responder.specs.codec.Numbers.{bytes64}
-use Rattle.capi_responder.specs.codec.Codec.{caseBytes, multicastsBytes, lifeBytes}
+use Rattle.capi_responder.specs.codec.Layout as layout
+use Rattle.capi_responder.specs.codec.Codec.{labelBytes, serviceBytes, stringsBytes, setupBytes, multicastsBytes, lifeBytes, SetupFits}
 
-pub length-number : (n : ℕ) → length (bytes64 n) ≡ 8
-unfolding bytes64
-length-number n = refl
+pub length-label : (l : Label) → length (l .bytes) ≡ layout.mostLabel → length (labelBytes l) ≡ layout.labelSize
+length-label l e = simp length-append (omega arith)
 
-pub length-case : (tag n : ℕ) → length (caseBytes tag n) ≡ 9
-unfolding bytes64
-length-case tag n = refl
+pub length-service : (l : Service) → length (l .bytes) ≡ layout.mostService → length (serviceBytes l) ≡ layout.serviceSize
+length-service l e = simp length-append (omega arith)
 
-pub length-multicasts : (sent : Multicasts) → length (multicastsBytes sent) ≡ 45
-unfolding multicastsBytes bytes64
-length-multicasts sent = refl
+pub length-strings : (t : Strings) → length (t .bytes) ≡ layout.mostTxt → length (stringsBytes t) ≡ layout.txtSize
+length-strings t e = simp length-append (omega arith)
 
-pub length-life : (life : Life) → length (lifeBytes life) ≡ 88
+pub length-setup : (s : Setup) → SetupFits s → length (setupBytes s) ≡ layout.setupSize
+unfolding setupBytes
+length-setup s h = simp length-append (omega arith)
+
+pub length-life : (life : Life) → layout.setupSize + length (lifeBytes life) ≡ layout.stateSize
 unfolding lifeBytes multicastsBytes bytes64
 length-life life = refl

@@ -1,13 +1,13 @@
--- The round trip: what was written of a state reads as that state. Assumes nothing.
-use mathlib.Core.Path.{_≡_, refl, sym, ap, _∙_}
-use mathlib.Core.Bool.{Bool, cond}
-use mathlib.Core.List.{List, [], _∷_, _++_, append-nil}
-use Prim.Native.Nat.{ℕ, _+_, _*_, _%_, _<_, _≤_}
-use native.Mathlib.Omega.{arith}
-use lib.Dec.{eqb}
-use lib.ListN.{length, take, drop, getD, length-drop, List·getD-append}
-use lib.Seq.{getD-append-add, getD-take, take-append-le, drop-append-le, length-take-le, ext-getD}
-use Rattle.wire.specs.octets.Octets.{byteAt, word16, word32}
+-- The round trip, part by part: the bytes of a part read as that part, wherever they stand. Assumes nothing.
+use mathlib.Core.Path.{_≡_, refl, ap, _∙_}
+use mathlib.Core.Bool.{true, false}
+use mathlib.Core.List.{List, [], _∷_}
+use Prim.Native.Nat.{ℕ, _+_}
+use lib.ListN.{length}
+use Rattle.own.specs.declared.records.Label.{Label}
+use Rattle.own.specs.declared.records.Service.{Service}
+use Rattle.own.specs.declared.records.Strings.{Strings}
+use Rattle.own.specs.declared.records.Setup.{Setup}
 use Rattle.claims.specs.declared.Claim.{Claim}
 use Rattle.claims.specs.declared.Claim.the-variants.{Waiting, Probing1, Probing2, Probing3, Deferred, Announced, Held, Lost}
 use Rattle.claims.specs.declared.Sent.{Sent}
@@ -16,236 +16,119 @@ use Rattle.claims.specs.declared.Reply.{Reply}
 use Rattle.claims.specs.declared.Reply.the-variants.{Unset, Due}
 use Rattle.claims.specs.declared.Multicasts.{Multicasts}
 use Rattle.claims.specs.declared.Life.{Life}
-use Rattle.capi_responder.specs.codec.Numbers.{word64, bytes64}
-use Rattle.capi_responder.specs.codec.Layout.{partAt, flagAt, labelAt, serviceAt, stringsAt, setupAt, claimOf, claimAt, sentAt, replyAt, multicastsAt, lifeAt}
-use Rattle.capi_responder.specs.codec.Codec.{claimTag, claimDue, sentFlag, sentTime, replyFlag, replyDue, caseBytes, claimBytes, sentBytes, replyBytes, multicastsBytes, lifeBytes, MulticastsFit, LifeFits}
-use Rattle.capi_responder.proofs.codec.Told.{setup-told}
+use Rattle.capi_responder.specs.codec.Numbers.{word64, bytes64, Fits64}
+use Rattle.capi_responder.specs.codec.Layout as layout
+use Rattle.capi_responder.specs.codec.Parts.{labelAt, serviceAt, stringsAt, setupAt, claimOf, claimAt, sentAt, replyAt, multicastsAt, lifeAt}
+use Rattle.capi_responder.specs.codec.Codec.{claimTag, claimDue, sentTime, replyDue, claimBytes, sentBytes, replyBytes, multicastsBytes, lifeBytes, MulticastsFit, LifeFits}
+use Rattle.capi_responder.specs.codec.Codec.{labelBytes, serviceBytes, bytes16, stringsBytes, flagByte, setupBytes, SetupFits}
+use Rattle.capi_responder.proofs.codec.Lengths.{length-label, length-service, length-strings}
+use Rattle.capi_responder.proofs.codec.Stands.{Stands, front, behind, part-read, byte-read, flag-read, word16-read, number-read, case-read, time-read}
 
--- ---- behind other bytes
+-- ---- the set-up
 
-module _ (p q : List ℕ) (k at : ℕ) (e : at ≡ length p + k) where
-  pub byte-later : byteAt (p ++ q) at ≡ byteAt q k
-  byte-later = ap (λ (j : ℕ). getD (p ++ q) j 0) e ∙ getD-append-add p q k 0
+module _ {b : List ℕ} {at : ℕ} where
+  label-read : (l : Label) → length (l .bytes) ≡ layout.mostLabel → Stands b at (labelBytes l) → labelAt b at ≡ l
+  unfolding labelAt
+  label-read l e s = λ i. record {
+    bytes = part-read (l .bytes) _ e (front _ _ s) i;
+    len = byte-read (l .len) [] (behind (l .bytes) _ s _ e) i;
+  }
 
-module _ (p q : List ℕ) where
-  pub word16-later : (k at : ℕ) → at ≡ length p + k → word16 (p ++ q) at ≡ word16 q k
-  word16-later k at e =
-      let e₁ : at + 1 ≡ length p + (k + 1) = omega arith in
-      omega (arith, byte-later p q k at e, byte-later p q (k + 1) (at + 1) e₁)
+  service-read : (l : Service) → length (l .bytes) ≡ layout.mostService → Stands b at (serviceBytes l) → serviceAt b at ≡ l
+  unfolding serviceAt
+  service-read l e s = λ i. record {
+    bytes = part-read (l .bytes) _ e (front _ _ s) i;
+    len = byte-read (l .len) [] (behind (l .bytes) _ s _ e) i;
+  }
 
-  pub word32-later : (k at : ℕ) → at ≡ length p + k → word32 (p ++ q) at ≡ word32 q k
-  word32-later k at e =
-      let e₂ : at + 2 ≡ length p + (k + 2) = omega arith in
-      omega (arith, word16-later k at e, word16-later (k + 2) (at + 2) e₂)
+  strings-read : (t : Strings) → length (t .bytes) ≡ layout.mostTxt → Stands b at (stringsBytes t) → stringsAt b at ≡ t
+  unfolding stringsAt
+  strings-read t e s = λ i. record {
+    bytes = part-read (t .bytes) _ e (front _ _ s) i;
+    len = word16-read (t .len) (behind (t .bytes) _ s _ e) i;
+  }
 
-  pub word64-later : (k at : ℕ) → at ≡ length p + k → word64 (p ++ q) at ≡ word64 q k
-  word64-later k at e =
-      let e₄ : at + 4 ≡ length p + (k + 4) = omega arith in
-      omega (arith, word32-later k at e, word32-later (k + 4) (at + 4) e₄)
+pub setup-read : {b : List ℕ} (s : Setup) → SetupFits s → Stands b layout.instance (setupBytes s) → setupAt b ≡ s
+unfolding setupAt setupBytes
+setup-read {b} s h instance =
+    let service = behind (labelBytes (s .instance)) _ instance layout.labelSize (length-label (s .instance) (h .instance)) in
+    let protocol = behind (serviceBytes (s .service)) _ service layout.serviceSize (length-service (s .service) (h .service)) in
+    let host = behind (s .protocol) _ protocol layout.protocolSize (h .protocol) in
+    let domain = behind (labelBytes (s .host)) _ host layout.labelSize (length-label (s .host) (h .host)) in
+    let port = behind (s .domain) _ domain layout.domainSize (h .domain) in
+    let txt = behind (bytes16 (s .port)) _ port layout.portSize refl in
+    let a = behind (stringsBytes (s .txt)) _ txt layout.txtSize (length-strings (s .txt) (h .txt)) in
+    let hasaaaa = behind (s .a) _ a layout.aSize (h .a) in
+    let aaaa = behind (flagByte (s .hasaaaa) ∷ []) _ hasaaaa layout.flagSize refl in
+    λ i. record {
+      instance = label-read (s .instance) (h .instance) (front _ _ instance) i;
+      service = service-read (s .service) (h .service) (front _ _ service) i;
+      protocol = part-read (s .protocol) _ (h .protocol) (front _ _ protocol) i;
+      host = label-read (s .host) (h .host) (front _ _ host) i;
+      domain = part-read (s .domain) _ (h .domain) (front _ _ domain) i;
+      port = word16-read (s .port) (front _ _ port) i;
+      txt = strings-read (s .txt) (h .txt) (front _ _ txt) i;
+      a = part-read (s .a) _ (h .a) (front _ _ a) i;
+      hasaaaa = flag-read (s .hasaaaa) _ hasaaaa i;
+      aaaa = part-read (s .aaaa) _ (h .aaaa) aaaa i;
+    }
 
-  pub claim-later : (k at : ℕ) → at ≡ length p + k → claimAt (p ++ q) at ≡ claimAt q k
-  unfolding claimAt
-  claim-later k at e =
-      let e₁ : at + 1 ≡ length p + (k + 1) = omega arith in
-      ap (λ (t : ℕ). claimOf t (word64 (p ++ q) (at + 1))) (byte-later p q k at e) ∙ ap (claimOf (byteAt q k)) (word64-later (k + 1) (at + 1) e₁)
+-- ---- what changes
 
-  pub sent-later : (k at : ℕ) → at ≡ length p + k → sentAt (p ++ q) at ≡ sentAt q k
+claim-read : {b : List ℕ} {at : ℕ} (c : Claim) → Fits64 (claimDue c) → Stands b at (claimBytes c) → claimAt b at ≡ c
+unfolding claimAt
+claim-read {b} {at} c h s =
+    ap (λ (t : ℕ). claimOf t (word64 b (at + 1))) (byte-read (claimTag c) _ s) ∙ ap (claimOf (claimTag c)) (case-read (claimTag c) _ h s) ∙ back c
+  where
+    back : (d : Claim) → claimOf (claimTag d) (claimDue d) ≡ d
+    back (Waiting due) = refl
+    back (Probing1 due) = refl
+    back (Probing2 due) = refl
+    back (Probing3 due) = refl
+    back (Deferred due) = refl
+    back (Announced due) = refl
+    back Held = refl
+    back Lost = refl
+
+module _ {b : List ℕ} where
+  sent-read : (i : ℕ) (s : Sent) → Fits64 (sentTime s) → Stands b (layout.multicast i) (sentBytes s) → sentAt b i ≡ s
   unfolding sentAt
-  sent-later k at e =
-      let e₁ : at + 1 ≡ length p + (k + 1) = omega arith in
-      ap (λ (t : ℕ). cond (eqb (t % 2) 1) (At (word64 (p ++ q) (at + 1))) Never) (byte-later p q k at e) ∙ ap (λ (n : ℕ). cond (flagAt q k) (At n) Never) (word64-later (k + 1) (at + 1) e₁)
+  sent-read i Never h s = time-read At Never false 0 h s
+  sent-read i (At time) h s = time-read At Never true time h s
 
-  pub reply-later : (k at : ℕ) → at ≡ length p + k → replyAt (p ++ q) at ≡ replyAt q k
+  reply-read : (r : Reply) → Fits64 (replyDue r) → Stands b layout.reply (replyBytes r) → replyAt b ≡ r
   unfolding replyAt
-  reply-later k at e =
-      let e₁ : at + 1 ≡ length p + (k + 1) = omega arith in
-      ap (λ (t : ℕ). cond (eqb (t % 2) 1) (Due (word64 (p ++ q) (at + 1))) Unset) (byte-later p q k at e) ∙ ap (λ (n : ℕ). cond (flagAt q k) (Due n) Unset) (word64-later (k + 1) (at + 1) e₁)
+  reply-read Unset h s = time-read Due Unset false 0 h s
+  reply-read (Due due) h s = time-read Due Unset true due h s
 
-  pub multicasts-later : (k at : ℕ) → at ≡ length p + k → multicastsAt (p ++ q) at ≡ multicastsAt q k
-  unfolding multicastsAt
-  multicasts-later k at e =
-      let e₁ : at + 9 ≡ length p + (k + 9) = omega arith in
-      let e₂ : at + 18 ≡ length p + (k + 18) = omega arith in
-      let e₃ : at + 27 ≡ length p + (k + 27) = omega arith in
-      let e₄ : at + 36 ≡ length p + (k + 36) = omega arith in
+  multicasts-read : (m : Multicasts) → MulticastsFit m → Stands b layout.multicasts (multicastsBytes m) → multicastsAt b ≡ m
+  unfolding multicastsAt multicastsBytes bytes64
+  multicasts-read m h ptr =
+      let srv = behind (sentBytes (m .ptr)) _ ptr layout.caseSize refl in
+      let txt = behind (sentBytes (m .srv)) _ srv layout.caseSize refl in
+      let a = behind (sentBytes (m .txt)) _ txt layout.caseSize refl in
+      let aaaa = behind (sentBytes (m .a)) _ a layout.caseSize refl in
       λ i. record {
-        ptr = sent-later k at e i;
-        srv = sent-later (k + 9) (at + 9) e₁ i;
-        txt = sent-later (k + 18) (at + 18) e₂ i;
-        a = sent-later (k + 27) (at + 27) e₃ i;
-        aaaa = sent-later (k + 36) (at + 36) e₄ i;
+        ptr = sent-read 0 (m .ptr) (h .ptr) (front _ _ ptr) i;
+        srv = sent-read 1 (m .srv) (h .srv) (front _ _ srv) i;
+        txt = sent-read 2 (m .txt) (h .txt) (front _ _ txt) i;
+        a = sent-read 3 (m .a) (h .a) (front _ _ a) i;
+        aaaa = sent-read 4 (m .aaaa) (h .aaaa) aaaa i;
       }
 
--- ---- at the front
-
-pub word64-here : (n : ℕ) (rest : List ℕ) → n < 18446744073709551616 → word64 (bytes64 n ++ rest) 0 ≡ n
-unfolding bytes64
-word64-here n rest h = omega arith
-
-pub word64-case : (tag n : ℕ) (rest : List ℕ) → n < 18446744073709551616 → word64 (caseBytes tag n ++ rest) 1 ≡ n
-word64-case tag n rest h = word64-later (tag ∷ []) (bytes64 n ++ rest) 0 1 refl ∙ word64-here n rest h
-
-pub claim-here : (c : Claim) (rest : List ℕ) → claimDue c < 18446744073709551616 → claimAt (claimBytes c ++ rest) 0 ≡ c
-unfolding claimAt
-claim-here (Waiting due) rest h = ap Waiting (word64-case 0 due rest h)
-claim-here (Probing1 due) rest h = ap Probing1 (word64-case 1 due rest h)
-claim-here (Probing2 due) rest h = ap Probing2 (word64-case 2 due rest h)
-claim-here (Probing3 due) rest h = ap Probing3 (word64-case 3 due rest h)
-claim-here (Deferred due) rest h = ap Deferred (word64-case 4 due rest h)
-claim-here (Announced due) rest h = ap Announced (word64-case 5 due rest h)
-claim-here Held rest h = refl
-claim-here Lost rest h = refl
-
-pub sent-here : (s : Sent) (rest : List ℕ) → sentTime s < 18446744073709551616 → sentAt (sentBytes s ++ rest) 0 ≡ s
-unfolding sentAt
-sent-here Never rest h = refl
-sent-here (At time) rest h = ap At (word64-case 1 time rest h)
-
-pub reply-here : (r : Reply) (rest : List ℕ) → replyDue r < 18446744073709551616 → replyAt (replyBytes r ++ rest) 0 ≡ r
-unfolding replyAt
-reply-here Unset rest h = refl
-reply-here (Due due) rest h = ap Due (word64-case 1 due rest h)
-
--- ---- what changes, behind a set-up
-
-pub multicasts-here : (s : Multicasts) (rest : List ℕ) → MulticastsFit s → multicastsAt (multicastsBytes s ++ rest) 0 ≡ s
-unfolding multicastsAt multicastsBytes bytes64
-multicasts-here s rest h =
-    let p = sentBytes (s .ptr) in
-    let v = sentBytes (s .srv) in
-    let t = sentBytes (s .txt) in
-    let a = sentBytes (s .a) in
-    let q = sentBytes (s .aaaa) ++ rest in
-    λ i. record {
-      ptr = sent-here (s .ptr) (v ++ (t ++ (a ++ q))) (h .ptr) i;
-      srv = (sent-later p (v ++ (t ++ (a ++ q))) 0 9 refl ∙ sent-here (s .srv) (t ++ (a ++ q)) (h .srv)) i;
-      txt = (sent-later p (v ++ (t ++ (a ++ q))) 9 18 refl ∙ sent-later v (t ++ (a ++ q)) 0 9 refl ∙ sent-here (s .txt) (a ++ q) (h .txt)) i;
-      a = (sent-later p (v ++ (t ++ (a ++ q))) 18 27 refl ∙ sent-later v (t ++ (a ++ q)) 9 18 refl ∙ sent-later t (a ++ q) 0 9 refl ∙ sent-here (s .a) q (h .a)) i;
-      aaaa = (sent-later p (v ++ (t ++ (a ++ q))) 27 36 refl ∙ sent-later v (t ++ (a ++ q)) 18 27 refl ∙ sent-later t (a ++ q) 9 18 refl ∙ sent-later a q 0 9 refl ∙ sent-here (s .aaaa) rest (h .aaaa)) i;
-    }
-
--- the pieces of what changes, by their places in it
-module _ (life : Life) (h : LifeFits life) where
-  abbrev afterReply : List ℕ
-  afterReply = bytes64 (life .draw) ++ bytes64 (life .last)
-
-  abbrev afterSent : List ℕ
-  afterSent = replyBytes (life .reply) ++ afterReply
-
-  abbrev afterHost : List ℕ
-  afterHost = multicastsBytes (life .sent) ++ afterSent
-
-  abbrev afterInstance : List ℕ
-  afterInstance = claimBytes (life .host) ++ afterHost
-
-  instance-read : claimAt (lifeBytes life) 0 ≡ life .instance
-  unfolding lifeBytes
-  instance-read = claim-here (life .instance) afterInstance (h .instance)
-
-  host-read : claimAt (lifeBytes life) 9 ≡ life .host
-  unfolding lifeBytes bytes64
-  host-read = claim-later (claimBytes (life .instance)) afterInstance 0 9 refl ∙ claim-here (life .host) afterHost (h .host)
-
-  sent-read : multicastsAt (lifeBytes life) 18 ≡ life .sent
-  unfolding lifeBytes bytes64
-  sent-read =
-      multicasts-later (claimBytes (life .instance)) afterInstance 9 18 refl
-      ∙ multicasts-later (claimBytes (life .host)) afterHost 0 9 refl
-      ∙ multicasts-here (life .sent) afterSent (h .sent)
-
-  reply-read : replyAt (lifeBytes life) 63 ≡ life .reply
-  unfolding lifeBytes multicastsBytes bytes64
-  reply-read =
-      reply-later (claimBytes (life .instance)) afterInstance 54 63 refl
-      ∙ reply-later (claimBytes (life .host)) afterHost 45 54 refl
-      ∙ reply-later (multicastsBytes (life .sent)) afterSent 0 45 refl
-      ∙ reply-here (life .reply) afterReply (h .reply)
-
-  number-read : (k : ℕ) → word64 (lifeBytes life) (k + 72) ≡ word64 afterReply k
-  unfolding lifeBytes multicastsBytes bytes64
-  number-read k =
-      let e₁ : k + 72 ≡ 9 + (k + 63) = omega arith in
-      let e₂ : k + 63 ≡ 9 + (k + 54) = omega arith in
-      let e₃ : k + 54 ≡ 45 + (k + 9) = omega arith in
-      let e₄ : k + 9 ≡ 9 + k = omega arith in
-      word64-later (claimBytes (life .instance)) afterInstance (k + 63) (k + 72) e₁
-      ∙ word64-later (claimBytes (life .host)) afterHost (k + 54) (k + 63) e₂
-      ∙ word64-later (multicastsBytes (life .sent)) afterSent (k + 9) (k + 54) e₃
-      ∙ word64-later (replyBytes (life .reply)) afterReply k (k + 9) e₄
-
-  draw-read : word64 (lifeBytes life) 72 ≡ life .draw
-  draw-read = number-read 0 ∙ word64-here (life .draw) (bytes64 (life .last)) (h .draw)
-
-  last-read : word64 (lifeBytes life) 80 ≡ life .last
-  unfolding bytes64
-  last-read =
-      number-read 8
-      ∙ word64-later (bytes64 (life .draw)) (bytes64 (life .last)) 0 8 refl
-      ∙ ap (λ (l : List ℕ). word64 l 0) (sym (append-nil (bytes64 (life .last))))
-      ∙ word64-here (life .last) [] (h .last)
-
-pub life-read : (p : List ℕ) (life : Life) → length p ≡ 579 → LifeFits life → lifeAt (p ++ lifeBytes life) ≡ life
-unfolding lifeAt
-life-read p life e h =
-    let q = lifeBytes life in
-    let e₀ : 579 ≡ length p + 0 = omega arith in
-    let e₁ : 588 ≡ length p + 9 = omega arith in
-    let e₂ : 597 ≡ length p + 18 = omega arith in
-    let e₃ : 642 ≡ length p + 63 = omega arith in
-    let e₄ : 651 ≡ length p + 72 = omega arith in
-    let e₅ : 659 ≡ length p + 80 = omega arith in
-    λ j. record {
-      instance = (claim-later p q 0 579 e₀ ∙ instance-read life h) j;
-      host = (claim-later p q 9 588 e₁ ∙ host-read life h) j;
-      sent = (multicasts-later p q 18 597 e₂ ∙ sent-read life h) j;
-      reply = (reply-later p q 63 642 e₃ ∙ reply-read life h) j;
-      draw = (word64-later p q 72 651 e₄ ∙ draw-read life h) j;
-      last = (word64-later p q 80 659 e₅ ∙ last-read life h) j;
-    }
-
--- ---- the set-up, before anything
-
-module _ (p q : List ℕ) where
-  pub part-front : (at n : ℕ) → at + n ≤ length p → partAt (p ++ q) at n ≡ partAt p at n
-  part-front at n h =
-      let k : at ≤ length p = omega arith in
-      let m : n ≤ length (drop at p) = rw (length-drop at p) (omega arith) in
-      ap (take n) (drop-append-le at p q k) ∙ take-append-le n (drop at p) q m
-
-  pub byte-front : (at : ℕ) → at < length p → byteAt (p ++ q) at ≡ byteAt p at
-  byte-front at h = List·getD-append p q 0 at h
-
-  pub word16-front : (at : ℕ) → at + 1 < length p → word16 (p ++ q) at ≡ word16 p at
-  word16-front at h =
-      let k : at < length p = omega arith in
-      omega (arith, byte-front at k, byte-front (at + 1) h)
-
-  pub label-front : (at : ℕ) → at + 63 < length p → labelAt (p ++ q) at ≡ labelAt p at
-  unfolding labelAt
-  label-front at h = let k : at + 63 ≤ length p = omega arith in λ i. record { bytes = part-front at 63 k i; len = byte-front (at + 63) h i }
-
-  pub service-front : (at : ℕ) → at + 16 < length p → serviceAt (p ++ q) at ≡ serviceAt p at
-  unfolding serviceAt
-  service-front at h = let k : at + 16 ≤ length p = omega arith in λ i. record { bytes = part-front at 16 k i; len = byte-front (at + 16) h i }
-
-  pub strings-front : (at : ℕ) → at + 401 < length p → stringsAt (p ++ q) at ≡ stringsAt p at
-  unfolding stringsAt
-  strings-front at h =
-      let k : at + 400 ≤ length p = omega arith in
-      let m : at + 400 + 1 < length p = omega arith in
-      λ i. record { bytes = part-front at 400 k i; len = word16-front (at + 400) m i }
-
-  pub setup-front : 579 ≤ length p → setupAt (p ++ q) ≡ setupAt p
-  unfolding setupAt
-  setup-front h =
-      setup-told p _ _ _ _ _ _ _ _ _ _
-      (label-front 0 (omega arith))
-      (service-front 64 (omega arith))
-      (part-front 81 4 (omega arith))
-      (label-front 85 (omega arith))
-      (part-front 149 5 (omega arith))
-      (word16-front 154 (omega arith))
-      (strings-front 156 (omega arith))
-      (part-front 558 4 (omega arith))
-      (ap (λ (b : ℕ). eqb (b % 2) 1) (byte-front 562 (omega arith)))
-      (part-front 563 16 (omega arith))
+  pub life-read : (life : Life) → LifeFits life → Stands b layout.instanceClaim (lifeBytes life) → lifeAt b ≡ life
+  unfolding lifeAt lifeBytes multicastsBytes bytes64
+  life-read life h instance =
+      let host = behind (claimBytes (life .instance)) _ instance layout.caseSize refl in
+      let sent = behind (claimBytes (life .host)) _ host layout.caseSize refl in
+      let reply = behind (multicastsBytes (life .sent)) _ sent layout.multicastsSize refl in
+      let draw = behind (replyBytes (life .reply)) _ reply layout.caseSize refl in
+      let last = behind (bytes64 (life .draw)) _ draw layout.numberSize refl in
+      λ i. record {
+        instance = claim-read (life .instance) (h .instance) (front _ _ instance) i;
+        host = claim-read (life .host) (h .host) (front _ _ host) i;
+        sent = multicasts-read (life .sent) (h .sent) (front _ _ sent) i;
+        reply = reply-read (life .reply) (h .reply) (front _ _ reply) i;
+        draw = number-read (life .draw) (h .draw) (front _ _ draw) i;
+        last = number-read (life .last) (h .last) last i;
+      }

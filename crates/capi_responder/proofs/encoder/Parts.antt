@@ -9,14 +9,15 @@ use Rattle.wire.proofs.octets.Sets.{sets-append}
 use Rattle.capi_responder.specs.encoder.Laid.{Laid}
 
 -- bytes laid down behind others
-pub laid-next : (was mid out : List ℕ) (at next : ℕ) (xs ys : List ℕ) → Laid was at xs mid → Laid mid next ys out → next ≡ at + length xs → Laid was at (xs ++ ys) out
-laid-next was mid out at next xs ys m o e = record {
+pub laid-next : {was mid out : List ℕ} {at next : ℕ} (xs ys : List ℕ) → next ≡ at + length xs → Laid was at xs mid → Laid mid next ys out
+    → Laid was at (xs ++ ys) out
+laid-next {was} {mid} {out} {at} {next} xs ys e m o = record {
   laid = o .laid ∙ ap (λ (l : List ℕ). sets l next ys) (m .laid) ∙ ap (λ (k : ℕ). sets (sets was at xs) k ys) e ∙ sets-append was at xs ys;
   long = o .long ∙ m .long;
 }
 
-pub laid-as : (was out xs ys : List ℕ) (at : ℕ) → Laid was at xs out → xs ≡ ys → Laid was at ys out
-laid-as was out xs ys at h e = record { laid = h .laid ∙ ap (sets was at) e; long = h .long }
+pub laid-as : {was out xs ys : List ℕ} {at : ℕ} → Laid was at xs out → xs ≡ ys → Laid was at ys out
+laid-as {was} {at = at} h e = record { laid = h .laid ∙ ap (sets was at) e; long = h .long }
 
 -- bytes laid behind the first `n` of a buffer, up to its end
 pub laid-behind : (n : ℕ) (b vs out : List ℕ) → n + length vs ≡ length b → Laid b n vs out → out ≡ take n b ++ vs

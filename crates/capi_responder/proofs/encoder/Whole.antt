@@ -8,6 +8,7 @@ use borrow.Author.Tests.{eq-eqb}
 use lib.Dec.{eqb}
 use lib.ListN.{length, take}
 use Rattle.claims.specs.declared.Life.{Life}
+use Rattle.capi_responder.specs.codec.Layout.{setupSize, stateSize}
 use Rattle.capi_responder.specs.codec.Codec.{decode, lifeBytes, LifeFits, withLife, stateWith, withSetup}
 use Rattle.capi_responder.proofs.codec.Lengths.{length-life}
 use Rattle.capi_responder.proofs.codec.Whole.{round-trip}
@@ -15,32 +16,32 @@ use Rattle.capi_responder.specs.encoder.Laid.{Laid}
 use Rattle.capi_responder.proofs.encoder.Parts.{laid-behind, laid-front}
 
 module _ (b : List ℕ) (life : Life) where
-  pub life-written : (out : List ℕ) → length b ≡ 667 → Laid b 579 (lifeBytes life) out → LifeFits life
+  pub life-written : (out : List ℕ) → length b ≡ stateSize → Laid b setupSize (lifeBytes life) out × LifeFits life
       → (out ≡ withLife b life) × (decode out ≡ stateWith b life)
   unfolding withLife stateWith
-  life-written out e l h =
-      let t : eqb (length b) 667 ≡ true = eq-eqb _ 667 e in
-      let w : 579 + length (lifeBytes life) ≡ length b = omega (arith, length-life life) in
-      let o : out ≡ take 579 b ++ lifeBytes life = laid-behind 579 b (lifeBytes life) out w l in
-      (simp t o, simp t (ap decode o ∙ round-trip b life e h))
+  life-written out e l =
+      let t : eqb (length b) stateSize ≡ true = eq-eqb _ stateSize e in
+      let w : setupSize + length (lifeBytes life) ≡ length b = omega (arith, length-life life) in
+      let o : out ≡ take setupSize b ++ lifeBytes life = laid-behind setupSize b (lifeBytes life) out w (l .0) in
+      (simp t o, simp t (ap decode o ∙ round-trip b life e (l .1)))
 
-  pub life-kept : eqb (length b) 667 ≡ false → (b ≡ withLife b life) × (decode b ≡ stateWith b life)
+  pub life-kept : eqb (length b) stateSize ≡ false → (b ≡ withLife b life) × (decode b ≡ stateWith b life)
   unfolding withLife stateWith decode
   life-kept t = (simp t, simp t)
 
 module _ (b setup : List ℕ) where
-  pub setup-written : (out : List ℕ) → length b ≡ 667 → length setup ≡ 579 → Laid b 0 setup out → out ≡ withSetup b setup
+  pub setup-written : (out : List ℕ) → length b ≡ stateSize → length setup ≡ setupSize → Laid b 0 setup out → out ≡ withSetup b setup
   unfolding withSetup
   setup-written out e f l =
-      let t : eqb (length b) 667 ≡ true = eq-eqb _ 667 e in
-      let u : eqb (length setup) 579 ≡ true = eq-eqb _ 579 f in
-      let k : 579 ≤ length b = omega arith in
-      simp (t, u) (laid-front 579 b setup out f k l)
+      let t : eqb (length b) stateSize ≡ true = eq-eqb _ stateSize e in
+      let u : eqb (length setup) setupSize ≡ true = eq-eqb _ setupSize f in
+      let k : setupSize ≤ length b = omega arith in
+      simp (t, u) (laid-front setupSize b setup out f k l)
 
-  pub setup-kept : eqb (length b) 667 ≡ false → b ≡ withSetup b setup
+  pub setup-kept : eqb (length b) stateSize ≡ false → b ≡ withSetup b setup
   unfolding withSetup
   setup-kept t = simp t
 
-  pub setup-kept′ : eqb (length b) 667 ≡ true → eqb (length setup) 579 ≡ false → b ≡ withSetup b setup
+  pub setup-kept′ : eqb (length b) stateSize ≡ true → eqb (length setup) setupSize ≡ false → b ≡ withSetup b setup
   unfolding withSetup
   setup-kept′ t u = simp (t, u)

@@ -1,5 +1,5 @@
 -- A responder's state and its bytes. Assumes nothing: these are definitions.
-use Prim.Native.Nat.{ℕ, _<_, _/_, _%_}
+use Prim.Native.Nat.{ℕ, _/_, _%_}
 use mathlib.Core.Path.{_≡_}
 use mathlib.Core.Bool.{Bool, true, false, cond, _&&_}
 use mathlib.Core.List.{List, [], _∷_, _++_}
@@ -19,18 +19,19 @@ use Rattle.claims.specs.declared.Multicasts.{Multicasts}
 use Rattle.claims.specs.declared.Life.{Life}
 use Rattle.responder.specs.declared.State.{State}
 use Rattle.responder.specs.Calls.{blank}
-use Rattle.capi_responder.specs.codec.Numbers.{bytes64}
-use Rattle.capi_responder.specs.codec.Layout.{setupSize, stateSize, setupAt, lifeAt}
+use Rattle.capi_responder.specs.codec.Numbers.{bytes64, Fits64}
+use Rattle.capi_responder.specs.codec.Layout as layout
+use Rattle.capi_responder.specs.codec.Parts.{setupAt, lifeAt}
 
 -- ---- from bytes
 
 -- The set-up of a buffer; one of another length reads as a set-up that every start refuses, as 7.
 unfoldable pub setupOf : List ℕ → Setup
-setupOf b = cond (eqb (length b) setupSize) (setupAt b) (blank .setup)
+setupOf b = cond (eqb (length b) layout.setupSize) (setupAt b) (blank .setup)
 
 -- The state of a buffer; one of another length reads as the blank state, which every call refuses, as 7.
 unfoldable pub decode : List ℕ → State
-decode b = cond (eqb (length b) stateSize) (record { setup = setupAt b; life = lifeAt b }) blank
+decode b = cond (eqb (length b) layout.stateSize) (record { setup = setupAt b; life = lifeAt b }) blank
 
 -- ---- to bytes
 
@@ -98,31 +99,31 @@ lifeBytes life =
 
 -- every number fits its eight bytes, as any number of 64 bits does
 pub record MulticastsFit (sent : Multicasts) : Type 0 where
-  pub ptr : sentTime (sent .ptr) < 18446744073709551616
-  pub srv : sentTime (sent .srv) < 18446744073709551616
-  pub txt : sentTime (sent .txt) < 18446744073709551616
-  pub a : sentTime (sent .a) < 18446744073709551616
-  pub aaaa : sentTime (sent .aaaa) < 18446744073709551616
+  pub ptr : Fits64 (sentTime (sent .ptr))
+  pub srv : Fits64 (sentTime (sent .srv))
+  pub txt : Fits64 (sentTime (sent .txt))
+  pub a : Fits64 (sentTime (sent .a))
+  pub aaaa : Fits64 (sentTime (sent .aaaa))
 
 pub record LifeFits (life : Life) : Type 0 where
-  pub instance : claimDue (life .instance) < 18446744073709551616
-  pub host : claimDue (life .host) < 18446744073709551616
+  pub instance : Fits64 (claimDue (life .instance))
+  pub host : Fits64 (claimDue (life .host))
   pub sent : MulticastsFit (life .sent)
-  pub reply : replyDue (life .reply) < 18446744073709551616
-  pub draw : life .draw < 18446744073709551616
-  pub last : life .last < 18446744073709551616
+  pub reply : Fits64 (replyDue (life .reply))
+  pub draw : Fits64 (life .draw)
+  pub last : Fits64 (life .last)
 
 -- The bytes of a state after what changes has become `life`: those of the set-up stay. A buffer of another length stays whole.
 unfoldable pub withLife : List ℕ → Life → List ℕ
-withLife b life = cond (eqb (length b) stateSize) (take setupSize b ++ lifeBytes life) b
+withLife b life = cond (eqb (length b) layout.stateSize) (take layout.setupSize b ++ lifeBytes life) b
 
 -- What those bytes say: the set-up as it was, with `life`.
 unfoldable pub stateWith : List ℕ → Life → State
-stateWith b life = cond (eqb (length b) stateSize) (record { setup = setupAt b; life = life }) blank
+stateWith b life = cond (eqb (length b) layout.stateSize) (record { setup = setupAt b; life = life }) blank
 
 -- The bytes of a state after a set-up was laid over its front.
 unfoldable pub withSetup : List ℕ → List ℕ → List ℕ
-withSetup b setup = cond (eqb (length b) stateSize && eqb (length setup) setupSize) (setup ++ drop setupSize b) b
+withSetup b setup = cond (eqb (length b) layout.stateSize && eqb (length setup) layout.setupSize) (setup ++ drop layout.setupSize b) b
 
 -- ---- a whole state
 
@@ -161,11 +162,11 @@ encode s = setupBytes (s .setup) ++ lifeBytes (s .life)
 
 -- the arrays have their lengths, as those of every set-up in a program have
 pub record SetupFits (s : Setup) : Type 0 where
-  pub instance : length (s .instance .bytes) ≡ 63
-  pub service : length (s .service .bytes) ≡ 16
-  pub protocol : length (s .protocol) ≡ 4
-  pub host : length (s .host .bytes) ≡ 63
-  pub domain : length (s .domain) ≡ 5
-  pub txt : length (s .txt .bytes) ≡ 400
-  pub a : length (s .a) ≡ 4
-  pub aaaa : length (s .aaaa) ≡ 16
+  pub instance : length (s .instance .bytes) ≡ layout.mostLabel
+  pub service : length (s .service .bytes) ≡ layout.mostService
+  pub protocol : length (s .protocol) ≡ layout.protocolSize
+  pub host : length (s .host .bytes) ≡ layout.mostLabel
+  pub domain : length (s .domain) ≡ layout.domainSize
+  pub txt : length (s .txt .bytes) ≡ layout.mostTxt
+  pub a : length (s .a) ≡ layout.aSize
+  pub aaaa : length (s .aaaa) ≡ layout.aaaaSize

@@ -1,105 +1,124 @@
--- The bytes of a set-up and of a state, each at its fixed offset: 579 bytes of set-up, then 88 bytes of what changes. Every string of bytes of that
--- length reads as a state. Assumes nothing: these are definitions.
-use Prim.Native.Nat.{ℕ, _+_, _%_}
-use mathlib.Core.Bool.{Bool, cond}
-use mathlib.Core.List.{List}
-use lib.ListN.{take, drop}
-use lib.Dec.{eqb}
-use Rattle.wire.specs.octets.Octets.{byteAt, word16}
-use Rattle.own.specs.declared.records.Label.{Label}
-use Rattle.own.specs.declared.records.Service.{Service}
-use Rattle.own.specs.declared.records.Strings.{Strings}
-use Rattle.own.specs.declared.records.Setup.{Setup}
-use Rattle.claims.specs.declared.Claim.{Claim}
-use Rattle.claims.specs.declared.Claim.the-variants.{Waiting, Probing1, Probing2, Probing3, Deferred, Announced, Held, Lost}
-use Rattle.claims.specs.declared.Sent.{Sent}
-use Rattle.claims.specs.declared.Sent.the-variants.{Never, At}
-use Rattle.claims.specs.declared.Reply.{Reply}
-use Rattle.claims.specs.declared.Reply.the-variants.{Unset, Due}
-use Rattle.claims.specs.declared.Multicasts.{Multicasts}
-use Rattle.claims.specs.declared.Life.{Life}
-use Rattle.capi_responder.specs.codec.Numbers.{word64}
+-- The layout of a state's bytes: the size of each part, and where the part stands, behind the one before it. The parts of the set-up come first, then
+-- those of what changes. Assumes nothing: these are definitions.
+use mathlib.Core.Path.{_≡_, refl}
+use Prim.Native.Nat.{ℕ, _+_, _*_}
 
--- the bytes of a set-up, and of a state
-abbrev pub setupSize : ℕ
-setupSize = 579
+-- ---- sizes
 
-abbrev pub stateSize : ℕ
-stateSize = 667
+-- the bytes of a label of an instance or a host, of a service label, and of TXT strings
+abbrev pub mostLabel : ℕ
+mostLabel = 63
 
--- `n` bytes from an offset on
-abbrev pub partAt : List ℕ → ℕ → ℕ → List ℕ
-partAt b at n = take n (drop at b)
+abbrev pub mostService : ℕ
+mostService = 16
 
--- a flag, by its low bit
-abbrev pub flagAt : List ℕ → ℕ → Bool
-flagAt b at = eqb (byteAt b at % 2) 1
+abbrev pub mostTxt : ℕ
+mostTxt = 400
+
+-- each with its length behind it, that of TXT strings in two bytes
+abbrev pub labelSize : ℕ
+labelSize = mostLabel + 1
+
+abbrev pub serviceSize : ℕ
+serviceSize = mostService + 1
+
+abbrev pub txtSize : ℕ
+txtSize = mostTxt + 2
+
+abbrev pub protocolSize : ℕ
+protocolSize = 4
+
+abbrev pub domainSize : ℕ
+domainSize = 5
+
+abbrev pub portSize : ℕ
+portSize = 2
+
+abbrev pub aSize : ℕ
+aSize = 4
+
+abbrev pub flagSize : ℕ
+flagSize = 1
+
+abbrev pub aaaaSize : ℕ
+aaaaSize = 16
+
+-- a number of 64 bits; and a case byte with its number: a claim, a last multicast, the reply
+abbrev pub numberSize : ℕ
+numberSize = 8
+
+abbrev pub caseSize : ℕ
+caseSize = 1 + numberSize
+
+-- the last multicasts: one for each own record
+abbrev pub records : ℕ
+records = 5
+
+abbrev pub multicastsSize : ℕ
+multicastsSize = records * caseSize
 
 -- ---- the set-up
 
--- a label of an instance or a host: 63 bytes, and the length
-unfoldable pub labelAt : List ℕ → ℕ → Label
-labelAt b at = record { bytes = partAt b at 63; len = byteAt b (at + 63) }
+abbrev pub instance : ℕ
+instance = 0
 
-unfoldable pub serviceAt : List ℕ → ℕ → Service
-serviceAt b at = record { bytes = partAt b at 16; len = byteAt b (at + 16) }
+abbrev pub service : ℕ
+service = instance + labelSize
 
--- TXT strings: 400 bytes, and the length in two
-unfoldable pub stringsAt : List ℕ → ℕ → Strings
-stringsAt b at = record { bytes = partAt b at 400; len = word16 b (at + 400) }
+abbrev pub protocol : ℕ
+protocol = service + serviceSize
 
-unfoldable pub setupAt : List ℕ → Setup
-setupAt b = record {
-  instance = labelAt b 0;
-  service = serviceAt b 64;
-  protocol = partAt b 81 4;
-  host = labelAt b 85;
-  domain = partAt b 149 5;
-  port = word16 b 154;
-  txt = stringsAt b 156;
-  a = partAt b 558 4;
-  hasaaaa = flagAt b 562;
-  aaaa = partAt b 563 16;
-}
+abbrev pub host : ℕ
+host = protocol + protocolSize
 
--- ---- what changes: a case byte and a number for each claim, each last multicast and the reply; then the start draw and the time of the last call
+abbrev pub domain : ℕ
+domain = host + labelSize
 
--- a claim by its case, where one beyond the last reads as lost
-abbrev pub claimOf : ℕ → ℕ → Claim
-claimOf tag due =
-    cond (eqb tag 0) (Waiting due)
-    (cond (eqb tag 1) (Probing1 due)
-    (cond (eqb tag 2) (Probing2 due)
-    (cond (eqb tag 3) (Probing3 due)
-    (cond (eqb tag 4) (Deferred due)
-    (cond (eqb tag 5) (Announced due)
-    (cond (eqb tag 6) Held Lost))))))
+abbrev pub port : ℕ
+port = domain + domainSize
 
-unfoldable pub claimAt : List ℕ → ℕ → Claim
-claimAt b at = claimOf (byteAt b at) (word64 b (at + 1))
+abbrev pub txt : ℕ
+txt = port + portSize
 
-unfoldable pub sentAt : List ℕ → ℕ → Sent
-sentAt b at = cond (flagAt b at) (At (word64 b (at + 1))) Never
+abbrev pub a : ℕ
+a = txt + txtSize
 
-unfoldable pub replyAt : List ℕ → ℕ → Reply
-replyAt b at = cond (flagAt b at) (Due (word64 b (at + 1))) Unset
+abbrev pub hasaaaa : ℕ
+hasaaaa = a + aSize
 
--- the last multicasts of PTR, SRV, TXT, A, AAAA
-unfoldable pub multicastsAt : List ℕ → ℕ → Multicasts
-multicastsAt b at = record {
-  ptr = sentAt b at;
-  srv = sentAt b (at + 9);
-  txt = sentAt b (at + 18);
-  a = sentAt b (at + 27);
-  aaaa = sentAt b (at + 36);
-}
+abbrev pub aaaa : ℕ
+aaaa = hasaaaa + flagSize
 
-unfoldable pub lifeAt : List ℕ → Life
-lifeAt b = record {
-  instance = claimAt b 579;
-  host = claimAt b 588;
-  sent = multicastsAt b 597;
-  reply = replyAt b 642;
-  draw = word64 b 651;
-  last = word64 b 659;
-}
+abbrev pub setupSize : ℕ
+setupSize = aaaa + aaaaSize
+
+-- ---- what changes
+
+abbrev pub instanceClaim : ℕ
+instanceClaim = setupSize
+
+abbrev pub hostClaim : ℕ
+hostClaim = instanceClaim + caseSize
+
+abbrev pub multicasts : ℕ
+multicasts = hostClaim + caseSize
+
+abbrev pub reply : ℕ
+reply = multicasts + multicastsSize
+
+abbrev pub draw : ℕ
+draw = reply + caseSize
+
+abbrev pub last : ℕ
+last = draw + numberSize
+
+abbrev pub stateSize : ℕ
+stateSize = last + numberSize
+
+-- the last multicast of an own record, by its index
+abbrev pub multicast : ℕ → ℕ
+multicast i = multicasts + i * caseSize
+
+-- the sizes that c/include/kurgashel.h tells its callers
+pub header : (setupSize ≡ 579) × (stateSize ≡ 667)
+header = (refl, refl)

@@ -1,5 +1,6 @@
 use borrow.Author.Tests.{eq-eqb, ne-eqb}
 use Rattle.capi_responder.specs.codec.Codec.{decode}
+use Rattle.capi_responder.specs.codec.Layout.{stateSize}
 use borrow.Author.Needs.{needs}
 use Rattle.capi_responder.proofs.codec.read_state.Statement.{statement}
 use Rattle.capi_responder.proofs.codec.read_state.Tie as tie
@@ -12,14 +13,14 @@ life-at-requires c κs = search needs
 
 returns : tie.Need-returns
 unfolding decode
-returns c = let e : _ = eq-eqb _ 667 (c .before .before .if1 .taken) in simp e (cc)
+returns c = let e : _ = eq-eqb _ stateSize (c .before .before .if1 .taken) in simp e (cc)
 
 blank-state-requires : tie.Need-blank-state-requires
 blank-state-requires c κs = search needs
 
 returns-2 : tie.Need-returns-2
 unfolding decode
-returns-2 c = let e : _ = ne-eqb _ 667 (c .before .if1 .left) in simp e (c .blank-state .ensures)
+returns-2 c = let e : _ = ne-eqb _ stateSize (c .before .if1 .left) in simp e (c .blank-state .ensures)
 
 pub read-state-spec : {M : Type 1} → statement M
 read-state-spec =

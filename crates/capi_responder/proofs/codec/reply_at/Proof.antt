@@ -1,4 +1,7 @@
-use Rattle.capi_responder.proofs.codec.Cases.{reply-set, reply-unset}
+use Rattle.claims.specs.declared.Reply.the-variants.{Unset, Due}
+use Rattle.capi_responder.specs.codec.Layout as layout
+use Rattle.capi_responder.specs.codec.Parts.{replyAt}
+use Rattle.capi_responder.proofs.codec.Cases.{time-set, time-unset}
 use borrow.Author.Needs.{needs}
 use Rattle.capi_responder.proofs.codec.reply_at.Statement.{statement}
 use Rattle.capi_responder.proofs.codec.reply_at.Tie as tie
@@ -13,10 +16,16 @@ be64-requires : tie.Need-be64-requires
 be64-requires c κs = search needs
 
 returns : tie.Need-returns
-returns c = reply-set (c .before .before .before .before .args .b .now) (c .before .before .before .before .args .at) _ _ (c .before .before .flag .ensures) (c .before .if1 .taken) (c .be64 .ensures)
+unfolding replyAt
+returns c =
+    let a = c .before .before .before .before .args in
+    time-set Due Unset (a .b .now) layout.reply _ (c .before .before .flag .ensures) _ (c .before .if1 .taken) (c .be64 .ensures)
 
 returns-2 : tie.Need-returns-2
-returns-2 c = reply-unset (c .before .before .before .args .b .now) (c .before .before .before .args .at) _ (c .before .flag .ensures) (c .if1 .left)
+unfolding replyAt
+returns-2 c =
+    let a = c .before .before .before .args in
+    time-unset Due Unset (a .b .now) layout.reply _ (c .before .flag .ensures) (c .if1 .left)
 
 pub reply-at-spec : {M : Type 1} → statement M
 reply-at-spec = tie.close (tie.spec flag-requires add-be64 be64-requires returns returns-2)

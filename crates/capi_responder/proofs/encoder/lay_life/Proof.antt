@@ -25,7 +25,20 @@ same-length : tie.Need-same-length
 same-length c = search needs
 
 returns : tie.Need-returns
-returns c = (life-laid _ _ _ _ _ _ _ _ (c .before .before .before .before .before .before .before .before .before .before .before .before .before .before .before .before .before .before .before .before .before .before .put-claim .ensures .0) (c .before .before .before .before .before .before .before .before .before .before .before .before .before .before .before .before .before .before .put-claim2 .ensures .0) (c .before .before .before .before .before .before .before .before .before .before .before .before .before .before .put-multicasts .ensures .0) (c .before .before .before .before .before .before .before .before .before .before .put-reply .ensures .0) (c .before .before .before .before .before .before .put-number .ensures .0) (c .before .before .put-number2 .ensures .0), record { instance = c .before .before .before .before .before .before .before .before .before .before .before .before .before .before .before .before .before .before .before .before .before .before .put-claim .ensures .1; host = c .before .before .before .before .before .before .before .before .before .before .before .before .before .before .before .before .before .before .put-claim2 .ensures .1; sent = c .before .before .before .before .before .before .before .before .before .before .before .before .before .before .put-multicasts .ensures .1; reply = c .before .before .before .before .before .before .before .before .before .before .put-reply .ensures .1; draw = c .before .before .before .before .before .before .put-number .ensures .1; last = c .before .before .put-number2 .ensures .1 })
+returns c =
+    let c₆ = c .before .before in
+    let c₅ = c₆ .before .before .before .before in
+    let c₄ = c₅ .before .before .before .before in
+    let c₃ = c₄ .before .before .before .before in
+    let c₂ = c₃ .before .before .before .before in
+    let c₁ = c₂ .before .before .before .before in
+    life-laid _
+    (c₁ .put-claim .ensures)
+    (c₂ .put-claim2 .ensures)
+    (c₃ .put-multicasts .ensures)
+    (c₄ .put-reply .ensures)
+    (c₅ .put-number .ensures)
+    (c₆ .put-number2 .ensures)
 
 pub lay-life-spec : {M : Type 1} → statement M
 lay-life-spec =

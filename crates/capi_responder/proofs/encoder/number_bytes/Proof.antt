@@ -3,42 +3,31 @@ use Rattle.capi_responder.specs.codec.Numbers.{bytes64}
 use borrow.Author.Needs.{needs}
 use Rattle.capi_responder.proofs.encoder.number_bytes.Statement.{statement}
 use Rattle.capi_responder.proofs.encoder.number_bytes.Tie as tie
-use Rattle.capi_responder.proofs.encoder.number_bytes.Reads as reads
-use Rattle.capi_responder.proofs.encoder.number_bytes.Lts as lts
 
--- src/lib.rt:251:9
 cast-t10 : tie.Need-cast-t10
 cast-t10 c = search needs
 
--- src/lib.rt:252:9
 cast-t12 : tie.Need-cast-t12
 cast-t12 c = search needs
 
--- src/lib.rt:253:9
 cast-t14 : tie.Need-cast-t14
 cast-t14 c = search needs
 
--- src/lib.rt:254:9
 cast-t16 : tie.Need-cast-t16
 cast-t16 c = search needs
 
--- src/lib.rt:255:9
 cast-t18 : tie.Need-cast-t18
 cast-t18 c = search needs
 
--- src/lib.rt:256:9
 cast-t20 : tie.Need-cast-t20
 cast-t20 c = search needs
 
--- src/lib.rt:257:9
 cast-t22 : tie.Need-cast-t22
 cast-t22 c = search needs
 
--- src/lib.rt:258:9
 cast-t24 : tie.Need-cast-t24
 cast-t24 c = search needs
 
--- src/lib.rt:240:1
 returns : tie.Need-returns
 unfolding bytes64
 returns c = (refl, search needs)

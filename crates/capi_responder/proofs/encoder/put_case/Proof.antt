@@ -21,7 +21,11 @@ same-length : tie.Need-same-length
 same-length c = search needs
 
 returns : tie.Need-returns
-returns c = (laid-next _ _ _ _ _ (c .before .before .before .before .before .before .before .before .before .before .args .tag ∷ []) _ (c .before .before .before .before .before .before .put .ensures) (c .before .before .put-number .ensures .0) refl, c .before .before .put-number .ensures .1)
+returns c =
+    let number = c .before .before .put-number .ensures in
+    let first = c .before .before .before .before .before .before in
+    let tag = first .before .before .before .before .args .tag in
+    (laid-next (tag ∷ []) _ refl (first .put .ensures) (number .0), number .1)
 
 pub put-case-spec : {M : Type 1} → statement M
 put-case-spec =

@@ -16,7 +16,9 @@ same-length : tie.Need-same-length
 same-length c = search needs
 
 returns : tie.Need-returns
-returns c = case-as _ _ _ _ _ _ _ (c .before .before .put-case .ensures) (c .before .before .before .before .claim-tag .ensures) (c .before .before .before .claim-due .ensures)
+returns c =
+    let number = c .before .before .before in
+    case-as (c .before .before .put-case .ensures) (number .before .claim-tag .ensures) (number .claim-due .ensures)
 
 pub put-claim-spec : {M : Type 1} → statement M
 put-claim-spec =

@@ -16,7 +16,9 @@ same-length : tie.Need-same-length
 same-length c = search needs
 
 returns : tie.Need-returns
-returns c = (laid-as _ _ _ _ _ (c .before .before .put .ensures) (c .before .before .before .before .before .number-bytes .ensures .0), c .before .before .before .before .before .number-bytes .ensures .1)
+returns c =
+    let number = c .before .before .before .before .before .number-bytes .ensures in
+    (laid-as (c .before .before .put .ensures) (number .0), number .1)
 
 pub put-number-spec : {M : Type 1} → statement M
 put-number-spec =

@@ -16,7 +16,9 @@ same-length : tie.Need-same-length
 same-length c = search needs
 
 returns : tie.Need-returns
-returns c = case-as _ _ _ _ _ _ _ (c .before .before .put-case .ensures) (c .before .before .before .before .reply-flag .ensures) (c .before .before .before .reply-due .ensures)
+returns c =
+    let number = c .before .before .before in
+    case-as (c .before .before .put-case .ensures) (number .before .reply-flag .ensures) (number .reply-due .ensures)
 
 pub put-reply-spec : {M : Type 1} → statement M
 put-reply-spec =

@@ -1,5 +1,5 @@
 -- `capi_responder::state::kurgashel_due` meets its contract. Assumes nothing.
-use mathlib.Core.Path.{_≡_, sym, ap, _∙_}
+use mathlib.Core.Path.{sym, ap, _∙_}
 use Rattle.claims.specs.due.Due.{nextDue}
 use Rattle.responder.specs.declared.State.{State}
 use Rattle.capi_responder.specs.state.Told.{stepFor}

@@ -1,0 +1,95 @@
+-- What the bytes of a state say, part by part: every string of bytes of its length reads as a state. Assumes nothing: these are definitions.
+use Prim.Native.Nat.{ℕ, _+_, _%_}
+use mathlib.Core.Bool.{Bool, cond}
+use mathlib.Core.List.{List}
+use lib.ListN.{take, drop}
+use lib.Dec.{eqb}
+use Rattle.wire.specs.octets.Octets.{byteAt, word16}
+use Rattle.own.specs.declared.records.Label.{Label}
+use Rattle.own.specs.declared.records.Service.{Service}
+use Rattle.own.specs.declared.records.Strings.{Strings}
+use Rattle.own.specs.declared.records.Setup.{Setup}
+use Rattle.claims.specs.declared.Claim.{Claim}
+use Rattle.claims.specs.declared.Claim.the-variants.{Waiting, Probing1, Probing2, Probing3, Deferred, Announced, Held, Lost}
+use Rattle.claims.specs.declared.Sent.{Sent}
+use Rattle.claims.specs.declared.Sent.the-variants.{Never, At}
+use Rattle.claims.specs.declared.Reply.{Reply}
+use Rattle.claims.specs.declared.Reply.the-variants.{Unset, Due}
+use Rattle.claims.specs.declared.Multicasts.{Multicasts}
+use Rattle.claims.specs.declared.Life.{Life}
+use Rattle.capi_responder.specs.codec.Numbers.{word64}
+use Rattle.capi_responder.specs.codec.Layout as layout
+
+-- `n` bytes from an offset on
+abbrev pub partAt : List ℕ → ℕ → ℕ → List ℕ
+partAt b at n = take n (drop at b)
+
+-- a flag, by its low bit
+abbrev pub flagAt : List ℕ → ℕ → Bool
+flagAt b at = eqb (byteAt b at % 2) 1
+
+-- ---- the set-up
+
+-- a label of an instance or a host, a service label, and TXT strings: the bytes, and the length behind them
+unfoldable pub labelAt : List ℕ → ℕ → Label
+labelAt b at = record { bytes = partAt b at layout.mostLabel; len = byteAt b (at + layout.mostLabel) }
+
+unfoldable pub serviceAt : List ℕ → ℕ → Service
+serviceAt b at = record { bytes = partAt b at layout.mostService; len = byteAt b (at + layout.mostService) }
+
+unfoldable pub stringsAt : List ℕ → ℕ → Strings
+stringsAt b at = record { bytes = partAt b at layout.mostTxt; len = word16 b (at + layout.mostTxt) }
+
+unfoldable pub setupAt : List ℕ → Setup
+setupAt b = record {
+  instance = labelAt b layout.instance;
+  service = serviceAt b layout.service;
+  protocol = partAt b layout.protocol layout.protocolSize;
+  host = labelAt b layout.host;
+  domain = partAt b layout.domain layout.domainSize;
+  port = word16 b layout.port;
+  txt = stringsAt b layout.txt;
+  a = partAt b layout.a layout.aSize;
+  hasaaaa = flagAt b layout.hasaaaa;
+  aaaa = partAt b layout.aaaa layout.aaaaSize;
+}
+
+-- ---- what changes: a case byte and a number for each claim, each last multicast and the reply; then the start draw and the time of the last call
+
+-- a claim by its case, where one beyond the last reads as lost
+abbrev pub claimOf : ℕ → ℕ → Claim
+claimOf tag due =
+    cond (eqb tag 0) (Waiting due)
+    (cond (eqb tag 1) (Probing1 due)
+    (cond (eqb tag 2) (Probing2 due)
+    (cond (eqb tag 3) (Probing3 due)
+    (cond (eqb tag 4) (Deferred due)
+    (cond (eqb tag 5) (Announced due)
+    (cond (eqb tag 6) Held Lost))))))
+
+unfoldable pub claimAt : List ℕ → ℕ → Claim
+claimAt b at = claimOf (byteAt b at) (word64 b (at + 1))
+
+-- a time that is set or not, by the case's low bit
+abbrev pub timeAt : {A : Type 0} → (ℕ → A) → A → List ℕ → ℕ → A
+timeAt set unset b at = cond (flagAt b at) (set (word64 b (at + 1))) unset
+
+-- the last multicast of an own record, by its index
+unfoldable pub sentAt : List ℕ → ℕ → Sent
+sentAt b i = timeAt At Never b (layout.multicast i)
+
+unfoldable pub replyAt : List ℕ → Reply
+replyAt b = timeAt Due Unset b layout.reply
+
+unfoldable pub multicastsAt : List ℕ → Multicasts
+multicastsAt b = record { ptr = sentAt b 0; srv = sentAt b 1; txt = sentAt b 2; a = sentAt b 3; aaaa = sentAt b 4 }
+
+unfoldable pub lifeAt : List ℕ → Life
+lifeAt b = record {
+  instance = claimAt b layout.instanceClaim;
+  host = claimAt b layout.hostClaim;
+  sent = multicastsAt b;
+  reply = replyAt b;
+  draw = word64 b layout.draw;
+  last = word64 b layout.last;
+}
