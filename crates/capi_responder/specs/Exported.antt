@@ -1,11 +1,13 @@
--- Start, packet received and tick on lent bytes: the answer in numbers, the bytes that the state then has, and what they say. Assumes nothing: these
--- are definitions.
+-- Start, packet received and tick on lent bytes: the answer in numbers, the bytes that the state then has, and what they say. The contracts are the
+-- records `Starts`, `Receives` and `Ticks`. Assumes nothing: these are definitions.
 use Prim.Native.Nat.{ℕ}
-use mathlib.Core.Bool.{Bool, cond}
+use mathlib.Core.Path.{_≡_}
+use mathlib.Core.Bool.{Bool, false, cond}
 use mathlib.Core.List.{List}
 use lib.ListN.{length}
 use lib.Dec.{eqb}
 use Rattle.own.specs.declared.records.Setup.{Setup}
+use Rattle.writer.specs.own_packets.Own.{laidOver}
 use Rattle.responder.specs.declared.State.{State}
 use Rattle.responder.specs.declared.Answer.{Answer}
 use Rattle.responder.specs.declared.Started.{Started}
@@ -41,6 +43,11 @@ startedBytes b setup now draw =
 unfoldable pub startedState : List ℕ → List ℕ → ℕ → ℕ → State
 startedState b setup now draw = unlessRefused (started b setup now draw .answer) (started b setup now draw .state) (decode b)
 
+pub record Starts (b setup : List ℕ) (time draw : ℕ) (a : Called) (b′ : List ℕ) : Type 0 where
+  pub answers : a ≡ calledWith (started b setup time draw .answer) false
+  pub bytes : b′ ≡ startedBytes b setup time draw
+  pub says : decode b′ ≡ startedState b setup time draw
+
 -- ---- a packet received
 
 abbrev pub received : List ℕ → ℕ → ℕ → ℕ → List ℕ → ℕ → Received
@@ -50,6 +57,12 @@ unfoldable pub receivedBytes : List ℕ → ℕ → ℕ → ℕ → List ℕ →
 receivedBytes b now port draw p room =
     unlessRefused (received b now port draw p room .answer) (withLife b (received b now port draw p room .state .life)) b
 
+pub record Receives (b : List ℕ) (time port draw : ℕ) (p out : List ℕ) (a : Called) (b′ out′ : List ℕ) : Type 0 where
+  pub answers : a ≡ calledWith (received b time port draw p (length out) .answer) false
+  pub bytes : b′ ≡ receivedBytes b time port draw p (length out)
+  pub says : decode b′ ≡ received b time port draw p (length out) .state
+  pub writes : out′ ≡ laidOver (receivedPacket (decode b) time port draw p (length out)) out
+
 -- ---- a tick
 
 abbrev pub ticked : List ℕ → ℕ → ℕ → Ticked
@@ -57,3 +70,9 @@ ticked b now room = tickOf (decode b) now room
 
 unfoldable pub tickedBytes : List ℕ → ℕ → ℕ → List ℕ
 tickedBytes b now room = unlessRefused (ticked b now room .answer) (withLife b (ticked b now room .state .life)) b
+
+pub record Ticks (b : List ℕ) (time : ℕ) (out : List ℕ) (a : Called) (b′ out′ : List ℕ) : Type 0 where
+  pub answers : a ≡ calledWith (ticked b time (length out) .answer) (ticked b time (length out) .more)
+  pub bytes : b′ ≡ tickedBytes b time (length out)
+  pub says : decode b′ ≡ ticked b time (length out) .state
+  pub writes : out′ ≡ laidOver (tickedPacket (decode b) time (length out)) out

@@ -1,17 +1,13 @@
-// The responder for C and Rust: start, packet received and tick on a state that the caller lends as 667 bytes (module `codec`), with the answer in
-// numbers. What a state says is in `state`. c/include/kurgashel.h declares these functions.
+// The responder for C and Rust: start, packet received and tick on a state that the caller lends as bytes (modules `layout` and `codec`), with the answer
+// in numbers. What a state says is in `state`. c/include/kurgashel.h declares these functions.
 pub mod codec;
 pub mod encoder;
 pub mod layout;
 pub mod state;
 
 ghost use mathlib.Core.Path.{_≡_};
-ghost use mathlib.Core.Bool.{false};
-ghost use lib.ListN.{length};
-ghost use Rattle.writer.specs.own_packets.Own.{laidOver};
-ghost use Rattle.responder.specs.Calls.{refusalOf, lengthOf, receivedPacket, tickedPacket};
-ghost use Rattle.capi_responder.specs.codec.Codec.{decode};
-ghost use Rattle.capi_responder.specs.Exported.{calledWith, setupFor, started, startedBytes, startedState, received, receivedBytes, ticked, tickedBytes};
+ghost use Rattle.responder.specs.Calls.{refusalOf, lengthOf};
+ghost use Rattle.capi_responder.specs.Exported.{calledWith, setupFor, Starts, Receives, Ticks};
 use own::records::Setup;
 use responder::Answer;
 
@@ -64,12 +60,10 @@ fn setup_for(setup: &[u8], room: usize) -> Setup
     blank.setup
 }
 
-// Begins a responder in lent bytes, with a set-up of 579 bytes.
+// Begins a responder in lent bytes, with the bytes of a set-up.
 #[no_mangle]
 pub extern "C" fn kurgashel_start(state: &mut [u8], setup: &[u8], time: u64, draw: u64) -> Called
-    ensures { λ r. ⌜ r ≡ calledWith (started (now (state .entry)) (now (setup .entry)) time draw .answer) false ⌝ }
-    ensures { λ _. ⌜ now (state .exit) ≡ startedBytes (now (state .entry)) (now (setup .entry)) time draw ⌝ }
-    ensures { λ _. ⌜ decode (now (state .exit)) ≡ startedState (now (state .entry)) (now (setup .entry)) time draw ⌝ }
+    ensures { λ r. ⌜ Starts (now (state .entry)) (now (setup .entry)) time draw r (now (state .exit)) ⌝ }
 {
     let begun = responder::start(setup_for(setup, state.len()), time, draw);
     let answer = begun.answer;
@@ -93,10 +87,7 @@ pub extern "C" fn kurgashel_receive(
     packet: &[u8],
     out: &mut [u8],
 ) -> Called
-    ensures { λ r. ⌜ r ≡ calledWith (received (now (state .entry)) time port draw (now (packet .entry)) (length (now (out .entry))) .answer) false ⌝ }
-    ensures { λ _. ⌜ now (state .exit) ≡ receivedBytes (now (state .entry)) time port draw (now (packet .entry)) (length (now (out .entry))) ⌝ }
-    ensures { λ _. ⌜ decode (now (state .exit)) ≡ received (now (state .entry)) time port draw (now (packet .entry)) (length (now (out .entry))) .state ⌝ }
-    ensures { λ _. ⌜ now (out .exit) ≡ laidOver (receivedPacket (decode (now (state .entry))) time port draw (now (packet .entry)) (length (now (out .entry)))) (now (out .entry)) ⌝ }
+    ensures { λ r. ⌜ Receives (now (state .entry)) time port draw (now (packet .entry)) (now (out .entry)) r (now (state .exit)) (now (out .exit)) ⌝ }
 {
     let heard = responder::receive(
         crate::codec::read_state(state),
@@ -119,10 +110,7 @@ pub extern "C" fn kurgashel_receive(
 // Walks the due steps, and writes the packet of the first that sends.
 #[no_mangle]
 pub extern "C" fn kurgashel_tick(state: &mut [u8], time: u64, out: &mut [u8]) -> Called
-    ensures { λ r. ⌜ r ≡ calledWith (ticked (now (state .entry)) time (length (now (out .entry))) .answer) (ticked (now (state .entry)) time (length (now (out .entry))) .more) ⌝ }
-    ensures { λ _. ⌜ now (state .exit) ≡ tickedBytes (now (state .entry)) time (length (now (out .entry))) ⌝ }
-    ensures { λ _. ⌜ decode (now (state .exit)) ≡ ticked (now (state .entry)) time (length (now (out .entry))) .state ⌝ }
-    ensures { λ _. ⌜ now (out .exit) ≡ laidOver (tickedPacket (decode (now (state .entry))) time (length (now (out .entry)))) (now (out .entry)) ⌝ }
+    ensures { λ r. ⌜ Ticks (now (state .entry)) time (now (out .entry)) r (now (state .exit)) (now (out .exit)) ⌝ }
 {
     let walked = responder::tick(crate::codec::read_state(state), time, out);
     let answer = walked.answer;

@@ -16,7 +16,13 @@ answered-requires : tie.Need-answered-requires
 answered-requires c κs = search needs
 
 returns : tie.Need-returns
-returns c = let h : _ = start-kept (c .before .before .before .before .before .before .before .args .state .now) (c .before .before .before .before .before .before .before .args .setup .now) _ _ _ _ _ _ (c .before .before .before .before .setup-for .ensures) (c .before .before .before .start .ensures .0) (c .before .before .refusal-of .ensures) (c .answered .ensures) (c .before .if1 .taken) in (h .answers, (h .bytes, h .says))
+returns c =
+    let refusal = c .before .before in
+    let start = refusal .before in
+    let setup = start .before in
+    let a = setup .before .before .before .args in
+    start-kept (a .state .now) (a .setup .now) _ _ (setup .setup-for .ensures) (start .start .ensures .0) (refusal .refusal-of .ensures) (c .answered .ensures)
+    (c .before .if1 .taken)
 
 put-setup-requires : tie.Need-put-setup-requires
 put-setup-requires c κs = search needs
@@ -31,7 +37,16 @@ same-length : tie.Need-same-length
 same-length c = search needs
 
 returns-2 : tie.Need-returns-2
-returns-2 c = let h : _ = start-taken (c .before .before .before .before .before .before .before .before .before .before .before .before .before .before .before .before .before .args .state .now) (c .before .before .before .before .before .before .before .before .before .before .before .before .before .before .before .before .before .args .setup .now) _ _ _ _ _ _ (c .before .before .before .before .before .before .before .before .before .before .before .before .before .before .setup-for .ensures) (c .before .before .before .before .before .before .before .before .before .before .before .before .before .start .ensures .0) (c .before .before .before .before .before .before .before .before .before .before .before .before .refusal-of .ensures) (c .answered2 .ensures) _ _ (c .before .before .before .before .before .before .before .before .before .before .before .if1 .left) (c .before .before .before .before .before .before .before .put-setup .ensures) (c .before .before .before .put-life .ensures) in (h .answers, (h .bytes, h .says))
+returns-2 c =
+    let put-life = c .before .before .before in
+    let put-setup = put-life .before .before .before .before in
+    let if1 = put-setup .before .before .before .before in
+    let refusal = if1 .before in
+    let start = refusal .before in
+    let setup = start .before in
+    let a = setup .before .before .before .args in
+    start-taken (a .state .now) (a .setup .now) _ _ (setup .setup-for .ensures) (start .start .ensures .0) (refusal .refusal-of .ensures) (c .answered2 .ensures)
+    (if1 .if1 .left) (put-setup .put-setup .ensures) (put-life .put-life .ensures)
 
 pub kurgashel-start-spec : {M : Type 1} → statement M
 kurgashel-start-spec =

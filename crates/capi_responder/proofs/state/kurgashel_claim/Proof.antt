@@ -13,13 +13,19 @@ state-number-requires : tie.Need-state-number-requires
 state-number-requires c κs = search needs
 
 returns : tie.Need-returns
-returns c = let e : _ = eq-eqb _ 0 (c .before .if1 .taken) in simp e (c .state-number .ensures ∙ ap (λ (s : State). stateNumber (s .life .instance)) (c .before .before .before .read-state .ensures))
+returns c =
+    let e : _ = eq-eqb _ 0 (c .before .if1 .taken) in
+    let read = c .before .before .before .read-state .ensures in
+    simp e (c .state-number .ensures ∙ ap (λ (s : State). stateNumber (s .life .instance)) read)
 
 state-number-requires-2 : tie.Need-state-number-requires-2
 state-number-requires-2 c κs = search needs
 
 returns-2 : tie.Need-returns-2
-returns-2 c = let e : _ = ne-eqb _ 0 (c .before .if1 .left) in simp e (c .state-number2 .ensures ∙ ap (λ (s : State). stateNumber (s .life .host)) (c .before .before .before .read-state .ensures))
+returns-2 c =
+    let e : _ = ne-eqb _ 0 (c .before .if1 .left) in
+    let read = c .before .before .before .read-state .ensures in
+    simp e (c .state-number2 .ensures ∙ ap (λ (s : State). stateNumber (s .life .host)) read)
 
 pub kurgashel-claim-spec : {M : Type 1} → statement M
 kurgashel-claim-spec =
