@@ -14,12 +14,13 @@ use Rattle.wire.specs.names.Names.{readFrom, fromRun, nameAt}
 use Rattle.wire.specs.expansion.Equal.{sameBytes}
 use Rattle.own.specs.declared.records.Setup.{Setup}
 use Rattle.own.specs.records.Setups.{serviceLabels, instanceLabels, hostLabels}
-use Rattle.own.specs.records.Records.{hasRecord, ownLabels, ownName, ownType, ownClass, ownTtl, srvRdata, ownRdata}
+use Rattle.own.specs.records.Records.{hasRecord, ownLabels, ownName, srvRdata, ownRdata}
+use Rattle.claims.specs.records.Sets.{picked}
 use Rattle.writer.specs.compression.Compression.{standsAt, placeOf, cutFrom, nameBytes, starts, namePlaces}
 use Rattle.writer.specs.Items.{putName, dataBytes, dataPlaces, putFields}
 use Rattle.writer.specs.own_packets.Packets.{packetOf}
 use Rattle.writer.specs.own_packets.Own as own
-use Rattle.writer.specs.own_packets.Own.{responsePacket, responseRecords, picked, responseOf}
+use Rattle.writer.specs.own_packets.Own.{responsePacket, responseRecords, responseOf}
 use Rattle.readings.specs.Examples.{padded, example}
 
 -- the bytes after a 1, as one number
@@ -44,10 +45,10 @@ hosted host len = record {
 
 -- the response with PTR, SRV, TXT, A, AAAA or without
 abbrev pub written : Setup → Bool → Bool → Bool → Bool → Bool → ℕ
-written s ptr srv txt a aaaa = number 1 (responsePacket s (ptr ∷ (srv ∷ (txt ∷ (a ∷ (aaaa ∷ []))))))
+written s ptr srv txt a aaaa = number 1 (responsePacket s (record { ptr = ptr; srv = srv; txt = txt; a = a; aaaa = aaaa }))
 '''
 NAMES = {"dock": ("plain", "a host label that stands nowhere else"), "_tcp": ("shared", "a host label that is a label of the service's name"), "Booth": ("cased", "a host label that differs from the instance's only in case")}
-UNFOLDING = "number hosted example nameAt fromRun readFrom pieceAt sameBytes hasRecord ownLabels ownName ownType ownClass ownTtl srvRdata ownRdata serviceLabels instanceLabels hostLabels responsePacket responseRecords picked responseOf own.ownRecord packetOf putName dataBytes dataPlaces putFields nameBytes namePlaces starts cutFrom placeOf standsAt"
+UNFOLDING = "number hosted example nameAt fromRun readFrom pieceAt sameBytes hasRecord ownLabels ownName srvRdata ownRdata serviceLabels instanceLabels hostLabels responsePacket responseRecords picked responseOf own.ownRecord packetOf putName dataBytes dataPlaces putFields nameBytes namePlaces starts cutFrom placeOf standsAt"
 
 
 def listed(values):

@@ -1,3 +1,3 @@
--- Laws that belong to no one function. For callers: Refusing (the refusals of a table and of a byte store).
+-- Laws that belong to no one function. For callers: Refusing (the refusals of a table).
 pub mod Refusing
 mod Looking

@@ -4,15 +4,17 @@ pub mod laws;
 pub mod lookup;
 
 ghost use mathlib.Core.Path.{_≡_};
-ghost use Prim.Native.Nat.{_+_, _*_, _≤_, _^_};
-ghost use mathlib.Core.List.{[]};
-ghost use lib.ListN.{length, replicate};
+ghost use Prim.Native.Nat.{ℕ, _+_, _*_, _≤_, _^_};
+ghost use mathlib.Core.List.{List, []};
+ghost use lib.ListN.{length};
 ghost use lib.Seq.{sets};
 ghost use Rattle.cache.specs.entries.Entries.{isFree, holds, flushed, refreshed};
 ghost use Rattle.cache.specs.entries.Tables.{lowest, each};
-ghost use Rattle.cache.specs.entries.Cache.{isCached, rule1, goodbye, taken, renewed, afterRule1, takeRecord, takeRecords, takeRead, takeIn, atStart};
-ghost use Rattle.wire.specs.message.Layout.{listFrom, recordAt, messageAt};
-ghost use Rattle.cache.specs.Kept.{cacheOf, recordFor, Room, Lies, Checked, Read, saidBy, recordsIn};
+ghost use Rattle.cache.specs.entries.Cache.{Cache, isCached, rule1, equalSlot, freeSlot, goodbye, slotWith, taken, renewed, afterRule1, takeRecord, takeRecords, takeMessage, takeIn, atStart};
+ghost use Rattle.wire.specs.message.Message.{Record, recordOf};
+ghost use Rattle.wire.specs.message.Layout.{recordAt};
+ghost use Rattle.wire.specs.message.Readable.{readable, messageIn, recordShown};
+ghost use Rattle.cache.specs.Kept.{cacheOf, Room, Whole};
 ghost use Rattle.cache.specs.Answers.{refusedWith, afterTake};
 use crate::entries::Entry;
 use crate::entries::Slot;
@@ -99,7 +101,7 @@ fn flush_all(es: [Entry; 64], store: &[u8], time: u64, owner: &[u8], rtype: u16)
 // Writes slot i whole: the owner, the rdata, and zeros in the bytes that they leave.
 fn write_slot(store: &mut [u8], i: usize, owner: &[u8], content: &[u8])
     requires { ⌜ (1024 * i + 1024 ≤ length (now store)) × ((length (now owner) ≤ 256) × (length (now content) ≤ 768)) ⌝ }
-    ensures { λ _. ⌜ now (store .exit) ≡ sets (now (store .entry)) (1024 * i) (sets (sets (replicate 1024 0) 0 (now (owner .entry))) 256 (now (content .entry))) ⌝ }
+    ensures { λ _. ⌜ now (store .exit) ≡ sets (now (store .entry)) (1024 * i) (slotWith (now (owner .entry)) (now (content .entry))) ⌝ }
 {
     let mut slot = [0u8; 1024];
     wire::buffer::put(&mut slot, 0, owner);
@@ -109,7 +111,9 @@ fn write_slot(store: &mut [u8], i: usize, owner: &[u8], content: &[u8])
 
 // Rule 2.
 fn say_goodbye(k: Kept, store: &[u8], time: u64, owner: &[u8], rtype: u16, content: &[u8]) -> Kept
-    ensures { λ r. ⌜ cacheOf r (now (store .entry)) ≡ goodbye time (cacheOf k (now (store .entry))) (lowest (holds time (now (store .entry)) (now (owner .entry)) rtype (now (content .entry))) 0 (k .entries)) ⌝ }
+    ensures { λ r. ⌜ (let x : Record = recordOf (now (owner .entry)) rtype 0 0 (now (content .entry)) in
+        let c : Cache = cacheOf k (now (store .entry)) in
+        cacheOf r (now (store .entry)) ≡ goodbye time c (equalSlot time x c)) ⌝ }
 {
     let mut es = k.entries;
     match equal_slot(es, store, time, owner, rtype, content) {
@@ -151,7 +155,9 @@ fn take_new(
     content: &[u8],
 ) -> Kept
     requires { ⌜ Room time (now store) (now owner) (k .turned) (k .passed) × (length (now content) ≤ 768) ⌝ }
-    ensures { λ r. ⌜ cacheOf r (now (store .exit)) ≡ taken time (recordFor (now (owner .entry)) rtype 0 ttl (now (content .entry))) (cacheOf k (now (store .entry))) (lowest (isFree time) 0 (k .entries)) ⌝ }
+    ensures { λ r. ⌜ (let x : Record = recordOf (now (owner .entry)) rtype 0 ttl (now (content .entry)) in
+        let c : Cache = cacheOf k (now (store .entry)) in
+        cacheOf r (now (store .exit)) ≡ taken time x c (freeSlot time c)) ⌝ }
 {
     let mut es = k.entries;
     match free_slot(es, time) {
@@ -189,7 +195,9 @@ fn renew(
     content: &[u8],
 ) -> Kept
     requires { ⌜ Room time (now store) (now owner) (k .turned) (k .passed) × (length (now content) ≤ 768) ⌝ }
-    ensures { λ r. ⌜ cacheOf r (now (store .exit)) ≡ renewed time (recordFor (now (owner .entry)) rtype 0 ttl (now (content .entry))) (cacheOf k (now (store .entry))) (lowest (holds time (now (store .entry)) (now (owner .entry)) rtype (now (content .entry))) 0 (k .entries)) ⌝ }
+    ensures { λ r. ⌜ (let x : Record = recordOf (now (owner .entry)) rtype 0 ttl (now (content .entry)) in
+        let c : Cache = cacheOf k (now (store .entry)) in
+        cacheOf r (now (store .exit)) ≡ renewed time x c (equalSlot time x c)) ⌝ }
 {
     let mut es = k.entries;
     match equal_slot(es, store, time, owner, rtype, content) {
@@ -208,7 +216,8 @@ fn renew(
 
 // Rule 1.
 fn flush(k: Kept, store: &[u8], time: u64, owner: &[u8], rtype: u16, class: u16) -> Kept
-    ensures { λ r. ⌜ cacheOf r (now (store .entry)) ≡ rule1 time (recordFor (now (owner .entry)) rtype class 0 (now (owner .entry))) (cacheOf k (now (store .entry))) ⌝ }
+    ensures { λ r. ⌜ (let x : Record = recordOf (now (owner .entry)) rtype class 0 (now (owner .entry)) in
+        cacheOf r (now (store .entry)) ≡ rule1 time x (cacheOf k (now (store .entry)))) ⌝ }
 {
     if class < 32768 {
         return k;
@@ -232,7 +241,9 @@ fn take_content(
     content: &[u8],
 ) -> Kept
     requires { ⌜ Room time (now store) (now owner) (k .turned) (k .passed) ⌝ }
-    ensures { λ r. ⌜ cacheOf r (now (store .exit)) ≡ afterRule1 time (recordFor (now (owner .entry)) rtype 0 ttl (now (content .entry))) (cacheOf k (now (store .entry))) ⌝ }
+    ensures { λ r. ⌜ (let x : Record = recordOf (now (owner .entry)) rtype 0 ttl (now (content .entry)) in
+        let c : Cache = cacheOf k (now (store .entry)) in
+        cacheOf r (now (store .exit)) ≡ afterRule1 time x c) ⌝ }
 {
     if 768 < content.len() {
         let es = k.entries;
@@ -270,10 +281,10 @@ fn is_cached(class: u16, rtype: u16) -> bool
     rtype == wire::rdata::SRV
 }
 
-// One record of a message that has been checked: the rules, on its owner and rdata expanded.
+// One record as it lies: the rules, on its owner and rdata expanded.
 fn take_record(k: Kept, store: &mut [u8], time: u64, p: &[u8], f: wire::message::RecordAt) -> Kept
-    requires { ⌜ Room time (now store) [] (k .turned) (k .passed) × Lies (now p) f ⌝ }
-    ensures { λ r. ⌜ cacheOf r (now (store .exit)) ≡ takeRecord time (saidBy (recordAt (now (p .entry)) (f .owner))) (cacheOf k (now (store .entry))) ⌝ }
+    requires { ⌜ Room time (now store) [] (k .turned) (k .passed) × Whole (now p) f ⌝ }
+    ensures { λ r. ⌜ cacheOf r (now (store .exit)) ≡ takeRecord time (recordShown (now (p .entry)) f) (cacheOf k (now (store .entry))) ⌝ }
 {
     if !is_cached(f.class, f.rtype) {
         return k;
@@ -284,22 +295,24 @@ fn take_record(k: Kept, store: &mut [u8], time: u64, p: &[u8], f: wire::message:
     let name = expanded.bytes;
     let owner = &name[..span];
     let flushed = flush(k, store, time, owner, rtype, f.class);
-    let opened = wire::expansion::open(p, rtype, f.rdata, f.rdlength);
+    let opened = wire::expansion::open(p, f);
     let bytes = opened.bytes;
-    let content = wire::expansion::view(p, &bytes, opened.len, rtype, f.rdata, f.rdlength);
+    let content = wire::expansion::view(p, &bytes, opened.len, f);
     take_content(flushed, store, time, owner, rtype, f.ttl, content)
 }
 
-// The records of a section that has been checked, in order.
+// The records of a section, in order.
 fn take_section(k: Kept, store: &mut [u8], time: u64, p: &[u8], at: usize, count: u16) -> Kept
-    requires { ⌜ Room time (now store) [] (k .turned + count) (k .passed + count) × Checked (now p) count at ⌝ }
-    ensures { λ r. ⌜ (cacheOf r (now (store .exit)) ≡ takeRecords time (recordsIn (listFrom (recordAt (now (p .entry))) count at)) (cacheOf k (now (store .entry)))) × ((r .turned ≤ k .turned + count) × (r .passed ≤ k .passed + count)) ⌝ }
+    requires { ⌜ Room time (now store) [] (k .turned + count) (k .passed + count) ⌝ }
+    ensures taken { λ r. ⌜ (let records : List Record = readable (recordAt (now (p .entry))) count at in
+        cacheOf r (now (store .exit)) ≡ takeRecords time records (cacheOf k (now (store .entry)))) ⌝ }
+    ensures counted { λ r. ⌜ (r .turned ≤ k .turned + count) × (r .passed ≤ k .passed + count) ⌝ }
 {
     let mut kept = k;
     let mut here = at;
     let mut left = count;
     while 0 < left {
-        match wire::message::record_at(p, here) {
+        match wire::message::whole_record(p, here) {
             wire::message::RecordRead::Found(f) => {
                 kept = take_record(kept, store, time, p, f);
                 here = f.next;
@@ -313,7 +326,7 @@ fn take_section(k: Kept, store: &mut [u8], time: u64, p: &[u8], at: usize, count
     kept
 }
 
-// The records of a message that has been checked: the Answer and Additional ones of a response, and none of a query.
+// The records of a message that lies so: the Answer and Additional ones of a response, and none of a query.
 fn take_message(
     es: [Entry; 64],
     store: &mut [u8],
@@ -321,8 +334,8 @@ fn take_message(
     p: &[u8],
     l: wire::message::Layout,
 ) -> Kept
-    requires { ⌜ Room time (now store) [] 0 0 × Read (now p) l ⌝ }
-    ensures { λ r. ⌜ cacheOf r (now (store .exit)) ≡ takeRead time (atStart es (now (store .entry))) (messageAt (now (p .entry))) ⌝ }
+    requires { ⌜ Room time (now store) [] 0 0 ⌝ }
+    ensures { λ r. ⌜ cacheOf r (now (store .exit)) ≡ takeMessage time (messageIn (now (p .entry)) l) (atStart es (now (store .entry))) ⌝ }
 {
     let start = Kept {
         entries: es,
@@ -356,23 +369,25 @@ pub fn take_by_value(
     port: u16,
     message: &[u8],
 ) -> AfterTake
-    ensures { λ r. ⌜ (r ≡ afterTake time es (now (store .entry)) port (now (message .entry))) × (now (store .exit) ≡ takeIn time es (now (store .entry)) port (now (message .entry)) .store) ⌝ }
+    ensures { λ r. ⌜ (let s : List ℕ = now (store .entry) in
+        let p : List ℕ = now (message .entry) in
+        (r ≡ afterTake time es s port p) × (now (store .exit) ≡ takeIn time es s port p .store)) ⌝ }
 {
     let refusal = crate::lookup::entries_refusal(es, time);
     if refusal != 0 {
         return refused(refusal, es);
     }
     if store.len() != crate::lookup::STORE {
-        return refused(8, es);
+        return refused(wire::refusals::TABLE, es);
     }
     if message.len() < wire::message::LEAST_MESSAGE {
-        return refused(4, es);
+        return refused(wire::refusals::LENGTH, es);
     }
     if wire::message::MOST_MESSAGE < message.len() {
-        return refused(4, es);
+        return refused(wire::refusals::LENGTH, es);
     }
     if port != MDNS_PORT {
-        return refused(5, es);
+        return refused(wire::refusals::HEADER, es);
     }
     match wire::message::read_message(message) {
         wire::message::MessageRead::Read(l) => {

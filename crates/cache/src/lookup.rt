@@ -1,8 +1,9 @@
 // A lookup in the cache on a table by value, and the tests of a table that both calls make first (specification, 'The cache'). The byte store is lent.
 ghost use mathlib.Core.Path.{_≡_};
 ghost use lib.ListN.{length};
+ghost use Rattle.wire.specs.Lists.{some};
 ghost use Rattle.cache.specs.entries.Entries.{matches, heardAhead, tooLong};
-ghost use Rattle.cache.specs.entries.Tables.{lowest, some};
+ghost use Rattle.cache.specs.entries.Tables.{lowest};
 ghost use Rattle.cache.specs.entries.Cache.{entriesRefusal};
 ghost use Rattle.cache.specs.lookup.Answers.{lookedRefusal, lookedOf};
 use crate::entries::Entry;
@@ -56,13 +57,13 @@ pub fn entries_refusal(es: [Entry; 64], time: u64) -> u8
     ensures { λ r. ⌜ r ≡ entriesRefusal time es ⌝ }
 {
     if LATEST < time {
-        return 1;
+        return wire::refusals::TIME;
     }
     if any_ahead(es, time) {
-        return 1;
+        return wire::refusals::TIME;
     }
     if any_too_long(es) {
-        return 8;
+        return wire::refusals::TABLE;
     }
     0
 }
@@ -90,10 +91,10 @@ pub fn look_refusal(entries: u8, store: &[u8], name: &[u8]) -> u8
         return entries;
     }
     if store.len() != STORE {
-        return 8;
+        return wire::refusals::TABLE;
     }
     if !wire::names::is_name(name) {
-        return 6;
+        return wire::refusals::MALFORMED;
     }
     0
 }

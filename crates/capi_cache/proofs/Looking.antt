@@ -7,37 +7,38 @@ use native.Mathlib.Omega.{arith}
 use lib.ListN.{length, getD, drop}
 use lib.Dec.{eqb}
 use borrow.Author.Tests.{ne-eqb}
-use Rattle.wire.specs.names.Names.{isName}
 use Rattle.cache.specs.entries.Entries.{blank, liveOf, matches}
 use Rattle.cache.specs.entries.Tables.{lowest}
-use Rattle.cache.specs.entries.Cache.{entriesRefusal, storeRefusal, nameRefusal, lookRefusal, lookIn}
+use Rattle.cache.specs.entries.Cache.{badStore, badName, lookTests, entriesRefusal, lookRefusal, lookIn}
 use Rattle.cache.specs.declared.entries.Entry.{Entry}
 use Rattle.cache.specs.declared.entries.Slot.{Slot}
 use Rattle.cache.specs.declared.entries.Slot.the-variants.{At, Nowhere}
 use Rattle.cache.proofs.entries.Searches.{lowest-here, lowest-on, lowest-end, from-slot}
 use Rattle.cache.proofs.entries.Single.{match-from}
+use Rattle.cache.proofs.lookup.Refusing.{table-first}
 use Rattle.cache.specs.lookup.Answers.{lookedWith, lookedOf, lookedRefusal}
 use Rattle.capi_cache.specs.Numbers.{lookedNumbers, refusedLook, foundLook, nothingLook}
 use Rattle.capi_cache.proofs.Scan.{entries-fits}
 
 -- the number fits a byte
 pub refusal-fits : (now : ℕ) (es : List Entry) (store name : List ℕ) → lookedRefusal (entriesRefusal now es) store name < 2 ^ 8
-unfolding storeRefusal nameRefusal
-refusal-fits now es store name = go (entriesRefusal now es) (entries-fits now es) (eqb (entriesRefusal now es) 0) (eqb (length store) 65536) (isName name)
+refusal-fits now es store name = go (entriesRefusal now es) (entries-fits now es) (eqb (entriesRefusal now es) 0) (badStore store) (badName name)
   where
-    last : (a b : Bool) → cond (eqb (cond a 0 8) 0) (cond b 0 6) (cond a 0 8) < 2 ^ 8
-    last true true = omega arith
-    last true false = omega arith
-    last false b = omega arith
-
-    go : (n : ℕ) → n < 2 ^ 8 → (c a b : Bool) → cond c (cond (eqb (cond a 0 8) 0) (cond b 0 6) (cond a 0 8)) n < 2 ^ 8
-    go n h true a b = last a b
+    go : (n : ℕ) → n < 2 ^ 8 → (c a b : Bool) → cond c (cond a 8 (cond b 6 0)) n < 2 ^ 8
+    go n h true true b = omega arith
+    go n h true false true = omega arith
+    go n h true false false = omega arith
     go n h false a b = h
 
 module _ (now : ℕ) (es : List Entry) (store name : List ℕ) (rtype from : ℕ) where
+  -- a lookup's refusal, from that of its table
+  number : lookedRefusal (entriesRefusal now es) store name ≡ lookRefusal now es store name
+  unfolding lookRefusal
+  number = sym (table-first now es (lookTests store name))
+
   pub is-refused : (lookedRefusal (entriesRefusal now es) store name ≡ 0 → ⊥) → refusedLook (lookedRefusal (entriesRefusal now es) store name) ≡ lookedNumbers (lookedOf now es store name rtype from)
-  unfolding lookedOf lookRefusal
-  is-refused z = go (lookedRefusal (entriesRefusal now es) store name) z (lookIn now es store name rtype from)
+  unfolding lookedOf
+  is-refused z = go (lookedRefusal (entriesRefusal now es) store name) z (lookIn now es store name rtype from) ∙ ap (λ (n : ℕ). lookedNumbers (lookedWith n (lookIn now es store name rtype from))) number
     where
       go : (n : ℕ) → (n ≡ 0 → ⊥) → (s : Slot) → refusedLook n ≡ lookedNumbers (lookedWith n s)
       go n z (At i) = sym (simp (ne-eqb n 0 z))
@@ -45,8 +46,8 @@ module _ (now : ℕ) (es : List Entry) (store name : List ℕ) (rtype from : ℕ
 
   module _ (z : lookedRefusal (entriesRefusal now es) store name ≡ 0) where
     answer : (s : Slot) → s ≡ lookIn now es store name rtype from → lookedNumbers (lookedWith 0 s) ≡ lookedNumbers (lookedOf now es store name rtype from)
-    unfolding lookedOf lookRefusal
-    answer s h = ap (λ (x : Slot). lookedNumbers (lookedWith 0 x)) h ∙ ap (λ (n : ℕ). lookedNumbers (lookedWith n (lookIn now es store name rtype from))) (sym z)
+    unfolding lookedOf
+    answer s h = ap (λ (x : Slot). lookedNumbers (lookedWith 0 x)) h ∙ ap (λ (n : ℕ). lookedNumbers (lookedWith n (lookIn now es store name rtype from))) (sym z ∙ number)
 
     pub is-found : (i : ℕ) → At i ≡ lookIn now es store name rtype from → foundLook i ≡ lookedNumbers (lookedOf now es store name rtype from)
     is-found i h = answer (At i) h

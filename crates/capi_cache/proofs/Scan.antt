@@ -8,7 +8,7 @@ use lib.ListN.{length, getD, drop, drop-of-length-le}
 use lib.Dec.{ltb, eqb}
 use borrow.Author.Tests.{lt-ltb, le-ltb, eq-eqb, ne-eqb, eqb-true}
 use Rattle.cache.specs.entries.Entries.{blank, heardAhead, tooLong}
-use Rattle.cache.specs.entries.Tables.{some}
+use Rattle.wire.specs.Lists.{some}
 use Rattle.cache.specs.entries.Cache.{badTime, badTable, entriesRefusal}
 use Rattle.cache.specs.declared.entries.Entry.{Entry}
 use Rattle.cache.proofs.entries.Searches.{at-slot}

@@ -8,9 +8,10 @@ use lib.Dec.{eqb}
 use borrow.Author.Tests.{ne-eqb}
 use Rattle.wire.specs.message.Message.{Message, isResponse}
 use Rattle.wire.specs.message.Layout.{Reads, read, refused, messageAt}
-use Rattle.cache.specs.entries.Cache.{Cache, atStart, entriesRefusal, takeRecords, takeMessage, takeRead, takeRefusal, takeIn}
+use Rattle.cache.specs.entries.Cache.{Cache, atStart, entriesRefusal, takeRecords, takeMessage, takeRead, takeTests, takeRefusal, takeIn}
 use Rattle.cache.specs.declared.entries.Entry.{Entry}
 use Rattle.cache.proofs.entries.Shape.{records-shape}
+use Rattle.cache.proofs.lookup.Refusing.{table-first}
 use Rattle.cache.specs.Answers.{takenWith, takenOf, afterTake}
 use Rattle.capi_cache.specs.Numbers.{refusedTake, takenNumbers}
 
@@ -39,7 +40,7 @@ module _ (now : ℕ) (es : List Entry) (store : List ℕ) (port : ℕ) (p : List
   module _ (z : entriesRefusal now es ≡ 0 → ⊥) where
     number : takeRefusal now es store port p ≡ entriesRefusal now es
     unfolding takeRefusal
-    number = simp (ne-eqb _ _ z)
+    number = table-first now es (takeTests store port p) ∙ simp (ne-eqb (entriesRefusal now es) 0 z)
 
     kept : takeIn now es store port p ≡ atStart es store
     unfolding takeIn

@@ -115,7 +115,7 @@ fn late(time: u64) -> u8
     ensures { λ r. ⌜ r ≡ lateness time ⌝ }
 {
     if cache::lookup::LATEST < time {
-        return 1;
+        return wire::refusals::TIME;
     }
     0
 }
@@ -124,17 +124,17 @@ fn late(time: u64) -> u8
 fn after_entry(refusal: u8, e: Entry, time: u64) -> u8
     ensures { λ r. ⌜ r ≡ worse time refusal e ⌝ }
 {
-    if refusal == 1 {
-        return 1;
+    if refusal == wire::refusals::TIME {
+        return wire::refusals::TIME;
     }
     if cache::entries::is_ahead(e, time) {
-        return 1;
+        return wire::refusals::TIME;
     }
-    if refusal == 8 {
-        return 8;
+    if refusal == wire::refusals::TABLE {
+        return wire::refusals::TABLE;
     }
     if cache::entries::is_too_long(e) {
-        return 8;
+        return wire::refusals::TABLE;
     }
     0
 }
@@ -143,14 +143,14 @@ fn after_entry(refusal: u8, e: Entry, time: u64) -> u8
 fn at_end(refusal: u8, n: usize) -> u8
     ensures { λ r. ⌜ r ≡ ended refusal n ⌝ }
 {
-    if refusal == 1 {
-        return 1;
+    if refusal == wire::refusals::TIME {
+        return wire::refusals::TIME;
     }
-    if refusal == 8 {
-        return 8;
+    if refusal == wire::refusals::TABLE {
+        return wire::refusals::TABLE;
     }
     if n != 64 {
-        return 8;
+        return wire::refusals::TABLE;
     }
     0
 }

@@ -10,7 +10,7 @@ use Rattle.responder.specs.declared.Received.{Received}
 use Rattle.responder.specs.Calls.{refusalOf, receiveOf, receivedPacket}
 use Rattle.responder.specs.Runs as runs
 use Rattle.responder.proofs.Refusals.{receive-number}
-use Rattle.capi_responder.specs.codec.Codec.{decode, withLife, stateWith}
+use Rattle.capi_responder.specs.codec.Codec.{decode, withProgress, stateWith}
 use Rattle.capi_responder.specs.declared.Called.{Called}
 use Rattle.capi_responder.specs.Exported.{calledWith, received, receivedBytes, Receives}
 use Rattle.capi_responder.proofs.States.{Leaves, call-kept, call-taken}
@@ -32,8 +32,8 @@ module _ (b p out : List ℕ) (time port draw : ℕ) {out′ : List ℕ} {s : St
   pub receive-kept : (n ≡ 0 → ⊥) → Receives b time port draw p out a b out′
   receive-kept refused = receives (call-kept b _ _ is-number (receive-number (decode b) time port draw p (length out)) refused)
 
-  pub receive-taken : {b′ : List ℕ} → n ≡ 0 → (b′ ≡ withLife b (r .state .life)) × (decode b′ ≡ stateWith b (r .state .life))
+  pub receive-taken : {b′ : List ℕ} → n ≡ 0 → (b′ ≡ withProgress b (r .state .progress)) × (decode b′ ≡ stateWith b (r .state .progress))
       → Receives b time port draw p out a b′ out′
   receive-taken zero h =
-      let e : r .state .life ≡ received b time port draw p (length out) .state .life = ap (λ (x : Received). x .state .life) is-received in
+      let e : r .state .progress ≡ received b time port draw p (length out) .state .progress = ap (λ (x : Received). x .state .progress) is-received in
       receives (call-taken b _ _ is-number (receive-number (decode b) time port draw p (length out)) e zero h)

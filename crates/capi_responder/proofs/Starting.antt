@@ -15,7 +15,7 @@ use Rattle.responder.specs.Refusals.{startRefusal}
 use Rattle.responder.specs.Calls.{blank, refusalOf, startOf}
 use Rattle.responder.proofs.Refusals.{start-number, start-accepted}
 use Rattle.capi_responder.specs.codec.Layout.{setupSize, stateSize}
-use Rattle.capi_responder.specs.codec.Codec.{setupOf, decode, withLife, stateWith, withSetup}
+use Rattle.capi_responder.specs.codec.Codec.{setupOf, decode, withProgress, stateWith, withSetup}
 use Rattle.capi_responder.proofs.codec.Whole as whole
 use Rattle.capi_responder.specs.declared.Called.{Called}
 use Rattle.capi_responder.specs.Exported.{calledWith, setupFor, started, startedBytes, startedState, Starts}
@@ -35,7 +35,7 @@ blank-start time draw h =
 
 -- the state of an accepted start has the set-up that it was started with
 start-state : (u : Setup) (time draw : ℕ) → startRefusal u time draw ≡ 0
-    → _≡_ {A = State} (record { setup = u; life = startOf u time draw .state .life }) (startOf u time draw .state)
+    → _≡_ {A = State} (record { setup = u; progress = startOf u time draw .state .progress }) (startOf u time draw .state)
 unfolding startOf
 start-state u time draw h = let t : eqb (startRefusal u time draw) 0 ≡ true = eq-eqb _ 0 h in simp t
 
@@ -60,14 +60,14 @@ module _ (b setup : List ℕ) (time draw : ℕ) where
   long-setup h = told _ (λ e. blank-start time draw (rw (blank-of e) at h))
 
   accepted-says : startRefusal (setupFor setup (length b)) time draw ≡ 0
-      → stateWith (withSetup b setup) (started b setup time draw .state .life) ≡ started b setup time draw .state
+      → stateWith (withSetup b setup) (started b setup time draw .state .progress) ≡ started b setup time draw .state
   accepted-says h =
       let t : eqb (length b) stateSize ≡ true = long-state h in
       let e : setupFor setup (length b) ≡ setupOf setup = for-long t in
       let u : eqb (length setup) setupSize ≡ true = long-setup (rw e at h) in
-      let life = started b setup time draw .state .life in
-      whole.started b setup life (eqb-true _ stateSize t) (eqb-true _ setupSize u)
-      ∙ ap (λ (x : Setup). record { setup = x; life = life }) (sym e)
+      let progress = started b setup time draw .state .progress in
+      whole.started b setup progress (eqb-true _ stateSize t) (eqb-true _ setupSize u)
+      ∙ ap (λ (x : Setup). record { setup = x; progress = progress }) (sym e)
       ∙ start-state (setupFor setup (length b)) time draw h
 
   module _ {u : Setup} {r : Started} {a : Called} {n : ℕ} (is-setup : u ≡ setupFor setup (length b)) (is-answer : r ≡ startOf u time draw)
@@ -85,7 +85,7 @@ module _ (b setup : List ℕ) (time draw : ℕ) where
         record { answers = rw is-started at is-called; bytes = simp f; says = simp f }
 
     pub start-taken : {b₁ b′ : List ℕ} → n ≡ 0 → b₁ ≡ withSetup b setup
-        → (b′ ≡ withLife b₁ (r .state .life)) × (decode b′ ≡ stateWith b₁ (r .state .life)) → Starts b setup time draw a b′
+        → (b′ ≡ withProgress b₁ (r .state .progress)) × (decode b′ ≡ stateWith b₁ (r .state .progress)) → Starts b setup time draw a b′
     unfolding startedBytes startedState
     start-taken zero w h =
         let g : startRefusal (setupFor setup (length b)) time draw ≡ 0 = sym (start-number (setupFor setup (length b)) time draw) ∙ sym is-number ∙ zero in

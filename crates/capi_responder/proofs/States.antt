@@ -6,7 +6,7 @@ use Prim.Native.Nat.{ℕ}
 use borrow.Author.Tests.{eq-eqb, ne-eqb}
 use lib.Dec.{eqb}
 use lib.ListN.{length}
-use Rattle.claims.specs.declared.Life.{Life}
+use Rattle.claims.specs.declared.Progress.{Progress}
 use Rattle.responder.specs.declared.State.{State}
 use Rattle.responder.specs.declared.Answer.{Answer}
 use Rattle.responder.specs.Refusals.{receiveRefusal, tickRefusal}
@@ -14,7 +14,7 @@ use Rattle.responder.specs.Calls.{blank, refusalOf, receiveOf, tickOf}
 use Rattle.responder.specs.Runs.{Call, received, ticked, refusalOfCall, stateAfter}
 use Rattle.responder.proofs.Refusals.{refused-keeps, blank-refused}
 use Rattle.capi_responder.specs.codec.Layout.{stateSize}
-use Rattle.capi_responder.specs.codec.Codec.{decode, withLife, stateWith}
+use Rattle.capi_responder.specs.codec.Codec.{decode, withProgress, stateWith}
 use Rattle.capi_responder.specs.Exported.{unlessRefused}
 
 -- a test that is not false
@@ -25,9 +25,9 @@ told false h = absurd (h refl)
 -- ---- a packet received, or a tick
 
 -- it leaves the set-up as it is
-same : (s : State) (t : Bool) (life : Life) → cond t (record { setup = s .setup; life = life }) s .setup ≡ s .setup
-same s true life = refl
-same s false life = refl
+same : (s : State) (t : Bool) (progress : Progress) → cond t (record { setup = s .setup; progress = progress }) s .setup ≡ s .setup
+same s true progress = refl
+same s false progress = refl
 
 same-setup : (s : State) (c : Call) → stateAfter s c .setup ≡ s .setup
 unfolding receiveOf tickOf
@@ -44,13 +44,13 @@ module _ (b : List ℕ) (c : Call) where
   long-enough h = told _ (λ e. blank-refused c (rw (blank-bytes e) at h))
 
   -- bytes with what changes of a state of the same set-up say that state
-  with-life : eqb (length b) stateSize ≡ true → (s : State) → s .setup ≡ decode b .setup → stateWith b (s .life) ≡ s
+  with-progress : eqb (length b) stateSize ≡ true → (s : State) → s .setup ≡ decode b .setup → stateWith b (s .progress) ≡ s
   unfolding decode stateWith
-  with-life t s q = let q′ : _ = simp t at q in simp t (λ i. record { setup = sym q′ i; life = s .life })
+  with-progress t s q = let q′ : _ = simp t at q in simp t (λ i. record { setup = sym q′ i; progress = s .progress })
 
   -- the state's bytes after the call, and what they say
   pub record Leaves (answer : Answer) (b′ : List ℕ) : Type 0 where
-    pub bytes : b′ ≡ unlessRefused answer (withLife b (stateAfter (decode b) c .life)) b
+    pub bytes : b′ ≡ unlessRefused answer (withProgress b (stateAfter (decode b) c .progress)) b
     pub says : decode b′ ≡ stateAfter (decode b) c
 
   module _ (answer : Answer) {n : ℕ} (is : n ≡ refusalOf answer) (of-call : refusalOf answer ≡ refusalOfCall (decode b) c) where
@@ -59,12 +59,12 @@ module _ (b : List ℕ) (c : Call) where
         let f : eqb (refusalOf answer) 0 ≡ false = ne-eqb _ 0 (λ z. refused (is ∙ z)) in
         record { bytes = simp f; says = sym (refused-keeps (decode b) c (rw of-call at f) .0) }
 
-    pub call-taken : {b′ : List ℕ} {life : Life} → life ≡ stateAfter (decode b) c .life → n ≡ 0
-        → (b′ ≡ withLife b life) × (decode b′ ≡ stateWith b life) → Leaves answer b′
+    pub call-taken : {b′ : List ℕ} {progress : Progress} → progress ≡ stateAfter (decode b) c .progress → n ≡ 0
+        → (b′ ≡ withProgress b progress) × (decode b′ ≡ stateWith b progress) → Leaves answer b′
     call-taken e zero h =
         let t : eqb (refusalOf answer) 0 ≡ true = eq-eqb _ 0 (sym is ∙ zero) in
         let l : _ = rw e at h in
         record {
           bytes = simp t (l .0);
-          says = l .1 ∙ with-life (long-enough (sym of-call ∙ sym is ∙ zero)) (stateAfter (decode b) c) (same-setup (decode b) c);
+          says = l .1 ∙ with-progress (long-enough (sym of-call ∙ sym is ∙ zero)) (stateAfter (decode b) c) (same-setup (decode b) c);
         }

@@ -9,7 +9,7 @@ use Rattle.responder.specs.declared.Ticked.{Ticked}
 use Rattle.responder.specs.Calls.{refusalOf, tickOf, tickedPacket}
 use Rattle.responder.specs.Runs as runs
 use Rattle.responder.proofs.Refusals.{tick-number}
-use Rattle.capi_responder.specs.codec.Codec.{decode, withLife, stateWith}
+use Rattle.capi_responder.specs.codec.Codec.{decode, withProgress, stateWith}
 use Rattle.capi_responder.specs.declared.Called.{Called}
 use Rattle.capi_responder.specs.Exported.{calledWith, ticked, tickedBytes, Ticks}
 use Rattle.capi_responder.proofs.States.{Leaves, call-kept, call-taken}
@@ -30,7 +30,7 @@ module _ (b out : List ℕ) (time : ℕ) {out′ : List ℕ} {s : State} {r : Ti
   pub tick-kept : (n ≡ 0 → ⊥) → Ticks b time out a b out′
   tick-kept refused = ticks (call-kept b _ _ is-number (tick-number (decode b) time (length out)) refused)
 
-  pub tick-taken : {b′ : List ℕ} → n ≡ 0 → (b′ ≡ withLife b (r .state .life)) × (decode b′ ≡ stateWith b (r .state .life)) → Ticks b time out a b′ out′
+  pub tick-taken : {b′ : List ℕ} → n ≡ 0 → (b′ ≡ withProgress b (r .state .progress)) × (decode b′ ≡ stateWith b (r .state .progress)) → Ticks b time out a b′ out′
   tick-taken zero h =
-      let e : r .state .life ≡ ticked b time (length out) .state .life = ap (λ (x : Ticked). x .state .life) is-ticked in
+      let e : r .state .progress ≡ ticked b time (length out) .state .progress = ap (λ (x : Ticked). x .state .progress) is-ticked in
       ticks (call-taken b _ _ is-number (tick-number (decode b) time (length out)) e zero h)

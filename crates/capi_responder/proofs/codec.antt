@@ -3,6 +3,7 @@ pub mod Parts
 pub mod Cases
 pub mod Lengths
 pub mod Stands
+pub mod Multicast
 pub mod Round
 pub mod Front
 pub mod Whole

@@ -15,7 +15,7 @@ use Rattle.responder.specs.declared.Received.{Received}
 use Rattle.responder.specs.declared.Ticked.{Ticked}
 use Rattle.responder.specs.Calls.{blank, refusalOf, lengthOf, startOf, receiveOf, receivedPacket, tickOf, tickedPacket}
 use Rattle.capi_responder.specs.codec.Layout.{stateSize}
-use Rattle.capi_responder.specs.codec.Codec.{setupOf, decode, withLife, withSetup}
+use Rattle.capi_responder.specs.codec.Codec.{setupOf, decode, withProgress, withSetup}
 use Rattle.capi_responder.specs.declared.Called.{Called}
 
 -- The specification's values for an answer
@@ -38,7 +38,7 @@ started b setup now draw = startOf (setupFor setup (length b)) now draw
 -- the state's bytes after a start, and the state that they say
 unfoldable pub startedBytes : List ℕ → List ℕ → ℕ → ℕ → List ℕ
 startedBytes b setup now draw =
-    unlessRefused (started b setup now draw .answer) (withLife (withSetup b setup) (started b setup now draw .state .life)) b
+    unlessRefused (started b setup now draw .answer) (withProgress (withSetup b setup) (started b setup now draw .state .progress)) b
 
 unfoldable pub startedState : List ℕ → List ℕ → ℕ → ℕ → State
 startedState b setup now draw = unlessRefused (started b setup now draw .answer) (started b setup now draw .state) (decode b)
@@ -55,7 +55,7 @@ received b now port draw p room = receiveOf (decode b) now port draw p room
 
 unfoldable pub receivedBytes : List ℕ → ℕ → ℕ → ℕ → List ℕ → ℕ → List ℕ
 receivedBytes b now port draw p room =
-    unlessRefused (received b now port draw p room .answer) (withLife b (received b now port draw p room .state .life)) b
+    unlessRefused (received b now port draw p room .answer) (withProgress b (received b now port draw p room .state .progress)) b
 
 pub record Receives (b : List ℕ) (time port draw : ℕ) (p out : List ℕ) (a : Called) (b′ out′ : List ℕ) : Type 0 where
   pub answers : a ≡ calledWith (received b time port draw p (length out) .answer) false
@@ -69,7 +69,7 @@ abbrev pub ticked : List ℕ → ℕ → ℕ → Ticked
 ticked b now room = tickOf (decode b) now room
 
 unfoldable pub tickedBytes : List ℕ → ℕ → ℕ → List ℕ
-tickedBytes b now room = unlessRefused (ticked b now room .answer) (withLife b (ticked b now room .state .life)) b
+tickedBytes b now room = unlessRefused (ticked b now room .answer) (withProgress b (ticked b now room .state .progress)) b
 
 pub record Ticks (b : List ℕ) (time : ℕ) (out : List ℕ) (a : Called) (b′ out′ : List ℕ) : Type 0 where
   pub answers : a ≡ calledWith (ticked b time (length out) .answer) (ticked b time (length out) .more)

@@ -4,16 +4,18 @@ ghost use mathlib.Core.Path.{_≡_};
 ghost use Prim.Native.Nat.{_+_, _≤_, _<_};
 ghost use lib.ListN.{length};
 ghost use Rattle.capi_responder.specs.codec.Numbers.{word64};
-ghost use Rattle.capi_responder.specs.codec.Layout.{mostLabel, mostService, mostTxt, records, setupSize, stateSize};
+ghost use Rattle.capi_responder.specs.codec.Layout.{mostLabel, mostService, mostTxt, setupSize, stateSize};
 ghost use Rattle.capi_responder.specs.codec.Parts.{partAt, flagAt, labelAt, serviceAt, stringsAt, setupAt};
-ghost use Rattle.capi_responder.specs.codec.Parts.{claimOf, claimAt, sentAt, replyAt, multicastsAt, lifeAt};
+ghost use Rattle.capi_responder.specs.codec.Parts.{claimOf, claimAt, whenAt, sentAt, multicastsAt, progressAt};
 ghost use Rattle.capi_responder.specs.codec.Codec.{setupOf, decode};
 use crate::layout;
-use claims::Claim;
-use claims::Life;
+use claims::ClaimState;
+use claims::Multicast;
 use claims::Multicasts;
-use claims::Reply;
-use claims::Sent;
+use claims::Progress;
+use claims::When;
+use claims::records::Own;
+use claims::records::RECORDS;
 use own::records::Label;
 use own::records::Service;
 use own::records::Setup;
@@ -114,69 +116,69 @@ fn setup_at(b: &[u8]) -> Setup
 // ---- what changes
 
 // A claim by its case, and when its next step is due.
-fn claim_of(tag: u8, due: u64) -> Claim
+fn claim_of(tag: u8, due: u64) -> ClaimState
     ensures { λ r. ⌜ r ≡ claimOf tag due ⌝ }
 {
     match tag {
-        0 => Claim::Waiting(due),
-        1 => Claim::Probing1(due),
-        2 => Claim::Probing2(due),
-        3 => Claim::Probing3(due),
-        4 => Claim::Deferred(due),
-        5 => Claim::Announced(due),
-        6 => Claim::Held,
-        _ => Claim::Lost,
+        0 => ClaimState::Waiting(due),
+        1 => ClaimState::Probing1(due),
+        2 => ClaimState::Probing2(due),
+        3 => ClaimState::Probing3(due),
+        4 => ClaimState::Deferred(due),
+        5 => ClaimState::Announced(due),
+        6 => ClaimState::Held,
+        _ => ClaimState::Lost,
     }
 }
 
-fn claim_at(b: &[u8], at: usize) -> Claim
+fn claim_at(b: &[u8], at: usize) -> ClaimState
     requires { ⌜ at + 1 < stateSize ⌝ }
     ensures { λ r. ⌜ r ≡ claimAt (now (b .entry)) at ⌝ }
 {
     claim_of(wire::octets::byte(b, at), be64(b, at + 1))
 }
 
-// The last multicast of an own record, by its index.
-fn sent_at(b: &[u8], i: usize) -> Sent
-    requires { ⌜ i < records ⌝ }
-    ensures { λ r. ⌜ r ≡ sentAt (now (b .entry)) i ⌝ }
+// A time that is set or not: a flag, and the time behind it.
+fn when_at(b: &[u8], at: usize) -> When
+    requires { ⌜ at + 1 < stateSize ⌝ }
+    ensures { λ r. ⌜ r ≡ whenAt (now (b .entry)) at ⌝ }
 {
-    let at = layout::MULTICASTS + i * layout::CASE_SIZE;
     if flag(b, at) {
-        return Sent::At(be64(b, at + 1));
+        return When::At(be64(b, at + 1));
     }
-    Sent::Never
+    When::Never
 }
 
-fn reply_at(b: &[u8]) -> Reply
-    ensures { λ r. ⌜ r ≡ replyAt (now (b .entry)) ⌝ }
+// When an own record was last multicast.
+fn sent_at(b: &[u8], o: Own) -> When
+    ensures { λ r. ⌜ r ≡ sentAt (now (b .entry)) o ⌝ }
 {
-    if flag(b, layout::REPLY) {
-        return Reply::Due(be64(b, layout::REPLY + 1));
-    }
-    Reply::Unset
+    let i = claims::records::index_of(o);
+    when_at(b, layout::MULTICASTS + i * layout::CASE_SIZE)
 }
 
 fn multicasts_at(b: &[u8]) -> Multicasts
     ensures { λ r. ⌜ r ≡ multicastsAt (now (b .entry)) ⌝ }
 {
-    Multicasts {
-        ptr: sent_at(b, own::records::PTR),
-        srv: sent_at(b, own::records::SRV),
-        txt: sent_at(b, own::records::TXT),
-        a: sent_at(b, own::records::A),
-        aaaa: sent_at(b, own::records::AAAA),
+    let never = Multicast { last: When::Never };
+    let mut of = [never; RECORDS];
+    let mut i = 0;
+    while i < RECORDS {
+        let last = sent_at(b, claims::records::record_at(i));
+        of[i] = Multicast { last };
+        i += 1;
     }
+    Multicasts { of }
 }
 
-fn life_at(b: &[u8]) -> Life
-    ensures { λ r. ⌜ r ≡ lifeAt (now (b .entry)) ⌝ }
+fn progress_at(b: &[u8]) -> Progress
+    ensures { λ r. ⌜ r ≡ progressAt (now (b .entry)) ⌝ }
 {
-    Life {
+    Progress {
         instance: claim_at(b, layout::INSTANCE_CLAIM),
         host: claim_at(b, layout::HOST_CLAIM),
         sent: multicasts_at(b),
-        reply: reply_at(b),
+        reply: when_at(b, layout::REPLY),
         draw: be64(b, layout::DRAW),
         last: be64(b, layout::LAST),
     }
@@ -202,7 +204,7 @@ pub fn read_state(b: &[u8]) -> State
     if b.len() == layout::STATE_SIZE {
         return State {
             setup: setup_at(b),
-            life: life_at(b),
+            progress: progress_at(b),
         };
     }
     responder::blank_state()

@@ -5,16 +5,16 @@ ghost use Prim.Native.Nat.{_+_, _≤_, _<_};
 ghost use lib.ListN.{length};
 ghost use Rattle.capi_responder.specs.codec.Numbers.{bytes64, Fits64};
 ghost use Rattle.capi_responder.specs.codec.Layout as layout;
-ghost use Rattle.capi_responder.specs.codec.Codec.{claimTag, claimDue, sentFlag, sentTime, replyFlag, replyDue};
-ghost use Rattle.capi_responder.specs.codec.Codec.{caseBytes, claimBytes, sentBytes, replyBytes, multicastsBytes, lifeBytes};
-ghost use Rattle.capi_responder.specs.codec.Codec.{decode, MulticastsFit, LifeFits, withLife, stateWith, withSetup};
+ghost use Rattle.capi_responder.specs.codec.Codec.{claimTag, claimDue, whenFlag, whenTime};
+ghost use Rattle.capi_responder.specs.codec.Codec.{caseBytes, claimBytes, whenBytes, multicastsBytes, progressBytes};
+ghost use Rattle.capi_responder.specs.codec.Codec.{decode, MulticastsFit, ProgressFits, withProgress, stateWith, withSetup};
 ghost use Rattle.capi_responder.specs.encoder.Laid.{Laid};
 use crate::layout;
-use claims::Claim;
-use claims::Life;
+use claims::ClaimState;
 use claims::Multicasts;
-use claims::Reply;
-use claims::Sent;
+use claims::Progress;
+use claims::When;
+use claims::records::RECORDS;
 
 // Lays `s` over `out` from index `at` on.
 fn put(out: &mut [u8], at: usize, s: &[u8])
@@ -64,134 +64,104 @@ fn put_case(out: &mut [u8], at: usize, tag: u8, n: u64)
     put_number(out, at + 1, n);
 }
 
-fn claim_tag(c: Claim) -> u8
+fn claim_tag(c: ClaimState) -> u8
     ensures { λ r. ⌜ r ≡ claimTag c ⌝ }
 {
     match c {
-        Claim::Waiting(_) => 0,
-        Claim::Probing1(_) => 1,
-        Claim::Probing2(_) => 2,
-        Claim::Probing3(_) => 3,
-        Claim::Deferred(_) => 4,
-        Claim::Announced(_) => 5,
-        Claim::Held => 6,
-        Claim::Lost => 7,
+        ClaimState::Waiting(_) => 0,
+        ClaimState::Probing1(_) => 1,
+        ClaimState::Probing2(_) => 2,
+        ClaimState::Probing3(_) => 3,
+        ClaimState::Deferred(_) => 4,
+        ClaimState::Announced(_) => 5,
+        ClaimState::Held => 6,
+        ClaimState::Lost => 7,
     }
 }
 
-fn claim_due(c: Claim) -> u64
+fn claim_due(c: ClaimState) -> u64
     ensures { λ r. ⌜ r ≡ claimDue c ⌝ }
 {
     match c {
-        Claim::Waiting(due) => due,
-        Claim::Probing1(due) => due,
-        Claim::Probing2(due) => due,
-        Claim::Probing3(due) => due,
-        Claim::Deferred(due) => due,
-        Claim::Announced(due) => due,
-        Claim::Held => 0,
-        Claim::Lost => 0,
+        ClaimState::Waiting(due) => due,
+        ClaimState::Probing1(due) => due,
+        ClaimState::Probing2(due) => due,
+        ClaimState::Probing3(due) => due,
+        ClaimState::Deferred(due) => due,
+        ClaimState::Announced(due) => due,
+        ClaimState::Held => 0,
+        ClaimState::Lost => 0,
     }
 }
 
-fn sent_flag(s: Sent) -> u8
-    ensures { λ r. ⌜ r ≡ sentFlag s ⌝ }
+fn when_flag(w: When) -> u8
+    ensures { λ r. ⌜ r ≡ whenFlag w ⌝ }
 {
-    match s {
-        Sent::Never => 0,
-        Sent::At(_) => 1,
+    match w {
+        When::Never => 0,
+        When::At(_) => 1,
     }
 }
 
-fn sent_time(s: Sent) -> u64
-    ensures { λ r. ⌜ r ≡ sentTime s ⌝ }
+fn when_time(w: When) -> u64
+    ensures { λ r. ⌜ r ≡ whenTime w ⌝ }
 {
-    match s {
-        Sent::Never => 0,
-        Sent::At(time) => time,
+    match w {
+        When::Never => 0,
+        When::At(time) => time,
     }
 }
 
-fn reply_flag(r: Reply) -> u8
-    ensures { λ n. ⌜ n ≡ replyFlag r ⌝ }
-{
-    match r {
-        Reply::Unset => 0,
-        Reply::Due(_) => 1,
-    }
-}
-
-fn reply_due(r: Reply) -> u64
-    ensures { λ n. ⌜ n ≡ replyDue r ⌝ }
-{
-    match r {
-        Reply::Unset => 0,
-        Reply::Due(due) => due,
-    }
-}
-
-fn put_claim(out: &mut [u8], at: usize, c: Claim)
+fn put_claim(out: &mut [u8], at: usize, c: ClaimState)
     requires { ⌜ at + layout.caseSize ≤ length (now out) ⌝ }
     ensures { λ _. ⌜ Laid (now (out .entry)) at (claimBytes c) (now (out .exit)) × Fits64 (claimDue c) ⌝ }
 {
     put_case(out, at, claim_tag(c), claim_due(c));
 }
 
-// The last multicast of an own record, by its index.
-fn put_sent(out: &mut [u8], i: usize, s: Sent)
-    requires { ⌜ (i < layout.records) × (layout.stateSize ≤ length (now out)) ⌝ }
-    ensures { λ _. ⌜ Laid (now (out .entry)) (layout.multicast i) (sentBytes s) (now (out .exit)) × Fits64 (sentTime s) ⌝ }
+fn put_when(out: &mut [u8], at: usize, w: When)
+    requires { ⌜ at + layout.caseSize ≤ length (now out) ⌝ }
+    ensures { λ _. ⌜ Laid (now (out .entry)) at (whenBytes w) (now (out .exit)) × Fits64 (whenTime w) ⌝ }
 {
-    let at = layout::MULTICASTS + i * layout::CASE_SIZE;
-    put_case(out, at, sent_flag(s), sent_time(s));
+    put_case(out, at, when_flag(w), when_time(w));
 }
 
-fn put_reply(out: &mut [u8], r: Reply)
-    requires { ⌜ layout.stateSize ≤ length (now out) ⌝ }
-    ensures { λ _. ⌜ Laid (now (out .entry)) layout.reply (replyBytes r) (now (out .exit)) × Fits64 (replyDue r) ⌝ }
-{
-    put_case(out, layout::REPLY, reply_flag(r), reply_due(r));
-}
-
+// The last multicasts, one behind the other.
 fn put_multicasts(out: &mut [u8], sent: Multicasts)
     requires { ⌜ layout.stateSize ≤ length (now out) ⌝ }
     ensures { λ _. ⌜ Laid (now (out .entry)) layout.multicasts (multicastsBytes sent) (now (out .exit)) × MulticastsFit sent ⌝ }
 {
-    let ptr = sent.ptr;
-    let srv = sent.srv;
-    let txt = sent.txt;
-    let a = sent.a;
-    let aaaa = sent.aaaa;
-    put_sent(out, own::records::PTR, ptr);
-    put_sent(out, own::records::SRV, srv);
-    put_sent(out, own::records::TXT, txt);
-    put_sent(out, own::records::A, a);
-    put_sent(out, own::records::AAAA, aaaa);
+    let mut i = 0;
+    while i < RECORDS {
+        let last = claims::sent_of(claims::records::record_at(i), sent);
+        put_when(out, layout::MULTICASTS + i * layout::CASE_SIZE, last);
+        i += 1;
+    }
 }
 
 // Writes what changes, behind the set-up.
-fn lay_life(out: &mut [u8], life: Life)
+fn lay_progress(out: &mut [u8], progress: Progress)
     requires { ⌜ length (now out) ≡ layout.stateSize ⌝ }
-    ensures { λ _. ⌜ Laid (now (out .entry)) layout.setupSize (lifeBytes life) (now (out .exit)) × LifeFits life ⌝ }
+    ensures { λ _. ⌜ Laid (now (out .entry)) layout.setupSize (progressBytes progress) (now (out .exit)) × ProgressFits progress ⌝ }
 {
-    let instance = life.instance;
-    let host = life.host;
-    let sent = life.sent;
-    let reply = life.reply;
+    let instance = progress.instance;
+    let host = progress.host;
+    let sent = progress.sent;
+    let reply = progress.reply;
     put_claim(out, layout::INSTANCE_CLAIM, instance);
     put_claim(out, layout::HOST_CLAIM, host);
     put_multicasts(out, sent);
-    put_reply(out, reply);
-    put_number(out, layout::DRAW, life.draw);
-    put_number(out, layout::LAST, life.last);
+    put_when(out, layout::REPLY, reply);
+    put_number(out, layout::DRAW, progress.draw);
+    put_number(out, layout::LAST, progress.last);
 }
 
 // Writes what changes into a state's bytes; those of its set-up stay, and so does a buffer of another length.
-pub fn put_life(state: &mut [u8], life: Life)
-    ensures { λ _. ⌜ (now (state .exit) ≡ withLife (now (state .entry)) life) × (decode (now (state .exit)) ≡ stateWith (now (state .entry)) life) ⌝ }
+pub fn put_progress(state: &mut [u8], progress: Progress)
+    ensures { λ _. ⌜ (now (state .exit) ≡ withProgress (now (state .entry)) progress) × (decode (now (state .exit)) ≡ stateWith (now (state .entry)) progress) ⌝ }
 {
     if state.len() == layout::STATE_SIZE {
-        lay_life(state, life);
+        lay_progress(state, progress);
     }
 }
 

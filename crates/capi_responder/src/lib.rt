@@ -71,9 +71,9 @@ pub extern "C" fn kurgashel_start(state: &mut [u8], setup: &[u8], time: u64, dra
         return answered(answer, false);
     }
     let after = begun.state;
-    let life = after.life;
+    let progress = after.progress;
     crate::encoder::put_setup(state, setup);
-    crate::encoder::put_life(state, life);
+    crate::encoder::put_progress(state, progress);
     answered(answer, false)
 }
 
@@ -102,8 +102,8 @@ pub extern "C" fn kurgashel_receive(
         return answered(answer, false);
     }
     let after = heard.state;
-    let life = after.life;
-    crate::encoder::put_life(state, life);
+    let progress = after.progress;
+    crate::encoder::put_progress(state, progress);
     answered(answer, false)
 }
 
@@ -119,7 +119,7 @@ pub extern "C" fn kurgashel_tick(state: &mut [u8], time: u64, out: &mut [u8]) ->
         return answered(answer, more);
     }
     let after = walked.state;
-    let life = after.life;
-    crate::encoder::put_life(state, life);
+    let progress = after.progress;
+    crate::encoder::put_progress(state, progress);
     answered(answer, more)
 }

@@ -2,7 +2,7 @@
 // c/include/kurgashel.h declares them.
 ghost use mathlib.Core.Path.{_≡_};
 ghost use Rattle.capi_responder.specs.state.Told.{claimNumber, nextStep};
-use claims::due::Due;
+use claims::When;
 
 // Whether a step is due at all, and when.
 #[repr(C)]
@@ -17,12 +17,12 @@ pub extern "C" fn kurgashel_claim(state: &[u8], claim: u8) -> u8
     ensures { λ r. ⌜ r ≡ claimNumber (now (state .entry)) claim ⌝ }
 {
     let read = crate::codec::read_state(state);
-    let life = read.life;
+    let progress = read.progress;
     if claim == 0 {
-        let instance = life.instance;
+        let instance = progress.instance;
         return claims::state_number(instance);
     }
-    let host = life.host;
+    let host = progress.host;
     claims::state_number(host)
 }
 
@@ -32,12 +32,12 @@ pub extern "C" fn kurgashel_due(state: &[u8]) -> NextStep
     ensures { λ r. ⌜ r ≡ nextStep (now (state .entry)) ⌝ }
 {
     let read = crate::codec::read_state(state);
-    let life = read.life;
-    match claims::due::next_due(life) {
-        Due::Never => NextStep {
+    let progress = read.progress;
+    match claims::due::next_due(progress) {
+        When::Never => NextStep {
             due: false,
             time: 0,
         },
-        Due::At(time) => NextStep { due: true, time },
+        When::At(time) => NextStep { due: true, time },
     }
 }

@@ -2,11 +2,11 @@
 use Prim.Native.Nat.{ℕ, _≤_}
 use native.Mathlib.Omega.{arith}
 use Rattle.claims.specs.Claims.{afterConflict, afterProbe}
-use Rattle.claims.specs.declared.Claim.{Claim}
-use Rattle.claims.specs.declared.Claim.the-variants.{Waiting, Probing1, Probing2, Probing3, Deferred, Announced, Held, Lost}
+use Rattle.claims.specs.declared.ClaimState.{ClaimState}
+use Rattle.claims.specs.declared.ClaimState.the-variants.{Waiting, Probing1, Probing2, Probing3, Deferred, Announced, Held, Lost}
 
 -- No step of a claim that is not held is due before `from`; and where it is held, `from` has come.
-abbrev pub Clear : ℕ → ℕ → Claim → Type 0
+abbrev pub Clear : ℕ → ℕ → ClaimState → Type 0
 Clear from now (Waiting due) = from ≤ due
 Clear from now (Probing1 due) = from ≤ due
 Clear from now (Probing2 due) = from ≤ due
@@ -17,7 +17,7 @@ Clear from now Held = from ≤ now
 Clear from now Lost = Unit {0}
 
 module _ (from now : ℕ) where
-  pub clear-later : (last : ℕ) → last ≤ now → (c : Claim) → Clear from last c → Clear from now c
+  pub clear-later : (last : ℕ) → last ≤ now → (c : ClaimState) → Clear from last c → Clear from now c
   clear-later last l (Waiting due) h = h
   clear-later last l (Probing1 due) h = h
   clear-later last l (Probing2 due) h = h
@@ -27,7 +27,7 @@ module _ (from now : ℕ) where
   clear-later last l Held h = omega arith
   clear-later last l Lost h = tt
 
-  pub clear-conflict : (c : Claim) (due : ℕ) → now ≤ due → Clear from now c → Clear from now (afterConflict c due)
+  pub clear-conflict : (c : ClaimState) (due : ℕ) → now ≤ due → Clear from now c → Clear from now (afterConflict c due)
   clear-conflict (Waiting was) due l h = tt
   clear-conflict (Probing1 was) due l h = tt
   clear-conflict (Probing2 was) due l h = tt
@@ -37,7 +37,7 @@ module _ (from now : ℕ) where
   clear-conflict Held due l h = omega arith
   clear-conflict Lost due l h = tt
 
-  pub clear-probe : (c : Claim) (due : ℕ) → from ≤ due → Clear from now c → Clear from now (afterProbe c due)
+  pub clear-probe : (c : ClaimState) (due : ℕ) → from ≤ due → Clear from now c → Clear from now (afterProbe c due)
   clear-probe (Waiting was) due l h = h
   clear-probe (Probing1 was) due l h = l
   clear-probe (Probing2 was) due l h = l

@@ -1,20 +1,22 @@
--- Which changes of a life leave every time that it keeps at most `most`. Assumes nothing.
+-- Which changes leave every time that is kept at most `most`. Assumes nothing.
 use Prim.Native.Nat.{ℕ, _≤_}
 use mathlib.Core.Path.{_≡_, refl}
 use mathlib.Core.Bool.{Bool, true, false, _&&_}
 use native.Mathlib.Omega.{arith}
 use lib.Dec.{leb}
 use borrow.Author.Tests.{le-leb}
-use Rattle.claims.specs.Time.{lastTime, lastDue, afterMs, marked, markedAll}
+use Rattle.claims.specs.records.Own.{all, has}
+use Rattle.claims.specs.records.Sets.{everyOf}
+use Rattle.claims.specs.Time.{lastTime, lastDue, afterMs, atMost, sentOf, marked, markedAll}
 use Rattle.claims.specs.Claims.{afterConflict, afterProbe, startOf}
-use Rattle.claims.specs.Refusals.{claimKept, replyKept, sentKept, multicastsKept, kept}
-use Rattle.claims.specs.declared.Claim.{Claim}
-use Rattle.claims.specs.declared.Claim.the-variants.{Waiting, Probing1, Probing2, Probing3, Deferred, Announced, Held, Lost}
-use Rattle.claims.specs.declared.Sent.{Sent}
+use Rattle.claims.specs.Refusals.{claimKept, multicastsKept, kept}
+use Rattle.claims.specs.declared.ClaimState.{ClaimState}
+use Rattle.claims.specs.declared.ClaimState.the-variants.{Waiting, Probing1, Probing2, Probing3, Deferred, Announced, Held, Lost}
 use Rattle.claims.specs.declared.Multicasts.{Multicasts}
-use Rattle.claims.specs.declared.Records.{Records}
-use Rattle.claims.specs.declared.Reply.{Reply}
-use Rattle.claims.specs.declared.Life.{Life}
+use Rattle.claims.specs.declared.records.Set.{Set}
+use Rattle.claims.specs.declared.When.{When}
+use Rattle.claims.specs.declared.Progress.{Progress}
+use Rattle.claims.proofs.records.Sets.{every-at, every-from, sent-each}
 use Rattle.claims.proofs.Times.{after-within}
 
 -- five tests, all passed
@@ -39,41 +41,36 @@ pub together : {a b c d e : Bool} → Five a b c d e → (a && (b && (c && (d &&
 together f = simp (f .one, f .two, f .three, f .four, f .five)
 
 module _ (most : ℕ) where
-  -- the times of a life, one by one
-  abbrev pub Parts : Claim → Claim → Multicasts → Reply → ℕ → Type 0
+  -- the times that are kept, one by one
+  abbrev pub Parts : ClaimState → ClaimState → Multicasts → When → ℕ → Type 0
   Parts instance host sent reply last =
-      Five (claimKept most instance) (claimKept most host) (multicastsKept most sent) (replyKept most reply) (leb last most)
+      Five (claimKept most instance) (claimKept most host) (multicastsKept most sent) (atMost most reply) (leb last most)
 
-  pub parts : (life : Life) → kept most life ≡ true → Parts (life .instance) (life .host) (life .sent) (life .reply) (life .last)
+  pub parts : (progress : Progress) → kept most progress ≡ true → Parts (progress .instance) (progress .host) (progress .sent) (progress .reply) (progress .last)
   unfolding kept
-  parts life h = apart _ _ _ _ _ h
+  parts progress h = apart _ _ _ _ _ h
 
-  pub whole : (life : Life) → Parts (life .instance) (life .host) (life .sent) (life .reply) (life .last) → kept most life ≡ true
+  pub whole : (progress : Progress) → Parts (progress .instance) (progress .host) (progress .sent) (progress .reply) (progress .last) → kept most progress ≡ true
   unfolding kept
-  whole life p = together p
+  whole progress p = together p
 
-  marked-kept : (went : Bool) (s : Sent) (now : ℕ) → sentKept most s ≡ true → leb now most ≡ true → sentKept most (marked went s now) ≡ true
+  marked-kept : (went : Bool) (s : When) (now : ℕ) → atMost most s ≡ true → leb now most ≡ true → atMost most (marked went s now) ≡ true
   marked-kept true s now h l = l
   marked-kept false s now h l = h
 
   pub all-marked-kept :
-      (set : Records) (sent : Multicasts) (now : ℕ)
+      (set : Set) (sent : Multicasts) (now : ℕ)
       → multicastsKept most sent ≡ true
       → leb now most ≡ true
       → multicastsKept most (markedAll set sent now) ≡ true
   unfolding multicastsKept markedAll
   all-marked-kept set sent now h l =
-      let p : Five _ _ _ _ _ = apart _ _ _ _ _ h in
-      together
-      (record {
-        one = marked-kept (set .ptr) (sent .ptr) now (p .one) l;
-        two = marked-kept (set .srv) (sent .srv) now (p .two) l;
-        three = marked-kept (set .txt) (sent .txt) now (p .three) l;
-        four = marked-kept (set .a) (sent .a) now (p .four) l;
-        five = marked-kept (set .aaaa) (sent .aaaa) now (p .five) l;
-      })
+      every-from (λ o. atMost most (sentOf o (markedAll set sent now)))
+      (λ o.
+      rw (sent-each (λ p. marked (has p set) (sentOf p sent) now) o)
+      (marked-kept (has o set) (sentOf o sent) now (every-at (λ p. atMost most (sentOf p sent)) o h) l))
 
-  pub conflict-kept : (c : Claim) (due : ℕ) → claimKept most c ≡ true → leb due most ≡ true → claimKept most (afterConflict c due) ≡ true
+  pub conflict-kept : (c : ClaimState) (due : ℕ) → claimKept most c ≡ true → leb due most ≡ true → claimKept most (afterConflict c due) ≡ true
   conflict-kept (Waiting was) due h l = refl
   conflict-kept (Probing1 was) due h l = refl
   conflict-kept (Probing2 was) due h l = refl
@@ -83,7 +80,7 @@ module _ (most : ℕ) where
   conflict-kept Held due h l = l
   conflict-kept Lost due h l = refl
 
-  pub probe-kept : (c : Claim) (due : ℕ) → claimKept most c ≡ true → leb due most ≡ true → claimKept most (afterProbe c due) ≡ true
+  pub probe-kept : (c : ClaimState) (due : ℕ) → claimKept most c ≡ true → leb due most ≡ true → claimKept most (afterProbe c due) ≡ true
   probe-kept (Waiting was) due h l = h
   probe-kept (Probing1 was) due h l = l
   probe-kept (Probing2 was) due h l = l
@@ -95,7 +92,7 @@ module _ (most : ℕ) where
 
   -- a start that is not refused keeps no time above 2^62 + 1,000
   pub start-kept : (now draw : ℕ) → now ≤ lastTime → draw ≤ 250 → lastDue ≤ most → kept most (startOf now draw) ≡ true
-  unfolding kept startOf multicastsKept
+  unfolding kept startOf multicastsKept everyOf
   start-kept now draw h d l =
       let w : leb (afterMs now draw) most ≡ true = le-leb _ _ (after-within now draw most h (omega arith) l) in
       let n : leb now most ≡ true = le-leb now most (omega arith) in

@@ -6,8 +6,8 @@ use mathlib.Core.Bool.{true, false}
 use native.Mathlib.Omega.{arith}
 use borrow.Author.Tests.{le-leb, ltb-true}
 use Rattle.claims.specs.Time.{lastTime, lastDue, afterMs, recently}
-use Rattle.claims.specs.declared.Sent.{Sent}
-use Rattle.claims.specs.declared.Sent.the-variants.{Never, At}
+use Rattle.claims.specs.declared.When.{When}
+use Rattle.claims.specs.declared.When.the-variants.{Never, At}
 
 pub after-exact : (now ms : ℕ) → now ≤ lastTime → ms ≤ lastTime → afterMs now ms ≡ now + ms
 unfolding afterMs
@@ -18,7 +18,7 @@ pub after-within : (now ms most : ℕ) → now ≤ lastTime → ms ≤ 1000 → 
 after-within now ms most h k l = rw (after-exact now ms h (omega arith)) (omega arith)
 
 -- multicast less than `gap` ago, as a bound on the time of the multicast
-pub recently-after : (s : Sent) (time now gap : ℕ) → s ≡ At time → recently s now gap ≡ true → now < time + gap
+pub recently-after : (s : When) (time now gap : ℕ) → s ≡ At time → recently s now gap ≡ true → now < time + gap
 recently-after s time now gap e h = let l : now - time < gap = ltb-true (now - time) gap (rw e at h) in omega arith
 
 pub recently-never : (now gap : ℕ) → recently Never now gap ≡ false

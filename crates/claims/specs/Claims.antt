@@ -2,19 +2,17 @@
 -- definitions.
 use Prim.Native.Nat.{ℕ}
 use mathlib.Core.Bool.{Bool, true, false}
-use mathlib.Core.Option.{Option, none, some}
-use Rattle.claims.specs.Time.{afterMs}
-use Rattle.claims.specs.declared.Claim.{Claim}
-use Rattle.claims.specs.declared.Claim.the-variants.{Waiting, Probing1, Probing2, Probing3, Deferred, Announced, Held, Lost}
-use Rattle.claims.specs.declared.Kind.{Kind}
-use Rattle.claims.specs.declared.Kind.the-variants.{Instance, Host}
-use Rattle.claims.specs.declared.Sent.the-variants.{Never}
-use Rattle.claims.specs.declared.Reply.{Reply}
-use Rattle.claims.specs.declared.Reply.the-variants.{Unset, Due}
-use Rattle.claims.specs.declared.Life.{Life}
+use Rattle.claims.specs.Time.{afterMs, neverSent}
+use Rattle.claims.specs.declared.ClaimState.{ClaimState}
+use Rattle.claims.specs.declared.ClaimState.the-variants.{Waiting, Probing1, Probing2, Probing3, Deferred, Announced, Held, Lost}
+use Rattle.claims.specs.declared.records.Claim.{Claim}
+use Rattle.claims.specs.declared.records.Claim.the-variants.{Instance, Host}
+use Rattle.claims.specs.declared.When.{When}
+use Rattle.claims.specs.declared.When.the-variants.{Never, At}
+use Rattle.claims.specs.declared.Progress.{Progress}
 
 -- the number of a claim's state: 0 waiting, 1 probing, 2 deferred, 3 held, 4 lost
-abbrev pub stateNumber : Claim → ℕ
+abbrev pub stateNumber : ClaimState → ℕ
 stateNumber (Waiting due) = 0
 stateNumber (Probing1 due) = 1
 stateNumber (Probing2 due) = 1
@@ -25,23 +23,18 @@ stateNumber Held = 3
 stateNumber Lost = 4
 
 -- when the claim's next step is due
-abbrev pub dueOf : Claim → Option ℕ
-dueOf (Waiting due) = some due
-dueOf (Probing1 due) = some due
-dueOf (Probing2 due) = some due
-dueOf (Probing3 due) = some due
-dueOf (Deferred due) = some due
-dueOf (Announced due) = some due
-dueOf Held = none
-dueOf Lost = none
-
--- when the PTR reply is due
-abbrev pub replyDueOf : Reply → Option ℕ
-replyDueOf Unset = none
-replyDueOf (Due due) = some due
+abbrev pub dueOf : ClaimState → When
+dueOf (Waiting due) = At due
+dueOf (Probing1 due) = At due
+dueOf (Probing2 due) = At due
+dueOf (Probing3 due) = At due
+dueOf (Deferred due) = At due
+dueOf (Announced due) = At due
+dueOf Held = Never
+dueOf Lost = Never
 
 -- the claim is held
-abbrev pub heldNow : Claim → Bool
+abbrev pub heldNow : ClaimState → Bool
 heldNow (Waiting due) = false
 heldNow (Probing1 due) = false
 heldNow (Probing2 due) = false
@@ -51,25 +44,25 @@ heldNow (Announced due) = true
 heldNow Held = true
 heldNow Lost = false
 
--- one of the two claims
-abbrev pub claimOf : Kind → Life → Claim
-claimOf Instance life = life .instance
-claimOf Host life = life .host
+-- the state of one of the two claims
+abbrev pub claimOf : Claim → Progress → ClaimState
+claimOf Instance progress = progress .instance
+claimOf Host progress = progress .host
 
 -- "Waiting: first probe due at start plus draw." Nothing is multicast yet, and no reply is set.
-unfoldable pub startOf : ℕ → ℕ → Life
+unfoldable pub startOf : ℕ → ℕ → Progress
 startOf now draw =
     record {
       instance = Waiting (afterMs now draw);
       host = Waiting (afterMs now draw);
-      sent = record { ptr = Never; srv = Never; txt = Never; a = Never; aaaa = Never };
-      reply = Unset;
+      sent = neverSent;
+      reply = Never;
       draw = draw;
       last = now;
     }
 
 -- "A held claim goes back to waiting, first probe due at now plus its start draw; any other becomes lost for good."
-abbrev pub afterConflict : Claim → ℕ → Claim
+abbrev pub afterConflict : ClaimState → ℕ → ClaimState
 afterConflict (Waiting was) due = Lost
 afterConflict (Probing1 was) due = Lost
 afterConflict (Probing2 was) due = Lost
@@ -80,7 +73,7 @@ afterConflict Held due = Waiting due
 afterConflict Lost due = Lost
 
 -- "While probing, if theirs is later, the claim is deferred: its next first probe is due in 1,000 ms. In waiting or deferred a probe does nothing."
-abbrev pub afterProbe : Claim → ℕ → Claim
+abbrev pub afterProbe : ClaimState → ℕ → ClaimState
 afterProbe (Waiting was) due = Waiting was
 afterProbe (Probing1 was) due = Deferred due
 afterProbe (Probing2 was) due = Deferred due

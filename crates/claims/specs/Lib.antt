@@ -1,5 +1,5 @@
+pub mod records
 pub mod Time
-pub mod Records
 pub mod Claims
 pub mod Refusals
 pub mod steps

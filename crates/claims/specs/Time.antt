@@ -1,12 +1,17 @@
 -- Times and how long ago they are (specification, 'What the dock does'): "Time is in milliseconds, 64 bits, at most 2^62. A kept time ahead of now counts as
 -- 0 ms ago." Assumes nothing: these are definitions.
 use Prim.Native.Nat.{ℕ, _+_, _-_}
-use mathlib.Core.Bool.{Bool, false, cond}
+use mathlib.Core.Bool.{Bool, true, false, cond}
+use mathlib.Core.List.{List, map}
 use lib.Dec.{leb, ltb}
-use Rattle.claims.specs.declared.Sent.{Sent}
-use Rattle.claims.specs.declared.Sent.the-variants.{Never, At}
+use lib.ListN.{getD}
+use Rattle.claims.specs.records.Own.{all, indexOf, has}
+use Rattle.claims.specs.declared.records.Own.{Own}
+use Rattle.claims.specs.declared.records.Set.{Set}
+use Rattle.claims.specs.declared.When.{When}
+use Rattle.claims.specs.declared.When.the-variants.{Never, At}
+use Rattle.claims.specs.declared.Multicast.{Multicast}
 use Rattle.claims.specs.declared.Multicasts.{Multicasts}
-use Rattle.claims.specs.declared.Records.{Records}
 
 -- 2^62, the last time that a call may carry; 2^62 + 1,000, the last that such a call may set; and 2^62 + 2,000, the last that a state may
 -- keep
@@ -27,21 +32,38 @@ afterMs now ms = cond (leb (now + ms) 18446744073709551615) (now + ms) 184467440
 abbrev pub age : ℕ → ℕ → ℕ
 age time now = now - time
 
+-- a time that may be there has come
+abbrev pub dueBy : When → ℕ → Bool
+dueBy Never now = false
+dueBy (At time) now = leb time now
+
+-- a time, where there is one, is at most `most`
+abbrev pub atMost : ℕ → When → Bool
+atMost most Never = true
+atMost most (At time) = leb time most
+
 -- "multicast less than .. ms ago"
-abbrev pub recently : Sent → ℕ → ℕ → Bool
+abbrev pub recently : When → ℕ → ℕ → Bool
 recently Never now gap = false
 recently (At time) now gap = ltb (age time now) gap
 
--- the last multicast of a record after a packet of time `now`, with the record in it or not
-abbrev pub marked : Bool → Sent → ℕ → Sent
-marked went s now = cond went (At now) s
+-- the last multicast of each record
+abbrev pub lastOf : When → Multicast
+lastOf last = record { last = last }
 
-unfoldable pub markedAll : Records → Multicasts → ℕ → Multicasts
-markedAll set sent now =
-    record {
-      ptr = marked (set .ptr) (sent .ptr) now;
-      srv = marked (set .srv) (sent .srv) now;
-      txt = marked (set .txt) (sent .txt) now;
-      a = marked (set .a) (sent .a) now;
-      aaaa = marked (set .aaaa) (sent .aaaa) now;
-    }
+abbrev pub eachLast : (Own → When) → Multicasts
+eachLast last = record { of = map (λ o. lastOf (last o)) all }
+
+abbrev pub neverSent : Multicasts
+neverSent = eachLast (λ o. Never)
+
+-- when the record was last multicast
+abbrev pub sentOf : Own → Multicasts → When
+sentOf o sent = getD (sent .of) (indexOf o) (lastOf Never) .last
+
+-- the last multicast of a record after a packet of time `now`, with the record in it or not
+abbrev pub marked : Bool → When → ℕ → When
+marked went last now = cond went (At now) last
+
+unfoldable pub markedAll : Set → Multicasts → ℕ → Multicasts
+markedAll set sent now = eachLast (λ o. marked (has o set) (sentOf o sent) now)

@@ -1,21 +1,33 @@
-// The life of the two claims on numbers alone (specification, 'A claim's life'): start, and the claim after a conflict or a probe. A tick is in `steps`,
-// what a message received does in `answers`, and the refusals that are tests on times and draws in `refusal_tests`.
+// The life of the two claims on numbers alone (specification, 'A claim's life'): start, and the claim after a conflict or a probe. The claims and the own
+// records are in `records`, a tick in `steps`, what a message received does in `answers`, and the refusals that are tests on times and draws in
+// `refusal_tests`.
 pub mod answers;
 pub mod due;
+pub mod records;
 pub mod refusal_tests;
 pub mod runs;
 pub mod steps;
 
 ghost use mathlib.Core.Path.{_≡_};
-ghost use Rattle.claims.specs.Time.{afterMs, age, recently, marked, markedAll};
-ghost use Rattle.claims.specs.Claims.{stateNumber, heldNow, startOf, afterConflict, afterProbe};
+ghost use Rattle.claims.specs.Time.{afterMs, age, recently, dueBy, atMost, neverSent, sentOf, marked, markedAll};
+ghost use Rattle.claims.specs.Claims.{stateNumber, dueOf, heldNow, claimOf, startOf, afterConflict, afterProbe};
+use crate::records::Claim;
+use crate::records::Own;
+use crate::records::RECORDS;
+use crate::records::Set;
 
 // The last time that 64 bits hold.
 const END_OF_TIME: u64 = 18446744073709551615;
 
-// A claim, each case with the time at which its next step is due: `Probing1` has sent one probe, `Announced` holds the name and has its second
+// Never, or at a time.
+pub enum When {
+    Never,
+    At(u64),
+}
+
+// The state of a claim, each case with the time at which its next step is due: `Probing1` has sent one probe, `Announced` holds the name and has its second
 // announcement to come.
-pub enum Claim {
+pub enum ClaimState {
     Waiting(u64),
     Probing1(u64),
     Probing2(u64),
@@ -26,48 +38,23 @@ pub enum Claim {
     Lost,
 }
 
-// Which of the two claims.
-pub enum Kind {
-    Instance,
-    Host,
-}
-
 // When a record was last multicast.
-pub enum Sent {
-    Never,
-    At(u64),
+pub struct Multicast {
+    pub last: When,
 }
 
-// The last multicast of each own record.
+// The last multicast of each own record, by its index.
 pub struct Multicasts {
-    pub ptr: Sent,
-    pub srv: Sent,
-    pub txt: Sent,
-    pub a: Sent,
-    pub aaaa: Sent,
+    pub of: [Multicast; RECORDS],
 }
 
-// The PTR reply that a query asked for, and when it is due.
-pub enum Reply {
-    Unset,
-    Due(u64),
-}
-
-// A set of own records.
-pub struct Records {
-    pub ptr: bool,
-    pub srv: bool,
-    pub txt: bool,
-    pub a: bool,
-    pub aaaa: bool,
-}
-
-// All that changes in a responder: its claims, the last multicasts, the PTR reply, the start draw, and the time of the last call.
-pub struct Life {
-    pub instance: Claim,
-    pub host: Claim,
+// All that changes in a responder: the states of its claims, the last multicasts, when the PTR reply that a query asked for is due, the start draw, and the
+// time of the last call.
+pub struct Progress {
+    pub instance: ClaimState,
+    pub host: ClaimState,
     pub sent: Multicasts,
-    pub reply: Reply,
+    pub reply: When,
     pub draw: u64,
     pub last: u64,
 }
@@ -92,124 +79,182 @@ fn ms_ago(time: u64, now: u64) -> u64
     now - time
 }
 
-// Was the record multicast less than `gap` ms ago?
-pub fn was_recent(s: Sent, now: u64, gap: u64) -> bool
-    ensures { λ r. ⌜ r ≡ recently s now gap ⌝ }
+// Was a record that was last multicast then multicast less than `gap` ms ago?
+pub fn was_recent(last: When, now: u64, gap: u64) -> bool
+    ensures { λ r. ⌜ r ≡ recently last now gap ⌝ }
 {
-    match s {
-        Sent::Never => false,
-        Sent::At(time) => ms_ago(time, now) < gap,
+    match last {
+        When::Never => false,
+        When::At(time) => ms_ago(time, now) < gap,
+    }
+}
+
+// Has the time come?
+pub fn has_come(due: When, now: u64) -> bool
+    ensures { λ r. ⌜ r ≡ dueBy due now ⌝ }
+{
+    match due {
+        When::Never => false,
+        When::At(time) => time <= now,
+    }
+}
+
+// Is the time, if there is one, at most `most`?
+pub fn is_within(kept: When, most: u64) -> bool
+    ensures { λ r. ⌜ r ≡ atMost most kept ⌝ }
+{
+    match kept {
+        When::Never => true,
+        When::At(time) => time <= most,
     }
 }
 
 // The number of a claim's state: 0 waiting, 1 probing, 2 deferred, 3 held, 4 lost.
-pub fn state_number(c: Claim) -> u8
+pub fn state_number(c: ClaimState) -> u8
     ensures { λ r. ⌜ r ≡ stateNumber c ⌝ }
 {
     match c {
-        Claim::Waiting(_) => 0,
-        Claim::Probing1(_) => 1,
-        Claim::Probing2(_) => 1,
-        Claim::Probing3(_) => 1,
-        Claim::Deferred(_) => 2,
-        Claim::Announced(_) => 3,
-        Claim::Held => 3,
-        Claim::Lost => 4,
+        ClaimState::Waiting(_) => 0,
+        ClaimState::Probing1(_) => 1,
+        ClaimState::Probing2(_) => 1,
+        ClaimState::Probing3(_) => 1,
+        ClaimState::Deferred(_) => 2,
+        ClaimState::Announced(_) => 3,
+        ClaimState::Held => 3,
+        ClaimState::Lost => 4,
     }
 }
 
-pub fn is_held(c: Claim) -> bool
+// When the claim's next step is due.
+pub fn due_of(c: ClaimState) -> When
+    ensures { λ r. ⌜ r ≡ dueOf c ⌝ }
+{
+    match c {
+        ClaimState::Waiting(due) => When::At(due),
+        ClaimState::Probing1(due) => When::At(due),
+        ClaimState::Probing2(due) => When::At(due),
+        ClaimState::Probing3(due) => When::At(due),
+        ClaimState::Deferred(due) => When::At(due),
+        ClaimState::Announced(due) => When::At(due),
+        ClaimState::Held => When::Never,
+        ClaimState::Lost => When::Never,
+    }
+}
+
+pub fn is_held(c: ClaimState) -> bool
     ensures { λ r. ⌜ r ≡ heldNow c ⌝ }
 {
     match c {
-        Claim::Waiting(_) => false,
-        Claim::Probing1(_) => false,
-        Claim::Probing2(_) => false,
-        Claim::Probing3(_) => false,
-        Claim::Deferred(_) => false,
-        Claim::Announced(_) => true,
-        Claim::Held => true,
-        Claim::Lost => false,
+        ClaimState::Waiting(_) => false,
+        ClaimState::Probing1(_) => false,
+        ClaimState::Probing2(_) => false,
+        ClaimState::Probing3(_) => false,
+        ClaimState::Deferred(_) => false,
+        ClaimState::Announced(_) => true,
+        ClaimState::Held => true,
+        ClaimState::Lost => false,
+    }
+}
+
+// The state of one of the two claims.
+pub fn claim_of(claim: Claim, progress: Progress) -> ClaimState
+    ensures { λ r. ⌜ r ≡ claimOf claim progress ⌝ }
+{
+    match claim {
+        Claim::Instance => progress.instance,
+        Claim::Host => progress.host,
+    }
+}
+
+// No record was multicast.
+pub fn never_sent() -> Multicasts
+    ensures { λ r. ⌜ r ≡ neverSent ⌝ }
+{
+    let never = Multicast { last: When::Never };
+    Multicasts {
+        of: [never; RECORDS],
     }
 }
 
 // A start: both claims wait for the draw.
-pub fn start(now: u64, draw: u64) -> Life
+pub fn start(now: u64, draw: u64) -> Progress
     ensures { λ r. ⌜ r ≡ startOf now draw ⌝ }
 {
     let due = after(now, draw);
-    Life {
-        instance: Claim::Waiting(due),
-        host: Claim::Waiting(due),
-        sent: Multicasts {
-            ptr: Sent::Never,
-            srv: Sent::Never,
-            txt: Sent::Never,
-            a: Sent::Never,
-            aaaa: Sent::Never,
-        },
-        reply: Reply::Unset,
+    Progress {
+        instance: ClaimState::Waiting(due),
+        host: ClaimState::Waiting(due),
+        sent: never_sent(),
+        reply: When::Never,
         draw,
         last: now,
     }
 }
 
 // The claim after a conflict, where a new first probe would be due at `due`.
-pub fn after_conflict(c: Claim, due: u64) -> Claim
+pub fn after_conflict(c: ClaimState, due: u64) -> ClaimState
     ensures { λ r. ⌜ r ≡ afterConflict c due ⌝ }
 {
     match c {
-        Claim::Waiting(_) => Claim::Lost,
-        Claim::Probing1(_) => Claim::Lost,
-        Claim::Probing2(_) => Claim::Lost,
-        Claim::Probing3(_) => Claim::Lost,
-        Claim::Deferred(_) => Claim::Lost,
-        Claim::Announced(_) => Claim::Waiting(due),
-        Claim::Held => Claim::Waiting(due),
-        Claim::Lost => Claim::Lost,
+        ClaimState::Waiting(_) => ClaimState::Lost,
+        ClaimState::Probing1(_) => ClaimState::Lost,
+        ClaimState::Probing2(_) => ClaimState::Lost,
+        ClaimState::Probing3(_) => ClaimState::Lost,
+        ClaimState::Deferred(_) => ClaimState::Lost,
+        ClaimState::Announced(_) => ClaimState::Waiting(due),
+        ClaimState::Held => ClaimState::Waiting(due),
+        ClaimState::Lost => ClaimState::Lost,
     }
 }
 
 // The claim after a probe with later records, where a deferred first probe would be due at `due`.
-pub fn after_probe(c: Claim, due: u64) -> Claim
+pub fn after_probe(c: ClaimState, due: u64) -> ClaimState
     ensures { λ r. ⌜ r ≡ afterProbe c due ⌝ }
 {
     match c {
-        Claim::Waiting(was) => Claim::Waiting(was),
-        Claim::Probing1(_) => Claim::Deferred(due),
-        Claim::Probing2(_) => Claim::Deferred(due),
-        Claim::Probing3(_) => Claim::Deferred(due),
-        Claim::Deferred(was) => Claim::Deferred(was),
-        Claim::Announced(was) => Claim::Announced(was),
-        Claim::Held => Claim::Held,
-        Claim::Lost => Claim::Lost,
+        ClaimState::Waiting(was) => ClaimState::Waiting(was),
+        ClaimState::Probing1(_) => ClaimState::Deferred(due),
+        ClaimState::Probing2(_) => ClaimState::Deferred(due),
+        ClaimState::Probing3(_) => ClaimState::Deferred(due),
+        ClaimState::Deferred(was) => ClaimState::Deferred(was),
+        ClaimState::Announced(was) => ClaimState::Announced(was),
+        ClaimState::Held => ClaimState::Held,
+        ClaimState::Lost => ClaimState::Lost,
     }
 }
 
-// The last multicast of a record after a packet.
-fn mark(went: bool, s: Sent, now: u64) -> Sent
-    ensures { λ r. ⌜ r ≡ marked went s now ⌝ }
+// When the record was last multicast.
+pub fn sent_of(o: Own, sent: Multicasts) -> When
+    ensures { λ r. ⌜ r ≡ sentOf o sent ⌝ }
+{
+    let i = crate::records::index_of(o);
+    let of = sent.of;
+    let m = of[i];
+    m.last
+}
+
+// The last multicast of a record after a packet, with the record in it or not.
+fn mark(went: bool, last: When, now: u64) -> When
+    ensures { λ r. ⌜ r ≡ marked went last now ⌝ }
 {
     if went {
-        return Sent::At(now);
+        return When::At(now);
     }
-    s
+    last
 }
 
 // The last multicasts after a packet with the records of a set.
-pub fn mark_all(set: Records, sent: Multicasts, now: u64) -> Multicasts
+pub fn mark_all(set: Set, sent: Multicasts, now: u64) -> Multicasts
     ensures { λ r. ⌜ r ≡ markedAll set sent now ⌝ }
 {
-    let ptr = sent.ptr;
-    let srv = sent.srv;
-    let txt = sent.txt;
-    let a = sent.a;
-    let aaaa = sent.aaaa;
-    Multicasts {
-        ptr: mark(set.ptr, ptr, now),
-        srv: mark(set.srv, srv, now),
-        txt: mark(set.txt, txt, now),
-        a: mark(set.a, a, now),
-        aaaa: mark(set.aaaa, aaaa, now),
+    let never = Multicast { last: When::Never };
+    let mut of = [never; RECORDS];
+    let mut i = 0;
+    while i < RECORDS {
+        let o = crate::records::record_at(i);
+        let last = mark(crate::records::is_in(o, set), sent_of(o, sent), now);
+        of[i] = Multicast { last };
+        i += 1;
     }
+    Multicasts { of }
 }

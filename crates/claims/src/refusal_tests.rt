@@ -2,12 +2,11 @@
 // claim's life, in claims/specs/Refusals.
 ghost use mathlib.Core.Path.{_≡_};
 ghost use mathlib.Core.Bool.{_&&_};
-ghost use Rattle.claims.specs.Refusals.{claimKept, sentKept, multicastsKept, replyKept, kept, lateStart, wrongTime, wrongStartDraw, wrongReplyDraw};
-use crate::Claim;
-use crate::Life;
+ghost use Rattle.claims.specs.Refusals.{claimKept, multicastsKept, kept, lateStart, wrongTime, wrongStartDraw, wrongReplyDraw};
+use crate::ClaimState;
 use crate::Multicasts;
-use crate::Reply;
-use crate::Sent;
+use crate::Progress;
+use crate::records::RECORDS;
 
 // The last time that a call may carry: 2^62.
 pub const LAST_TIME: u64 = 4611686018427387904;
@@ -16,28 +15,25 @@ pub const LAST_TIME: u64 = 4611686018427387904;
 pub const LAST_KEPT: u64 = 4611686018427389904;
 
 // Is the due time of a claim, if it has one, at most `most`?
-fn claim_kept(c: Claim, most: u64) -> bool
+fn claim_kept(c: ClaimState, most: u64) -> bool
     ensures { λ r. ⌜ r ≡ claimKept most c ⌝ }
 {
-    match c {
-        Claim::Waiting(due) => due <= most,
-        Claim::Probing1(due) => due <= most,
-        Claim::Probing2(due) => due <= most,
-        Claim::Probing3(due) => due <= most,
-        Claim::Deferred(due) => due <= most,
-        Claim::Announced(due) => due <= most,
-        Claim::Held => true,
-        Claim::Lost => true,
-    }
+    crate::is_within(crate::due_of(c), most)
 }
 
-fn sent_kept(s: Sent, most: u64) -> bool
-    ensures { λ r. ⌜ r ≡ sentKept most s ⌝ }
+// Is every last multicast at most `most`?
+fn multicasts_kept(sent: Multicasts, most: u64) -> bool
+    ensures { λ r. ⌜ r ≡ multicastsKept most sent ⌝ }
 {
-    match s {
-        Sent::Never => true,
-        Sent::At(time) => time <= most,
+    let mut i = 0;
+    while i < RECORDS {
+        let last = crate::sent_of(crate::records::record_at(i), sent);
+        if !crate::is_within(last, most) {
+            return false;
+        }
+        i += 1;
     }
+    true
 }
 
 // Do all five hold?
@@ -54,46 +50,20 @@ fn all_five(a: bool, b: bool, c: bool, d: bool, e: bool) -> bool
     false
 }
 
-fn multicasts_kept(sent: Multicasts, most: u64) -> bool
-    ensures { λ r. ⌜ r ≡ multicastsKept most sent ⌝ }
+// Is every time that is kept at most `most`?
+fn is_kept(progress: Progress, most: u64) -> bool
+    ensures { λ r. ⌜ r ≡ kept most progress ⌝ }
 {
-    let ptr = sent.ptr;
-    let srv = sent.srv;
-    let txt = sent.txt;
-    let a = sent.a;
-    let aaaa = sent.aaaa;
-    all_five(
-        sent_kept(ptr, most),
-        sent_kept(srv, most),
-        sent_kept(txt, most),
-        sent_kept(a, most),
-        sent_kept(aaaa, most),
-    )
-}
-
-fn reply_kept(r: Reply, most: u64) -> bool
-    ensures { λ r′. ⌜ r′ ≡ replyKept most r ⌝ }
-{
-    match r {
-        Reply::Unset => true,
-        Reply::Due(due) => due <= most,
-    }
-}
-
-// Is every time kept in a life at most `most`?
-fn is_kept(life: Life, most: u64) -> bool
-    ensures { λ r. ⌜ r ≡ kept most life ⌝ }
-{
-    let instance = life.instance;
-    let host = life.host;
-    let sent = life.sent;
-    let reply = life.reply;
-    let last = life.last;
+    let instance = progress.instance;
+    let host = progress.host;
+    let sent = progress.sent;
+    let reply = progress.reply;
+    let last = progress.last;
     all_five(
         claim_kept(instance, most),
         claim_kept(host, most),
         multicasts_kept(sent, most),
-        reply_kept(reply, most),
+        crate::is_within(reply, most),
         last <= most,
     )
 }
@@ -106,17 +76,17 @@ pub fn start_time_refused(now: u64) -> bool
 }
 
 // Refusal 1 of a packet received and of a tick.
-pub fn time_refused(life: Life, now: u64) -> bool
-    ensures { λ r. ⌜ r ≡ wrongTime life now ⌝ }
+pub fn time_refused(progress: Progress, now: u64) -> bool
+    ensures { λ r. ⌜ r ≡ wrongTime progress now ⌝ }
 {
-    let last = life.last;
+    let last = progress.last;
     if LAST_TIME < now {
         return true;
     }
     if now < last {
         return true;
     }
-    !is_kept(life, LAST_KEPT)
+    !is_kept(progress, LAST_KEPT)
 }
 
 // Refusal 2 of a start, and what refusal 7 asks of a kept start draw.

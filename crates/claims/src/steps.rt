@@ -1,15 +1,16 @@
 // A tick on numbers alone (specification, 'A claim's life'): the due steps of the two claims and of the PTR reply, in order, up to the first that sends.
 ghost use mathlib.Core.Path.{_≡_};
-ghost use Rattle.claims.specs.steps.Steps.{claimDue, replyDue, moreDue, takenStep, stepOf, recordsOf, unsent, unsentOf, anyOf};
-ghost use Rattle.claims.specs.steps.Tick.{withClaim, withSent, withoutReply, sends, stepTurn, claimTurn, ptrReply, replyTurn, orHost, orReply, endedOf, tickOf};
-ghost use Rattle.claims.specs.Claims.{claimOf};
-use crate::Claim;
-use crate::Kind;
-use crate::Life;
+ghost use Rattle.claims.specs.steps.Steps.{claimDue, stepAt, stepDue, moreDue, takenAction, actionOf, unsent, unsentOf};
+ghost use Rattle.claims.specs.steps.Tick.{withClaim, withSent, withoutReply, sends, actionTurn, claimTurn, ptrReply, replyTurn, stepTurn, walked, endedOf, tickOf};
+ghost use Rattle.claims.specs.steps.Steps as steps;
+use crate::ClaimState;
 use crate::Multicasts;
-use crate::Records;
-use crate::Reply;
-use crate::Sent;
+use crate::Progress;
+use crate::When;
+use crate::records::Claim;
+use crate::records::Own;
+use crate::records::RECORDS;
+use crate::records::Set;
 
 // The first probe is followed by two more, and each probe by the next step, after 250 ms; the first announcement by the second after 1,000 ms.
 const PROBE_GAP: u64 = 250;
@@ -19,369 +20,336 @@ const ANNOUNCEMENT_GAP: u64 = 1000;
 // A record that was multicast less than 1,000 ms ago is not sent again.
 const MULTICAST_GAP: u64 = 1000;
 
+// The steps of a tick: of each claim, and of the PTR reply.
+pub enum Step {
+    OfClaim(Claim),
+    PtrReply,
+}
+
+// How many steps a tick walks.
+pub const STEPS: usize = 3;
+
 // What a call sends: at most one packet.
 pub enum Output {
     Nothing,
-    Probe(Kind),
-    Response(Records),
-}
-
-// What the step of a claim comes to, with the claim after it: nothing is due, a probe, the first announcement, the second.
-pub enum Step {
-    Idle,
     Probe(Claim),
-    Announce(Claim),
-    Repeat(Claim),
+    Response(Set),
 }
 
-// A step taken: the life after it, and what it sends.
+// What a claim's step does, with the claim after it: nothing, a probe, the first announcement, the second.
+pub enum Action {
+    Idle,
+    Probe(ClaimState),
+    Announce(ClaimState),
+    Repeat(ClaimState),
+}
+
+// A step taken: the progress after it, and what it sends.
 pub struct Turn {
-    pub life: Life,
+    pub progress: Progress,
     pub output: Output,
 }
 
-// A tick: the life after it, what it sends, and whether more is due.
+// A tick: the progress after it, what it sends, and whether more is due.
 pub struct Ticked {
-    pub life: Life,
+    pub progress: Progress,
     pub output: Output,
     pub more: bool,
 }
 
-// Is a step of the claim due?
-fn claim_due(c: Claim, now: u64) -> bool
-    ensures { λ r. ⌜ r ≡ claimDue c now ⌝ }
+// The steps in their order; past the end, the first.
+pub fn step_at(i: usize) -> Step
+    ensures { λ r. ⌜ r ≡ stepAt i ⌝ }
 {
-    match c {
-        Claim::Waiting(due) => due <= now,
-        Claim::Probing1(due) => due <= now,
-        Claim::Probing2(due) => due <= now,
-        Claim::Probing3(due) => due <= now,
-        Claim::Deferred(due) => due <= now,
-        Claim::Announced(due) => due <= now,
-        Claim::Held => false,
-        Claim::Lost => false,
+    let steps = [
+        Step::OfClaim(Claim::Instance),
+        Step::OfClaim(Claim::Host),
+        Step::PtrReply,
+    ];
+    if i < STEPS {
+        let s = steps[i];
+        return s;
     }
+    Step::OfClaim(Claim::Instance)
 }
 
-fn reply_due(r: Reply, now: u64) -> bool
-    ensures { λ r′. ⌜ r′ ≡ replyDue r now ⌝ }
+// When a step is due.
+pub fn step_due(s: Step, progress: Progress) -> When
+    ensures { λ r. ⌜ r ≡ stepDue s progress ⌝ }
 {
-    match r {
-        Reply::Unset => false,
-        Reply::Due(due) => due <= now,
+    match s {
+        Step::OfClaim(claim) => crate::due_of(crate::claim_of(claim, progress)),
+        Step::PtrReply => progress.reply,
     }
 }
 
 // Is any step due?
-fn more_due(life: Life, now: u64) -> bool
-    ensures { λ r. ⌜ r ≡ moreDue life now ⌝ }
+fn more_due(progress: Progress, now: u64) -> bool
+    ensures { λ r. ⌜ r ≡ moreDue progress now ⌝ }
 {
-    let instance = life.instance;
-    let host = life.host;
-    let reply = life.reply;
-    if claim_due(instance, now) {
-        return true;
-    }
-    if claim_due(host, now) {
-        return true;
-    }
-    reply_due(reply, now)
-}
-
-// The step of a claim whose step is due.
-fn taken_step(c: Claim, now: u64) -> Step
-    ensures { λ r. ⌜ r ≡ takenStep c now ⌝ }
-{
-    let next = crate::after(now, PROBE_GAP);
-    match c {
-        Claim::Waiting(_) => Step::Probe(Claim::Probing1(next)),
-        Claim::Probing1(_) => Step::Probe(Claim::Probing2(next)),
-        Claim::Probing2(_) => Step::Probe(Claim::Probing3(next)),
-        Claim::Probing3(_) => Step::Announce(Claim::Announced(crate::after(now, ANNOUNCEMENT_GAP))),
-        Claim::Deferred(_) => Step::Probe(Claim::Probing1(next)),
-        Claim::Announced(_) => Step::Repeat(Claim::Held),
-        Claim::Held => Step::Idle,
-        Claim::Lost => Step::Idle,
-    }
-}
-
-fn claim_step(c: Claim, now: u64) -> Step
-    ensures { λ r. ⌜ r ≡ stepOf c now ⌝ }
-{
-    if claim_due(c, now) {
-        return taken_step(c, now);
-    }
-    Step::Idle
-}
-
-// The records of a claim's announcements.
-fn records_of(k: Kind, aaaa: bool) -> Records
-    ensures { λ r. ⌜ r ≡ recordsOf k aaaa ⌝ }
-{
-    match k {
-        Kind::Instance => Records {
-            ptr: true,
-            srv: true,
-            txt: true,
-            a: false,
-            aaaa: false,
-        },
-        Kind::Host => Records {
-            ptr: false,
-            srv: false,
-            txt: false,
-            a: true,
-            aaaa,
-        },
-    }
-}
-
-// Is a record wanted, and not multicast too short a time ago?
-fn is_unsent(wanted: bool, s: Sent, now: u64) -> bool
-    ensures { λ r. ⌜ r ≡ unsent wanted s now ⌝ }
-{
-    if wanted {
-        return !crate::was_recent(s, now, MULTICAST_GAP);
+    let mut i = 0;
+    while i < STEPS {
+        if crate::has_come(step_due(step_at(i), progress), now) {
+            return true;
+        }
+        i += 1;
     }
     false
 }
 
-fn unsent_of(set: Records, sent: Multicasts, now: u64) -> Records
+// What the step of a claim does whose step is due.
+fn taken_action(c: ClaimState, now: u64) -> Action
+    ensures { λ r. ⌜ r ≡ takenAction c now ⌝ }
+{
+    let next = crate::after(now, PROBE_GAP);
+    match c {
+        ClaimState::Waiting(_) => Action::Probe(ClaimState::Probing1(next)),
+        ClaimState::Probing1(_) => Action::Probe(ClaimState::Probing2(next)),
+        ClaimState::Probing2(_) => Action::Probe(ClaimState::Probing3(next)),
+        ClaimState::Probing3(_) => {
+            Action::Announce(ClaimState::Announced(crate::after(now, ANNOUNCEMENT_GAP)))
+        }
+        ClaimState::Deferred(_) => Action::Probe(ClaimState::Probing1(next)),
+        ClaimState::Announced(_) => Action::Repeat(ClaimState::Held),
+        ClaimState::Held => Action::Idle,
+        ClaimState::Lost => Action::Idle,
+    }
+}
+
+fn claim_action(c: ClaimState, now: u64) -> Action
+    ensures { λ r. ⌜ r ≡ actionOf c now ⌝ }
+{
+    if crate::has_come(crate::due_of(c), now) {
+        return taken_action(c, now);
+    }
+    Action::Idle
+}
+
+// Is a record wanted, and not multicast too short a time ago?
+fn is_unsent(wanted: bool, last: When, now: u64) -> bool
+    ensures { λ r. ⌜ r ≡ unsent wanted last now ⌝ }
+{
+    if wanted {
+        return !crate::was_recent(last, now, MULTICAST_GAP);
+    }
+    false
+}
+
+fn unsent_of(set: Set, sent: Multicasts, now: u64) -> Set
     ensures { λ r. ⌜ r ≡ unsentOf set sent now ⌝ }
 {
-    let ptr = sent.ptr;
-    let srv = sent.srv;
-    let txt = sent.txt;
-    let a = sent.a;
-    let aaaa = sent.aaaa;
-    Records {
-        ptr: is_unsent(set.ptr, ptr, now),
-        srv: is_unsent(set.srv, srv, now),
-        txt: is_unsent(set.txt, txt, now),
-        a: is_unsent(set.a, a, now),
-        aaaa: is_unsent(set.aaaa, aaaa, now),
+    let mut flags = [false; RECORDS];
+    let mut i = 0;
+    while i < RECORDS {
+        let o = crate::records::record_at(i);
+        flags[i] = is_unsent(crate::records::is_in(o, set), crate::sent_of(o, sent), now);
+        i += 1;
     }
+    crate::records::set_of(flags)
 }
 
-// Has a set any record?
-pub fn is_any(set: Records) -> bool
-    ensures { λ r. ⌜ r ≡ anyOf set ⌝ }
+fn with_claim(claim: Claim, c: ClaimState, progress: Progress) -> Progress
+    ensures { λ r. ⌜ r ≡ withClaim claim c progress ⌝ }
 {
-    if set.ptr {
-        return true;
-    }
-    if set.srv {
-        return true;
-    }
-    if set.txt {
-        return true;
-    }
-    if set.a {
-        return true;
-    }
-    set.aaaa
-}
-
-fn claim_of(k: Kind, life: Life) -> Claim
-    ensures { λ r. ⌜ r ≡ claimOf k life ⌝ }
-{
-    match k {
-        Kind::Instance => life.instance,
-        Kind::Host => life.host,
-    }
-}
-
-fn with_claim(k: Kind, c: Claim, life: Life) -> Life
-    ensures { λ r. ⌜ r ≡ withClaim k c life ⌝ }
-{
-    let instance = life.instance;
-    let host = life.host;
-    let sent = life.sent;
-    let reply = life.reply;
-    match k {
-        Kind::Instance => Life {
+    let instance = progress.instance;
+    let host = progress.host;
+    let sent = progress.sent;
+    let reply = progress.reply;
+    match claim {
+        Claim::Instance => Progress {
             instance: c,
             host,
             sent,
             reply,
-            draw: life.draw,
-            last: life.last,
+            draw: progress.draw,
+            last: progress.last,
         },
-        Kind::Host => Life {
+        Claim::Host => Progress {
             instance,
             host: c,
             sent,
             reply,
-            draw: life.draw,
-            last: life.last,
+            draw: progress.draw,
+            last: progress.last,
         },
     }
 }
 
-fn with_sent(sent: Multicasts, life: Life) -> Life
-    ensures { λ r. ⌜ r ≡ withSent sent life ⌝ }
+fn with_sent(sent: Multicasts, progress: Progress) -> Progress
+    ensures { λ r. ⌜ r ≡ withSent sent progress ⌝ }
 {
-    let instance = life.instance;
-    let host = life.host;
-    let reply = life.reply;
-    Life {
+    let instance = progress.instance;
+    let host = progress.host;
+    let reply = progress.reply;
+    Progress {
         instance,
         host,
         sent,
         reply,
-        draw: life.draw,
-        last: life.last,
+        draw: progress.draw,
+        last: progress.last,
     }
 }
 
-fn without_reply(life: Life) -> Life
-    ensures { λ r. ⌜ r ≡ withoutReply life ⌝ }
+fn without_reply(progress: Progress) -> Progress
+    ensures { λ r. ⌜ r ≡ withoutReply progress ⌝ }
 {
-    let instance = life.instance;
-    let host = life.host;
-    let sent = life.sent;
-    Life {
+    let instance = progress.instance;
+    let host = progress.host;
+    let sent = progress.sent;
+    Progress {
         instance,
         host,
         sent,
-        reply: Reply::Unset,
-        draw: life.draw,
-        last: life.last,
+        reply: When::Never,
+        draw: progress.draw,
+        last: progress.last,
     }
 }
 
 // The records of a set go out, if there are any.
-fn send(set: Records, now: u64, life: Life) -> Turn
-    ensures { λ r. ⌜ r ≡ sends set now life ⌝ }
+fn send(set: Set, now: u64, progress: Progress) -> Turn
+    ensures { λ r. ⌜ r ≡ sends set now progress ⌝ }
 {
-    let sent = life.sent;
-    if is_any(set) {
+    let sent = progress.sent;
+    if crate::records::is_any(set) {
         return Turn {
-            life: with_sent(crate::mark_all(set, sent, now), life),
+            progress: with_sent(crate::mark_all(set, sent, now), progress),
             output: Output::Response(set),
         };
     }
     Turn {
-        life,
+        progress,
         output: Output::Nothing,
     }
 }
 
-fn step_turn(s: Step, k: Kind, aaaa: bool, now: u64, life: Life) -> Turn
-    ensures { λ r. ⌜ r ≡ stepTurn s k aaaa now life ⌝ }
+fn action_turn(a: Action, claim: Claim, aaaa: bool, now: u64, progress: Progress) -> Turn
+    ensures { λ r. ⌜ r ≡ actionTurn a claim aaaa now progress ⌝ }
 {
-    let sent = life.sent;
-    match s {
-        Step::Idle => Turn {
-            life,
+    let sent = progress.sent;
+    match a {
+        Action::Idle => Turn {
+            progress,
             output: Output::Nothing,
         },
-        Step::Probe(c) => Turn {
-            life: with_claim(k, c, life),
-            output: Output::Probe(k),
+        Action::Probe(c) => Turn {
+            progress: with_claim(claim, c, progress),
+            output: Output::Probe(claim),
         },
-        Step::Announce(c) => send(records_of(k, aaaa), now, with_claim(k, c, life)),
-        Step::Repeat(c) => send(
-            unsent_of(records_of(k, aaaa), sent, now),
+        Action::Announce(c) => send(
+            crate::records::records_of(claim, aaaa),
             now,
-            with_claim(k, c, life),
+            with_claim(claim, c, progress),
+        ),
+        Action::Repeat(c) => send(
+            unsent_of(crate::records::records_of(claim, aaaa), sent, now),
+            now,
+            with_claim(claim, c, progress),
         ),
     }
 }
 
 // The step of a claim, if one is due.
-fn claim_turn(k: Kind, aaaa: bool, now: u64, life: Life) -> Turn
-    ensures { λ r. ⌜ r ≡ claimTurn k aaaa now life ⌝ }
+fn claim_turn(claim: Claim, aaaa: bool, now: u64, progress: Progress) -> Turn
+    ensures { λ r. ⌜ r ≡ claimTurn claim aaaa now progress ⌝ }
 {
-    let c = claim_of(k, life);
-    let s = claim_step(c, now);
-    step_turn(s, k, aaaa, now, life)
+    let c = crate::claim_of(claim, progress);
+    let a = claim_action(c, now);
+    action_turn(a, claim, aaaa, now, progress)
 }
 
 // What the step of the PTR reply sends.
-fn ptr_reply(now: u64, life: Life) -> Records
-    ensures { λ r. ⌜ r ≡ ptrReply now life ⌝ }
+fn ptr_reply(now: u64, progress: Progress) -> Set
+    ensures { λ r. ⌜ r ≡ ptrReply now progress ⌝ }
 {
-    let c = life.instance;
-    let sent = life.sent;
-    let ptr = sent.ptr;
-    Records {
-        ptr: is_unsent(crate::is_held(c), ptr, now),
-        srv: false,
-        txt: false,
-        a: false,
-        aaaa: false,
+    let c = progress.instance;
+    let sent = progress.sent;
+    if crate::is_held(c) {
+        return unsent_of(crate::records::only(Own::Ptr), sent, now);
     }
+    crate::records::no_record()
 }
 
 // The step of the PTR reply, if it is due.
-fn reply_turn(now: u64, life: Life) -> Turn
-    ensures { λ r. ⌜ r ≡ replyTurn now life ⌝ }
+fn reply_turn(now: u64, progress: Progress) -> Turn
+    ensures { λ r. ⌜ r ≡ replyTurn now progress ⌝ }
 {
-    let reply = life.reply;
-    if reply_due(reply, now) {
-        return send(ptr_reply(now, life), now, without_reply(life));
+    let reply = progress.reply;
+    if crate::has_come(reply, now) {
+        return send(ptr_reply(now, progress), now, without_reply(progress));
     }
     Turn {
-        life,
+        progress,
         output: Output::Nothing,
     }
 }
 
-// The host's step follows one that sent nothing.
-fn or_host(t: Turn, aaaa: bool, now: u64) -> Turn
-    ensures { λ r. ⌜ r ≡ orHost t aaaa now ⌝ }
+// A step, if it is due.
+fn step_turn(s: Step, aaaa: bool, now: u64, progress: Progress) -> Turn
+    ensures { λ r. ⌜ r ≡ stepTurn s aaaa now progress ⌝ }
 {
-    let output = t.output;
-    let life = t.life;
-    match output {
-        Output::Nothing => claim_turn(Kind::Host, aaaa, now, life),
-        Output::Probe(_) => t,
-        Output::Response(_) => t,
+    match s {
+        Step::OfClaim(claim) => claim_turn(claim, aaaa, now, progress),
+        Step::PtrReply => reply_turn(now, progress),
     }
 }
 
-// The PTR reply's step follows one that sent nothing.
-fn or_reply(t: Turn, now: u64) -> Turn
-    ensures { λ r. ⌜ r ≡ orReply t now ⌝ }
+// The steps in their order: one with nothing to send is taken and passed, the first that sends ends the walk.
+fn walk_steps(aaaa: bool, now: u64, progress: Progress) -> Turn
+    ensures { λ r. ⌜ r ≡ walked steps.steps aaaa now progress ⌝ }
 {
-    let output = t.output;
-    let life = t.life;
-    match output {
-        Output::Nothing => reply_turn(now, life),
-        Output::Probe(_) => t,
-        Output::Response(_) => t,
+    let mut here = progress;
+    let mut i = 0;
+    while i < STEPS {
+        let t = step_turn(step_at(i), aaaa, now, here);
+        let output = t.output;
+        match output {
+            Output::Nothing => {
+                let next = t.progress;
+                here = next;
+            }
+            Output::Probe(_) => {
+                return t;
+            }
+            Output::Response(_) => {
+                return t;
+            }
+        }
+        i += 1;
+    }
+    Turn {
+        progress: here,
+        output: Output::Nothing,
     }
 }
 
 fn ended(t: Turn, now: u64) -> Ticked
     ensures { λ r. ⌜ r ≡ endedOf t now ⌝ }
 {
-    let life = t.life;
+    let progress = t.progress;
     let output = t.output;
-    let instance = life.instance;
-    let host = life.host;
-    let sent = life.sent;
-    let reply = life.reply;
+    let instance = progress.instance;
+    let host = progress.host;
+    let sent = progress.sent;
+    let reply = progress.reply;
     Ticked {
-        life: Life {
+        progress: Progress {
             instance,
             host,
             sent,
             reply,
-            draw: life.draw,
+            draw: progress.draw,
             last: now,
         },
         output,
-        more: more_due(life, now),
+        more: more_due(progress, now),
     }
 }
 
-// The due steps, instance, host, then PTR reply, up to the first that sends. `aaaa` says whether there is an AAAA record.
-pub fn tick(life: Life, now: u64, aaaa: bool) -> Ticked
-    ensures { λ r. ⌜ r ≡ tickOf life now aaaa ⌝ }
+// The due steps, up to the first that sends. `aaaa` says whether there is an AAAA record.
+pub fn tick(progress: Progress, now: u64, aaaa: bool) -> Ticked
+    ensures { λ r. ⌜ r ≡ tickOf progress now aaaa ⌝ }
 {
-    let first = claim_turn(Kind::Instance, aaaa, now, life);
-    let second = or_host(first, aaaa, now);
-    ended(or_reply(second, now), now)
+    ended(walk_steps(aaaa, now, progress), now)
 }

@@ -1,6 +1,6 @@
 // The calls that only show what is held: `claims`, the times and states of the responder, and `out AT LEN`, a part of the out buffer.
-use claims::Claim;
-use claims::Reply;
+use claims::ClaimState;
+use claims::When;
 use console_calls::output::bad_line;
 use console_calls::output::bytes;
 use console_calls::output::finish;
@@ -30,24 +30,24 @@ fn untimed(text: &mut [u8; 4096], used: usize, state: &[u8]) -> usize {
 }
 
 // Adds a claim: ` STATE DUE`.
-fn claim(text: &mut [u8; 4096], used: usize, c: Claim) -> usize {
+fn claim(text: &mut [u8; 4096], used: usize, c: ClaimState) -> usize {
     match c {
-        Claim::Waiting(due) => timed(text, used, b"waiting", due),
-        Claim::Probing1(due) => timed(text, used, b"probing", due),
-        Claim::Probing2(due) => timed(text, used, b"probing", due),
-        Claim::Probing3(due) => timed(text, used, b"probing", due),
-        Claim::Deferred(due) => timed(text, used, b"deferred", due),
-        Claim::Announced(due) => timed(text, used, b"held", due),
-        Claim::Held => untimed(text, used, b"held"),
-        Claim::Lost => untimed(text, used, b"lost"),
+        ClaimState::Waiting(due) => timed(text, used, b"waiting", due),
+        ClaimState::Probing1(due) => timed(text, used, b"probing", due),
+        ClaimState::Probing2(due) => timed(text, used, b"probing", due),
+        ClaimState::Probing3(due) => timed(text, used, b"probing", due),
+        ClaimState::Deferred(due) => timed(text, used, b"deferred", due),
+        ClaimState::Announced(due) => timed(text, used, b"held", due),
+        ClaimState::Held => untimed(text, used, b"held"),
+        ClaimState::Lost => untimed(text, used, b"lost"),
     }
 }
 
 // Adds the PTR reply: ` reply DUE`.
-fn reply(text: &mut [u8; 4096], used: usize, r: Reply) -> usize {
+fn reply(text: &mut [u8; 4096], used: usize, r: When) -> usize {
     match r {
-        Reply::Due(due) => timed(text, used, b"reply", due),
-        Reply::Unset => untimed(text, used, b"reply"),
+        When::At(due) => timed(text, used, b"reply", due),
+        When::Never => untimed(text, used, b"reply"),
     }
 }
 
@@ -56,11 +56,11 @@ pub fn claims(line: &[u8], held: State, text: &mut [u8; 4096]) {
     if console_text::lines::arguments(line) != 0 {
         return bad_line(text);
     }
-    let life = held.life;
-    let instance = life.instance;
-    let host = life.host;
-    let due = life.reply;
-    let used = first_number(text, life.last);
+    let progress = held.progress;
+    let instance = progress.instance;
+    let host = progress.host;
+    let due = progress.reply;
+    let used = first_number(text, progress.last);
     let used = word(text, used, b"instance");
     let used = claim(text, used, instance);
     let used = word(text, used, b"host");

@@ -2,29 +2,30 @@
 use mathlib.Core.Path.{_≡_, refl, sym, ap, ap₂, _∙_}
 use mathlib.Core.List.{List, [], _∷_, _++_}
 use mathlib.Core.Bool.{Bool, true, false, _||_, _&&_, or-assoc}
-use Prim.Native.Nat.{ℕ, zero, suc, _+_, _-_, _<_, _≤_}
-use native.Mathlib.Omega.{arith}
-use native.Mathlib.Numerals.{add-one}
-use lib.ListN.{length, take, drop, getD, set, replicate}
+use Prim.Native.Nat.{ℕ, _+_, _-_}
+use lib.ListN.{length, take, drop, set, replicate}
 use lib.Seq.{take-at}
 use Rattle.wire.specs.message.Message.{Question, Record, Message, allRecords}
-use Rattle.wire.specs.message.Layout.{Item, Listing, listing, cut, listFrom, questionAt, recordAt, messageAt, read}
+use Rattle.wire.specs.message.Layout.{Listing, listFrom, questionAt, recordAt, messageAt, read}
 use Rattle.wire.specs.declared.message.Layout.{Layout}
 use Rattle.wire.proofs.message.Cursor.{Sections, sections}
-use Rattle.own.specs.declared.records.Own.{Own}
+use Rattle.claims.specs.records.Own.{ownType, ownTtl, recordAt as ownAt}
+use Rattle.claims.specs.declared.records.Own.{Own}
+use Rattle.claims.proofs.records.Filled.{filled, next-filled}
+use Rattle.own.specs.declared.records.OwnBytes.{OwnBytes}
 use Rattle.own.specs.declared.records.Setup.{Setup}
-use Rattle.own.specs.records.Records.{ownOf, hasRecord, ownName, ownType, ownRdata, ownTtl}
-use Rattle.facts.specs.probe.Probe.{some}
+use Rattle.own.specs.records.Records.{ownOf, hasRecord, ownName, ownRdata}
+use Rattle.wire.specs.Lists.{some}
 use Rattle.facts.specs.Facts.{asksFor, suppresses, conflicts, conflicted}
-use Rattle.facts.specs.Walked.{isListed, someIn, flagsTo}
+use Rattle.facts.specs.Walked.{isListed, someIn}
 
-pub own-part : (o : Own) (bs : List ℕ) → o ≡ ownOf bs → take (o .len) (drop 0 (o .bytes)) ≡ bs
-own-part o bs h = ap (λ (y : Own). take (y .len) (y .bytes)) h ∙ take-at bs (replicate (400 - length bs) 0) (length bs) refl
+pub own-part : (o : OwnBytes) (bs : List ℕ) → o ≡ ownOf bs → take (o .len) (drop 0 (o .bytes)) ≡ bs
+own-part o bs h = ap (λ (y : OwnBytes). take (y .len) (y .bytes)) h ∙ take-at bs (replicate (400 - length bs) 0) (length bs) refl
 
 -- a question for the own record, whose name and type were made
-pub asks-own : (s : Setup) (i : ℕ) (l : Listing Question) (name : List ℕ) (rtype : ℕ) → name ≡ ownName s i → rtype ≡ ownType i
-    → someIn (asksFor name rtype) l ≡ someIn (asksFor (ownName s i) (ownType i)) l
-asks-own s i l name rtype n t = ap₂ (λ (a : List ℕ) (b : ℕ). someIn (asksFor a b) l) n t
+pub asks-own : (s : Setup) (o : Own) (l : Listing Question) (name : List ℕ) (rtype : ℕ) → name ≡ ownName s o → rtype ≡ ownType o
+    → someIn (asksFor name rtype) l ≡ someIn (asksFor (ownName s o) (ownType o)) l
+asks-own s o l name rtype n t = ap₂ (λ (a : List ℕ) (b : ℕ). someIn (asksFor a b) l) n t
 
 -- some record of two lists
 some-append : {A : Type 0} (test : A → Bool) (xs ys : List A) → some test (xs ++ ys) ≡ (some test xs || some test ys)
@@ -68,31 +69,31 @@ module _ (p : List ℕ) (l : Layout) (m : Message) (is : messageAt p ≡ read l 
       pub in-additionals : b ≡ false → (v : Bool) → v ≡ someIn test (listFrom (recordAt p) (l .additionals .count) (l .additionals .at)) → v ≡ some test (allRecords m)
       in-additionals e v ev = sym (whole ∙ rw (sym ea ∙ na, sym eb ∙ e) (sym ev))
 
--- the own record of an index, whose name, type and rdata were made
-pub has-it : (s : Setup) (i : ℕ) (m : Message) (h : Bool) → h ≡ hasRecord s i → h ≡ true → (name own : List ℕ) (rtype : ℕ) → name ≡ ownName s i → own ≡ ownRdata s i → rtype ≡ ownType i
-    → (v : Bool) → v ≡ some (conflicts name rtype own) (allRecords m) → v ≡ conflicted s i m
+-- an own record whose name, type and rdata were made
+pub has-it : (s : Setup) (o : Own) (m : Message) (h : Bool) → h ≡ hasRecord s o → h ≡ true → (name own : List ℕ) (rtype : ℕ) → name ≡ ownName s o → own ≡ ownRdata s o → rtype ≡ ownType o
+    → (v : Bool) → v ≡ some (conflicts name rtype own) (allRecords m) → v ≡ conflicted s o m
 unfolding conflicted
-has-it s i m h e t name own rtype n d y v k =
-    k ∙ (λ j. some (conflicts (n j) (y j) (d j)) (allRecords m)) ∙ sym (ap (λ (b : Bool). b && some (conflicts (ownName s i) (ownType i) (ownRdata s i)) (allRecords m)) (sym e ∙ t))
+has-it s o m h e t name own rtype n d y v k =
+    k ∙ (λ j. some (conflicts (n j) (y j) (d j)) (allRecords m)) ∙ sym (ap (λ (b : Bool). b && some (conflicts (ownName s o) (ownType o) (ownRdata s o)) (allRecords m)) (sym e ∙ t))
 
-pub no-record : (s : Setup) (i : ℕ) (m : Message) (v : Bool) → v ≡ hasRecord s i → v ≡ false → false ≡ conflicted s i m
+pub no-record : (s : Setup) (o : Own) (m : Message) (v : Bool) → v ≡ hasRecord s o → v ≡ false → false ≡ conflicted s o m
 unfolding conflicted
-no-record s i m v e f = sym (ap (λ (b : Bool). b && some (conflicts (ownName s i) (ownType i) (ownRdata s i)) (allRecords m)) (sym e ∙ f))
+no-record s o m v e f = sym (ap (λ (b : Bool). b && some (conflicts (ownName s o) (ownType o) (ownRdata s o)) (allRecords m)) (sym e ∙ f))
 
--- a flag for each own record, one after the other
-pub flag-next : (test : ℕ → Bool) (i : ℕ) (flags : List Bool) (v : Bool) → flags ≡ flagsTo test i → v ≡ test i → set flags i v ≡ flagsTo test (i + 1)
-unfolding flagsTo
-flag-next test i flags v f e = ap₂ (λ (l : List Bool) (b : Bool). set l i b) f e ∙ ap (flagsTo test) (sym (add-one i))
+-- the questions ask for the record, the answers know it
+abbrev pub asks : Setup → Listing Question → Own → Bool
+asks s l o = someIn (asksFor (ownName s o) (ownType o)) l
 
--- all five: what the array holds is what each record's test gave
-pub flags-all : (test : ℕ → Bool) (i : ℕ) (flags : List Bool) → 5 ≤ i → i ≤ 5 → flags ≡ flagsTo test i → flags ≡ test 0 ∷ (test 1 ∷ (test 2 ∷ (test 3 ∷ (test 4 ∷ []))))
-unfolding flagsTo
-flags-all test i flags h k f = let e : i ≡ 5 = omega arith in f ∙ ap (flagsTo test) e
+abbrev pub knows : Setup → Listing Record → Own → Bool
+knows s l o = someIn (suppresses (ownName s o) (ownType o) (ownRdata s o) (ownTtl o)) l
 
--- the own record against the answers, with the parts that were made
-pub suppresses-own : (s : Setup) (i : ℕ) (name own : List ℕ) (rtype ttl : ℕ) → name ≡ ownName s i → own ≡ ownRdata s i → rtype ≡ ownType i → ttl ≡ ownTtl i → (l : Listing Record)
-    → someIn (suppresses name rtype own ttl) l ≡ someIn (suppresses (ownName s i) (ownType i) (ownRdata s i) (ownTtl i)) l
-suppresses-own s i name own rtype ttl n d y t l = λ j. someIn (suppresses (n j) (y j) (d j) (t j)) l
+-- the own record of an index against the answers, with the parts that were made
+pub suppresses-own : (s : Setup) (i : ℕ) (o : Own) → o ≡ ownAt i → (name own : List ℕ) (rtype ttl : ℕ) → name ≡ ownName s o → own ≡ ownRdata s o → rtype ≡ ownType o → ttl ≡ ownTtl o
+    → (l : Listing Record) → someIn (suppresses name rtype own ttl) l ≡ knows s l (ownAt i)
+suppresses-own s i o e name own rtype ttl n d y t l = (λ j. someIn (suppresses (n j) (y j) (d j) (t j)) l) ∙ ap (knows s l) e
 
-pub own-flag : (test : ℕ → Bool) (i j : ℕ) (known flags : List Bool) (v : Bool) → j ≡ i → known ≡ flags → flags ≡ flagsTo test i → v ≡ test i → set known j v ≡ flagsTo test (j + 1)
-own-flag test i j known flags v e k f t = ap₂ (λ (l : List Bool) (n : ℕ). set l n v) k e ∙ flag-next test i flags v f t ∙ ap (λ (n : ℕ). flagsTo test (n + 1)) (sym e)
+-- its flag, in an array and at an index that the walk over the answers left as they were
+pub own-flag : (test : Own → Bool) (i j : ℕ) (known flags : List Bool) (v : Bool) → j ≡ i → known ≡ flags → flags ≡ filled false test i → v ≡ test (ownAt i)
+    → set known j v ≡ filled false test (j + 1)
+own-flag test i j known flags v e k f t =
+    ap₂ (λ (l : List Bool) (n : ℕ). set l n v) k e ∙ next-filled false test i flags v f t ∙ ap (λ (n : ℕ). filled false test (n + 1)) (sym e)

@@ -72,7 +72,7 @@ module _ (p : List ℕ) (f : RecordAt) (name : List ℕ) (rtype : ℕ) (own : Li
   n = nameIs p (f .owner) name
 
   d : Bool
-  d = rdataIs (rdataAt p (f .rtype) (f .rdata) (f .rdlength)) own
+  d = rdataIs (rdataAt p f) own
 
   pub conflicts-type : (f .rtype ≡ rtype → ⊥) → false ≡ conflictsHere p f name rtype own
   unfolding conflictsHere n d
@@ -91,7 +91,7 @@ module _ (p : List ℕ) (f : RecordAt) (name : List ℕ) (rtype : ℕ) (own : Li
     unfolding conflictsHere n d
     conflicts-name h = no-name n (eqb (classOf (f .class)) 1) (eqb (f .rtype) rtype) (not (eqb (f .ttl) 0)) (not d) (sym e ∙ h)
 
-    pub conflicts-rdata : v ≡ true → classOf (f .class) ≡ 1 → f .rtype ≡ rtype → (f .ttl ≡ 0 → ⊥) → (w : Bool) → w ≡ rdataIs (rdataAt p (f .rtype) (f .rdata) (f .rdlength)) own
+    pub conflicts-rdata : v ≡ true → classOf (f .class) ≡ 1 → f .rtype ≡ rtype → (f .ttl ≡ 0 → ⊥) → (w : Bool) → w ≡ rdataIs (rdataAt p f) own
         → not w ≡ conflictsHere p f name rtype own
     unfolding conflictsHere n d
     conflicts-rdata h c t l w k =
@@ -115,7 +115,7 @@ module _ (p : List ℕ) (f : RecordAt) (name : List ℕ) (rtype : ℕ) (own : Li
       unfolding suppressesHere n d
       suppresses-name h = no-name n (eqb (classOf (f .class)) 1) (eqb (f .rtype) rtype) d (leb ttl (2 * f .ttl)) (sym e ∙ h)
 
-      pub suppresses-rdata : v ≡ true → classOf (f .class) ≡ 1 → f .rtype ≡ rtype → ttl ≤ 2 * f .ttl → (w : Bool) → w ≡ rdataIs (rdataAt p (f .rtype) (f .rdata) (f .rdlength)) own
+      pub suppresses-rdata : v ≡ true → classOf (f .class) ≡ 1 → f .rtype ≡ rtype → ttl ≤ 2 * f .ttl → (w : Bool) → w ≡ rdataIs (rdataAt p f) own
           → w ≡ suppressesHere p f name rtype own ttl
       unfolding suppressesHere n d
       suppresses-rdata h c t l w k =

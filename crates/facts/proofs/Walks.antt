@@ -19,7 +19,7 @@ use Rattle.wire.specs.declared.message.RecordAt.{RecordAt}
 use Rattle.wire.specs.declared.message.RecordRead.{RecordRead}
 use Rattle.wire.specs.declared.message.RecordRead.the-variants as r
 use Rattle.wire.proofs.message.Cursor.{Step, QuestionHere, RecordHere, step, done, question-met, question-never-malformed, record-met, record-never-malformed}
-use Rattle.facts.specs.probe.Probe.{some}
+use Rattle.wire.specs.Lists.{some}
 use Rattle.facts.specs.Facts.{asksFor, suppresses, conflicts}
 use Rattle.facts.specs.Walked.{isListed, someIn, asksHere, suppressesHere, conflictsHere}
 

@@ -1,9 +1,8 @@
 -- A test over a section that has been checked, and the tests on a question or record as it lies. Assumes nothing: these are definitions.
-use Prim.Native.Nat.{ℕ, zero, suc, _*_}
-use mathlib.Core.List.{List, [], _∷_}
-use mathlib.Core.Bool.{Bool, true, false, cond, not, _&&_, _||_}
+use Prim.Native.Nat.{ℕ, _*_}
+use mathlib.Core.List.{List}
+use mathlib.Core.Bool.{Bool, true, false, not, _&&_, _||_}
 use lib.Dec.{leb, eqb}
-use lib.ListN.{set, replicate}
 use Rattle.wire.specs.names.Answers.{nameIs}
 use Rattle.wire.specs.rdata.Rdata.{rdataAt}
 use Rattle.wire.specs.expansion.Equal.{rdataIs}
@@ -11,7 +10,7 @@ use Rattle.wire.specs.message.Message.{classOf}
 use Rattle.wire.specs.message.Layout.{Listing, listing, cut}
 use Rattle.wire.specs.declared.message.QuestionAt.{QuestionAt}
 use Rattle.wire.specs.declared.message.RecordAt.{RecordAt}
-use Rattle.facts.specs.probe.Probe.{some}
+use Rattle.wire.specs.Lists.{some}
 
 -- the section is a list of whole items
 abbrev pub isListed : {A : Type 0} → Listing A → Bool
@@ -33,16 +32,11 @@ unfoldable pub suppressesHere : List ℕ → RecordAt → List ℕ → ℕ → L
 suppressesHere p f name rtype own ttl =
     nameIs p (f .owner) name
     && (eqb (classOf (f .class)) 1
-    && (eqb (f .rtype) rtype && (rdataIs (rdataAt p (f .rtype) (f .rdata) (f .rdlength)) own && leb ttl (2 * f .ttl))))
+    && (eqb (f .rtype) rtype && (rdataIs (rdataAt p f) own && leb ttl (2 * f .ttl))))
 
 -- a record as it lies conflicts with the own record of this name, type and rdata
 unfoldable pub conflictsHere : List ℕ → RecordAt → List ℕ → ℕ → List ℕ → Bool
 conflictsHere p f name rtype own =
     nameIs p (f .owner) name
     && (eqb (classOf (f .class)) 1
-    && (eqb (f .rtype) rtype && (not (eqb (f .ttl) 0) && not (rdataIs (rdataAt p (f .rtype) (f .rdata) (f .rdlength)) own))))
-
--- one flag for each of the own records, as far as they have been tested
-unfoldable pub flagsTo : (ℕ → Bool) → ℕ → List Bool
-flagsTo test zero = replicate 5 false
-flagsTo test (suc i) = set (flagsTo test i) i (test i)
+    && (eqb (f .rtype) rtype && (not (eqb (f .ttl) 0) && not (rdataIs (rdataAt p f) own))))

@@ -4,19 +4,24 @@ pub mod probe;
 pub mod tiebreak;
 
 ghost use mathlib.Core.Path.{_≡_};
-ghost use mathlib.Core.Bool.{true, false, _||_};
+ghost use mathlib.Core.Bool.{true, _||_};
 ghost use lib.Dec.{eqb};
 ghost use Rattle.wire.specs.message.Layout.{questionAt, recordAt, listFrom, messageAt, read};
 ghost use Rattle.wire.specs.message.Message.{Message, allRecords};
 ghost use Rattle.facts.specs.tiebreak.Later.{isLater};
-ghost use Rattle.facts.specs.probe.Probe.{some, isProbe, messageIn};
-ghost use Rattle.own.specs.records.Records.{ownName, ownType, ownTtl, ownRdata};
-ghost use Rattle.facts.specs.Facts.{asksFor, suppresses, conflicts, conflicted, laterThan, each, factsOf, scannedOf};
+ghost use Rattle.wire.specs.Lists.{some};
+ghost use Rattle.wire.specs.message.Readable.{messageIn};
+ghost use Rattle.facts.specs.probe.Probe.{isProbe};
+ghost use Rattle.claims.specs.records.Own.{ownType, ownTtl, each};
+ghost use Rattle.own.specs.records.Records.{ownName, ownRdata};
+ghost use Rattle.facts.specs.Facts.{asksFor, suppresses, conflicts, conflicted, claimName, theirsLater, responseTo, queryTo, factsOf, scannedOf};
 ghost use Rattle.facts.specs.Walked.{isListed, someIn, asksHere, suppressesHere, conflictsHere};
-use claims::Records;
 use claims::answers::Facts;
 use claims::answers::Heard;
-use own::records::Claim;
+use claims::records::Claim;
+use claims::records::Own;
+use claims::records::RECORDS;
+use claims::records::Set;
 use own::records::Setup;
 
 // Class 1, and the type and class that ask for all.
@@ -99,7 +104,7 @@ fn suppresses_here(
     if !wire::names::name_is(p, f.owner, name) {
         return false;
     }
-    wire::expansion::rdata_is(p, f.rtype, f.rdata, f.rdlength, own)
+    wire::expansion::rdata_is(p, f, own)
 }
 
 // Whether a record as it lies conflicts with an own one: equal name, class 1 and type, a TTL that is not 0, and other rdata.
@@ -118,7 +123,7 @@ fn conflicts_here(p: &[u8], f: wire::message::RecordAt, name: &[u8], rtype: u16,
     if !wire::names::name_is(p, f.owner, name) {
         return false;
     }
-    !wire::expansion::rdata_is(p, f.rtype, f.rdata, f.rdlength, own)
+    !wire::expansion::rdata_is(p, f, own)
 }
 
 // Whether a record of a section that has been checked conflicts with an own one.
@@ -144,49 +149,50 @@ fn some_conflicts(p: &[u8], s: wire::message::Section, name: &[u8], rtype: u16, 
     false
 }
 
-// Whether a question of a section that has been checked asks for the own record of an index.
-fn is_asked(p: &[u8], s: wire::message::Section, setup: Setup, i: usize) -> bool
-    ensures { λ r. ⌜ (isListed (listFrom (questionAt (now (p .entry))) (s .count) (s .at)) ≡ true → r ≡ someIn (asksFor (ownName setup i) (ownType i)) (listFrom (questionAt (now (p .entry))) (s .count) (s .at))) ⌝ }
+// Whether a question of a section that has been checked asks for an own record.
+fn is_asked(p: &[u8], s: wire::message::Section, setup: Setup, o: Own) -> bool
+    ensures { λ r. ⌜ (isListed (listFrom (questionAt (now (p .entry))) (s .count) (s .at)) ≡ true → r ≡ someIn (asksFor (ownName setup o) (ownType o)) (listFrom (questionAt (now (p .entry))) (s .count) (s .at))) ⌝ }
 {
-    let own = own::records::own_name(setup, i);
+    let own = own::records::own_name(setup, o);
     let bytes = own.bytes;
     let len = own.len;
     some_asks(
         p,
         s,
         wire::rdata::part(&bytes, 0, len),
-        own::fields::own_type(i),
+        claims::records::own_type(o),
     )
 }
 
 // The own records that a section of questions asks for.
-fn asked_for(p: &[u8], s: wire::message::Section, setup: Setup) -> Records
-    ensures { λ r. ⌜ (isListed (listFrom (questionAt (now (p .entry))) (s .count) (s .at)) ≡ true → r ≡ each (λ i. someIn (asksFor (ownName setup i) (ownType i)) (listFrom (questionAt (now (p .entry))) (s .count) (s .at)))) ⌝ }
+fn asked_for(p: &[u8], s: wire::message::Section, setup: Setup) -> Set
+    ensures { λ r. ⌜ (isListed (listFrom (questionAt (now (p .entry))) (s .count) (s .at)) ≡ true → r ≡ each (λ o. someIn (asksFor (ownName setup o) (ownType o)) (listFrom (questionAt (now (p .entry))) (s .count) (s .at)))) ⌝ }
 {
-    Records {
-        ptr: is_asked(p, s, setup, own::records::PTR),
-        srv: is_asked(p, s, setup, own::records::SRV),
-        txt: is_asked(p, s, setup, own::records::TXT),
-        a: is_asked(p, s, setup, own::records::A),
-        aaaa: is_asked(p, s, setup, own::records::AAAA),
+    let mut asked = [false; RECORDS];
+    let mut i = 0;
+    while i < RECORDS {
+        asked[i] = is_asked(p, s, setup, claims::records::record_at(i));
+        i += 1;
     }
+    claims::records::set_of(asked)
 }
 
 // The own records that a section of answers knows: each own record against each answer, left at the first that suppresses it.
-fn known_in(p: &[u8], s: wire::message::Section, setup: Setup) -> Records
-    ensures { λ r. ⌜ (isListed (listFrom (recordAt (now (p .entry))) (s .count) (s .at)) ≡ true → r ≡ each (λ i. someIn (suppresses (ownName setup i) (ownType i) (ownRdata setup i) (ownTtl i)) (listFrom (recordAt (now (p .entry))) (s .count) (s .at)))) ⌝ }
+fn known_in(p: &[u8], s: wire::message::Section, setup: Setup) -> Set
+    ensures { λ r. ⌜ (isListed (listFrom (recordAt (now (p .entry))) (s .count) (s .at)) ≡ true → r ≡ each (λ o. someIn (suppresses (ownName setup o) (ownType o) (ownRdata setup o) (ownTtl o)) (listFrom (recordAt (now (p .entry))) (s .count) (s .at)))) ⌝ }
 {
-    let mut known = [false; 5];
+    let mut known = [false; RECORDS];
     let mut i = 0;
-    'own: while i < own::records::RECORDS {
-        let name = own::records::own_name(setup, i);
+    'own: while i < RECORDS {
+        let o = claims::records::record_at(i);
+        let name = own::records::own_name(setup, o);
         let namebytes = name.bytes;
         let namelen = name.len;
-        let data = own::records::own_rdata(setup, i);
+        let data = own::records::own_rdata(setup, o);
         let databytes = data.bytes;
         let datalen = data.len;
-        let rtype = own::fields::own_type(i);
-        let ttl = own::fields::own_ttl(i);
+        let rtype = claims::records::own_type(o);
+        let ttl = claims::records::own_ttl(o);
         let mut here = s.at;
         let mut left = s.count;
         while 0 < left {
@@ -217,13 +223,7 @@ fn known_in(p: &[u8], s: wire::message::Section, setup: Setup) -> Records
         known[i] = false;
         i += 1;
     }
-    Records {
-        ptr: known[0],
-        srv: known[1],
-        txt: known[2],
-        a: known[3],
-        aaaa: known[4],
-    }
+    claims::records::set_of(known)
 }
 
 // Whether a record of any section of a message that has been checked conflicts with an own one.
@@ -242,39 +242,33 @@ fn conflicts_in(p: &[u8], l: wire::message::Layout, name: &[u8], rtype: u16, own
     some_conflicts(p, additionals, name, rtype, own)
 }
 
-// Whether a record of a message that has been checked conflicts with the own record of an index.
-fn has_conflict(p: &[u8], l: wire::message::Layout, setup: Setup, i: usize) -> bool
-    ensures { λ r. ⌜ ((m : Message) → messageAt (now (p .entry)) ≡ read l m → r ≡ conflicted setup i m) ⌝ }
+// Whether a record of a message that has been checked conflicts with an own record that the set-up has.
+fn has_conflict(p: &[u8], l: wire::message::Layout, setup: Setup, o: Own) -> bool
+    ensures { λ r. ⌜ ((m : Message) → messageAt (now (p .entry)) ≡ read l m → r ≡ conflicted setup o m) ⌝ }
 {
-    if !own::fields::has_record(setup, i) {
+    if !own::records::has_record(setup, o) {
         return false;
     }
-    let name = own::records::own_name(setup, i);
+    let name = own::records::own_name(setup, o);
     let namebytes = name.bytes;
     let namelen = name.len;
-    let data = own::records::own_rdata(setup, i);
+    let data = own::records::own_rdata(setup, o);
     let databytes = data.bytes;
     let datalen = data.len;
     conflicts_in(
         p,
         l,
         wire::rdata::part(&namebytes, 0, namelen),
-        own::fields::own_type(i),
+        claims::records::own_type(o),
         wire::rdata::part(&databytes, 0, datalen),
     )
 }
 
-// What a response that has been checked says to the claim of two own records.
-fn response_to(
-    p: &[u8],
-    l: wire::message::Layout,
-    setup: Setup,
-    first: usize,
-    second: usize,
-) -> Heard
-    ensures { λ r. ⌜ ((m : Message) → messageAt (now (p .entry)) ≡ read l m → r ≡ record { probe = false; later = false; conflict = conflicted setup first m || conflicted setup second m }) ⌝ }
+// What a response that has been checked says to a claim.
+fn response_to(p: &[u8], l: wire::message::Layout, setup: Setup, claim: Claim) -> Heard
+    ensures { λ r. ⌜ ((m : Message) → messageAt (now (p .entry)) ≡ read l m → r ≡ responseTo setup claim m) ⌝ }
 {
-    if has_conflict(p, l, setup, first) {
+    if has_conflict(p, l, setup, claims::records::first_of(claim)) {
         return Heard {
             probe: false,
             later: false,
@@ -284,7 +278,7 @@ fn response_to(
     Heard {
         probe: false,
         later: false,
-        conflict: has_conflict(p, l, setup, second),
+        conflict: has_conflict(p, l, setup, claims::records::second_of(claim)),
     }
 }
 
@@ -299,16 +293,12 @@ fn is_later(v: crate::tiebreak::Verdict) -> bool
     }
 }
 
-// Whether the records of a message under the name of a claim are later than its own two.
-fn theirs_later(
-    p: &[u8],
-    l: wire::message::Layout,
-    setup: Setup,
-    first: usize,
-    second: usize,
-) -> bool
-    ensures { λ r. ⌜ r ≡ laterThan setup first second (messageIn (now (p .entry)) l) ⌝ }
+// Whether the records of a message under the name of a claim are later than its own.
+fn theirs_later(p: &[u8], l: wire::message::Layout, setup: Setup, claim: Claim) -> bool
+    ensures { λ r. ⌜ r ≡ theirsLater setup claim (messageIn (now (p .entry)) l) ⌝ }
 {
+    let first = claims::records::first_of(claim);
+    let second = claims::records::second_of(claim);
     let name = own::records::own_name(setup, first);
     let namebytes = name.bytes;
     let namelen = name.len;
@@ -319,9 +309,9 @@ fn theirs_later(
     let twobytes = two.bytes;
     let twolen = two.len;
     let own = crate::tiebreak::OwnTypes {
-        first: own::fields::own_type(first),
-        second: own::fields::own_type(second),
-        both: own::fields::has_record(setup, second),
+        first: claims::records::own_type(first),
+        second: claims::records::own_type(second),
+        both: own::records::has_record(setup, second),
     };
     is_later(crate::tiebreak::tiebreak(
         p,
@@ -333,37 +323,24 @@ fn theirs_later(
     ))
 }
 
-// Whether a message is a probe for the name of an own record.
-fn is_probe(p: &[u8], l: wire::message::Layout, setup: Setup, first: usize) -> bool
-    ensures { λ r. ⌜ r ≡ isProbe (ownName setup first) (messageIn (now (p .entry)) l) ⌝ }
+// Whether a message is a probe for the name of a claim.
+fn is_probe(p: &[u8], l: wire::message::Layout, setup: Setup, claim: Claim) -> bool
+    ensures { λ r. ⌜ r ≡ isProbe (claimName setup claim) (messageIn (now (p .entry)) l) ⌝ }
 {
-    let name = own::records::own_name(setup, first);
+    let name = own::records::own_name(setup, claims::records::first_of(claim));
     let namebytes = name.bytes;
     let namelen = name.len;
     crate::probe::is_probe(p, l, wire::rdata::part(&namebytes, 0, namelen))
 }
 
-// What a query that has been checked says to the claim of two own records.
-fn query_to(p: &[u8], l: wire::message::Layout, setup: Setup, first: usize, second: usize) -> Heard
-    ensures { λ r. ⌜ r ≡ record { probe = isProbe (ownName setup first) (messageIn (now (p .entry)) l); later = laterThan setup first second (messageIn (now (p .entry)) l); conflict = false } ⌝ }
+// What a query that has been checked says to a claim.
+fn query_to(p: &[u8], l: wire::message::Layout, setup: Setup, claim: Claim) -> Heard
+    ensures { λ r. ⌜ r ≡ queryTo setup claim (messageIn (now (p .entry)) l) ⌝ }
 {
     Heard {
-        probe: is_probe(p, l, setup, first),
-        later: theirs_later(p, l, setup, first, second),
+        probe: is_probe(p, l, setup, claim),
+        later: theirs_later(p, l, setup, claim),
         conflict: false,
-    }
-}
-
-// No own record.
-fn none() -> Records
-    ensures { λ r. ⌜ r ≡ each (λ i. false) ⌝ }
-{
-    Records {
-        ptr: false,
-        srv: false,
-        txt: false,
-        a: false,
-        aaaa: false,
     }
 }
 
@@ -374,10 +351,10 @@ fn facts(p: &[u8], l: wire::message::Layout, setup: Setup) -> Facts
     if 32768 <= l.flags {
         return Facts {
             response: true,
-            asked: none(),
-            known: none(),
-            instance: response_to(p, l, setup, own::records::SRV, own::records::TXT),
-            host: response_to(p, l, setup, own::records::A, own::records::AAAA),
+            asked: claims::records::no_record(),
+            known: claims::records::no_record(),
+            instance: response_to(p, l, setup, Claim::Instance),
+            host: response_to(p, l, setup, Claim::Host),
         };
     }
     let questions = l.questions;
@@ -386,8 +363,8 @@ fn facts(p: &[u8], l: wire::message::Layout, setup: Setup) -> Facts
         response: false,
         asked: asked_for(p, questions, setup),
         known: known_in(p, answers, setup),
-        instance: query_to(p, l, setup, own::records::SRV, own::records::TXT),
-        host: query_to(p, l, setup, own::records::A, own::records::AAAA),
+        instance: query_to(p, l, setup, Claim::Instance),
+        host: query_to(p, l, setup, Claim::Host),
     }
 }
 

@@ -1,31 +1,18 @@
-// Whether a message is a probe for a name (specification, 'A claim's life', "A probe is .."; RFC 6762, 8.2), and the records of a section as far as they
-// are well formed. How a probe's records stand to the own ones is in the module `tiebreak`.
+// Whether a message is a probe for a name (specification, 'A claim's life', "A probe is .."; RFC 6762, 8.2). How a probe's records stand to the own ones
+// is in the module `tiebreak`.
 ghost use mathlib.Core.Path.{_≡_};
-ghost use Rattle.wire.specs.message.Layout.{questionAt, recordAt, recordRead};
+ghost use Rattle.wire.specs.message.Layout.{questionAt, recordAt};
 ghost use Rattle.wire.specs.names.Answers.{nameIs};
-ghost use Rattle.facts.specs.probe.Probe.{readable, under, asksAll, some, isProbe, messageIn};
-ghost use Rattle.facts.specs.probe.Walked.{unbroken, asksAt};
+ghost use Rattle.wire.specs.Lists.{some};
+ghost use Rattle.wire.specs.message.Readable.{readable, messageIn};
+ghost use Rattle.facts.specs.probe.Probe.{under, asksAll, isProbe};
+ghost use Rattle.facts.specs.probe.Walked.{asksAt};
 
 // Own records are of class 1.
 const INTERNET: u16 = 1;
 
 // The type and the class that ask for all.
 const ANY: u16 = 255;
-
-// The record at an offset, if its rdata is as its type asks.
-pub fn whole_record(p: &[u8], at: usize) -> wire::message::RecordRead
-    ensures { λ r. ⌜ r ≡ unbroken (recordAt (now (p .entry)) at) (recordRead (now (p .entry)) at) ⌝ }
-{
-    match wire::message::record_at(p, at) {
-        wire::message::RecordRead::Found(f) => {
-            if wire::rdata::rdata_fits(p, f.rtype, f.rdata, f.rdlength) {
-                return wire::message::RecordRead::Found(f);
-            }
-            wire::message::RecordRead::Malformed
-        }
-        wire::message::RecordRead::Malformed => wire::message::RecordRead::Malformed,
-    }
-}
 
 // Whether a question asks for all that a name has, in class 1 or in any.
 fn asks(p: &[u8], q: wire::message::QuestionAt, name: &[u8]) -> bool
@@ -74,7 +61,7 @@ fn some_under(p: &[u8], s: wire::message::Section, name: &[u8]) -> bool
     let mut here = s.at;
     let mut left = s.count;
     while 0 < left {
-        match whole_record(p, here) {
+        match wire::message::whole_record(p, here) {
             wire::message::RecordRead::Found(f) => {
                 if wire::names::name_is(p, f.owner, name) {
                     return true;

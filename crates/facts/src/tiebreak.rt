@@ -2,17 +2,16 @@
 // stand to the own records of the claim to it. Nothing is copied and sorted: for each own record one pass counts the records that stand before it
 // and those that equal it, and the counts decide. Whether the message is a probe is in the module `probe`.
 ghost use mathlib.Core.Path.{_≡_};
-ghost use mathlib.Core.Bool.{true, false};
-ghost use mathlib.Core.List.{[], _∷_};
+ghost use mathlib.Core.Bool.{Bool, true, false};
+ghost use mathlib.Core.List.{List, [], _∷_};
 ghost use Prim.Native.Nat.{_<_};
 ghost use Rattle.wire.specs.rdata.Rdata.{rdataAt};
 ghost use Rattle.wire.specs.rdata.Answers.{fits};
-ghost use Rattle.wire.specs.message.Layout.{recordAt};
 ghost use Rattle.wire.specs.names.Answers.{nameIs};
-ghost use Rattle.facts.specs.probe.Probe.{readable, messageIn};
-ghost use Rattle.facts.specs.tiebreak.Later.{numberOf, isLater, compareBytes, compareRecords, tie};
-ghost use Rattle.facts.specs.tiebreak.Lists.{listUnder, ownRecord, ownList, theirs};
-ghost use Rattle.facts.specs.tiebreak.Counts.{countOne, countMet, countAll, noneCounted, placed, beyond, tieRecordAt};
+ghost use Rattle.wire.specs.message.Readable.{messageIn, recordShown};
+ghost use Rattle.facts.specs.tiebreak.Later.{TieRecord, numberOf, isLater, compareBytes, compareRecords, tie};
+ghost use Rattle.facts.specs.tiebreak.Lists.{tieRecord, listIn, ownRecord, ownList, theirs};
+ghost use Rattle.facts.specs.tiebreak.Counts.{countOne, countMet, countAll, noneCounted, placed, beyond};
 
 // Own records are of class 1.
 const INTERNET: u16 = 1;
@@ -65,7 +64,9 @@ fn compare_records(
     rtype2: u16,
     rdata2: &[u8],
 ) -> Verdict
-    ensures { λ r. ⌜ r ≡ compareRecords (record { class = class; rtype = rtype; rdata = now (rdata .entry) }) (record { class = class2; rtype = rtype2; rdata = now (rdata2 .entry) }) ⌝ }
+    ensures { λ r. ⌜ (let a : TieRecord = record { class = class; rtype = rtype; rdata = now (rdata .entry) } in
+        let b : TieRecord = record { class = class2; rtype = rtype2; rdata = now (rdata2 .entry) } in
+        r ≡ compareRecords a b) ⌝ }
 {
     if class < class2 {
         return Verdict::Earlier;
@@ -84,13 +85,13 @@ fn compare_records(
 
 // How a record of the packet compares with an own one.
 fn compare_with_own(p: &[u8], f: wire::message::RecordAt, rtype: u16, own: &[u8]) -> Verdict
-    requires { ⌜ fits (rdataAt (now p) (f .rtype) (f .rdata) (f .rdlength)) ≡ true ⌝ }
-    ensures { λ r. ⌜ r ≡ compareRecords (tieRecordAt (now (p .entry)) f) (ownRecord rtype (now (own .entry))) ⌝ }
+    requires { ⌜ fits (rdataAt (now p) f) ≡ true ⌝ }
+    ensures { λ r. ⌜ r ≡ compareRecords (tieRecord (recordShown (now (p .entry)) f)) (ownRecord rtype (now (own .entry))) ⌝ }
 {
-    let o = wire::expansion::open(p, f.rtype, f.rdata, f.rdlength);
+    let o = wire::expansion::open(p, f);
     let b = o.bytes;
     let n = o.len;
-    let seen = wire::expansion::view(p, &b, n, f.rtype, f.rdata, f.rdlength);
+    let seen = wire::expansion::view(p, &b, n, f);
     let class = f.class % 32768;
     compare_records(class, f.rtype, seen, INTERNET, rtype, own)
 }
@@ -128,9 +129,10 @@ fn count_met(
     own: &[u8],
     c: Counts,
 ) -> Counts
-    requires { ⌜ fits (rdataAt (now p) (f .rtype) (f .rdata) (f .rdlength)) ≡ true ⌝ }
+    requires { ⌜ fits (rdataAt (now p) f) ≡ true ⌝ }
     requires { ⌜ (c .all < 65535) × (c .earlier < 65535) × (c .same < 65535) ⌝ }
-    ensures { λ r. ⌜ r ≡ countMet (nameIs (now (p .entry)) (f .owner) (now (name .entry))) (tieRecordAt (now (p .entry)) f) (ownRecord rtype (now (own .entry))) c ⌝ }
+    ensures { λ r. ⌜ (let isUnder : Bool = nameIs (now (p .entry)) (f .owner) (now (name .entry)) in
+        r ≡ countMet isUnder (tieRecord (recordShown (now (p .entry)) f)) (ownRecord rtype (now (own .entry))) c) ⌝ }
 {
     if wire::names::name_is(p, f.owner, name) {
         return count_one(compare_with_own(p, f, rtype, own), c);
@@ -140,7 +142,7 @@ fn count_met(
 
 // Counts of the records of a section that are under a name, against an own record.
 fn count_under(p: &[u8], s: wire::message::Section, name: &[u8], rtype: u16, own: &[u8]) -> Counts
-    ensures { λ r. ⌜ r ≡ countAll (ownRecord rtype (now (own .entry))) (listUnder (now (name .entry)) (readable (recordAt (now (p .entry))) (s .count) (s .at))) noneCounted ⌝ }
+    ensures { λ r. ⌜ r ≡ countAll (ownRecord rtype (now (own .entry))) (listIn (now (name .entry)) (now (p .entry)) s) noneCounted ⌝ }
 {
     let mut c = Counts {
         all: 0,
@@ -150,7 +152,7 @@ fn count_under(p: &[u8], s: wire::message::Section, name: &[u8], rtype: u16, own
     let mut here = s.at;
     let mut left = s.count;
     while 0 < left {
-        match crate::probe::whole_record(p, here) {
+        match wire::message::whole_record(p, here) {
             wire::message::RecordRead::Found(f) => {
                 c = count_met(p, f, name, rtype, own, c);
                 here = f.next;
@@ -192,7 +194,7 @@ fn past_own(k: u16, c: Counts) -> Verdict
 
 // The tiebreak with an own list of one record.
 fn against_one(p: &[u8], s: wire::message::Section, name: &[u8], rtype: u16, own: &[u8]) -> Verdict
-    ensures { λ r. ⌜ r ≡ tie (listUnder (now (name .entry)) (readable (recordAt (now (p .entry))) (s .count) (s .at))) (ownRecord rtype (now (own .entry)) ∷ []) ⌝ }
+    ensures { λ r. ⌜ r ≡ tie (listIn (now (name .entry)) (now (p .entry)) s) (ownRecord rtype (now (own .entry)) ∷ []) ⌝ }
 {
     let c = count_under(p, s, name, rtype, own);
     match place(0, c) {
@@ -213,7 +215,8 @@ fn against_two(
     own2: &[u8],
 ) -> Verdict
     requires { ⌜ isLater (compareRecords (ownRecord rtype (now own)) (ownRecord rtype2 (now own2))) ≡ false ⌝ }
-    ensures { λ r. ⌜ r ≡ tie (listUnder (now (name .entry)) (readable (recordAt (now (p .entry))) (s .count) (s .at))) (ownRecord rtype (now (own .entry)) ∷ (ownRecord rtype2 (now (own2 .entry)) ∷ [])) ⌝ }
+    ensures { λ r. ⌜ (let mine : List TieRecord = ownRecord rtype (now (own .entry)) ∷ (ownRecord rtype2 (now (own2 .entry)) ∷ []) in
+        r ≡ tie (listIn (now (name .entry)) (now (p .entry)) s) mine) ⌝ }
 {
     let c = count_under(p, s, name, rtype, own);
     match place(0, c) {
@@ -247,8 +250,10 @@ pub fn tiebreak(
     first: &[u8],
     second: &[u8],
 ) -> Verdict
-    ensures verdict { λ r. ⌜ r ≡ tie (theirs (now (name .entry)) (messageIn (now (p .entry)) l)) (ownList (own .first) (now (first .entry)) (own .both) (own .second) (now (second .entry))) ⌝ }
-    ensures number { λ r. ⌜ numberOf r ≡ numberOf (tie (theirs (now (name .entry)) (messageIn (now (p .entry)) l)) (ownList (own .first) (now (first .entry)) (own .both) (own .second) (now (second .entry)))) ⌝ }
+    ensures verdict { λ r. ⌜ (let mine : List TieRecord = ownList (own .first) (now (first .entry)) (own .both) (own .second) (now (second .entry)) in
+        r ≡ tie (theirs (now (name .entry)) (messageIn (now (p .entry)) l)) mine) ⌝ }
+    ensures number { λ r. ⌜ (let mine : List TieRecord = ownList (own .first) (now (first .entry)) (own .both) (own .second) (now (second .entry)) in
+        numberOf r ≡ numberOf (tie (theirs (now (name .entry)) (messageIn (now (p .entry)) l)) mine)) ⌝ }
 {
     let s = l.authorities;
     let a = own.first;

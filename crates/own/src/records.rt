@@ -1,5 +1,5 @@
-// Own records (specification, 'Own records'): the set-up, and the names and the rdata of the five records by index. Their types, classes and TTLs are in
-// `fields`, and whether a set-up keeps the rules in `setups`.
+// Own records (specification, 'Own records'): the set-up, and of each own record whether it is there, its name and its rdata. Its type, class and TTL are in
+// `claims::records`, and whether a set-up keeps the rules in `setups`.
 ghost use mathlib.Core.Path.{_≡_};
 ghost use mathlib.Core.Bool.{true};
 ghost use mathlib.Core.List.{_∷_, []};
@@ -8,7 +8,8 @@ ghost use lib.ListN.{length, take};
 ghost use lib.Seq.{sets};
 ghost use Rattle.wire.specs.labels.Labels.{encode};
 ghost use Rattle.own.specs.records.Setups.{local, labelHeld, serviceHeld, protocolLabel, serviceLabels, instanceLabels, hostLabels};
-ghost use Rattle.own.specs.records.Records.{labelBytes, Laid, ownOf, ownName, ownRdata, srvRdata};
+ghost use Rattle.own.specs.records.Records.{labelBytes, Laid, ownOf, hasRecord, ownName, ownRdata, srvRdata};
+use claims::records::Own;
 
 // The most bytes of a label, of a service label with its "_", and of a TXT record.
 pub const MOST_LABEL: usize = 63;
@@ -53,28 +54,9 @@ pub struct Setup {
 pub const MOST_OWN: usize = 400;
 
 // An own name or own rdata: the first `len` of the bytes, zeros after them.
-pub struct Own {
+pub struct OwnBytes {
     pub bytes: [u8; 400],
     pub len: usize,
-}
-
-// The own records by index.
-pub const RECORDS: usize = 5;
-
-pub const PTR: usize = 0;
-
-pub const SRV: usize = 1;
-
-pub const TXT: usize = 2;
-
-pub const A: usize = 3;
-
-pub const AAAA: usize = 4;
-
-// The two claims.
-pub enum Claim {
-    Instance,
-    Host,
 }
 
 // Writes `s` into `out` from index `at` on.
@@ -179,25 +161,52 @@ fn put_host_name(out: &mut [u8; 400], at: usize, s: Setup) -> usize
     put_local(out, a)
 }
 
-// The owner of the own record of an index.
-pub fn own_name(s: Setup, i: usize) -> Own
-    ensures { λ r. ⌜ r ≡ ownOf (ownName s i) ⌝ }
+// Whether a set-up has the record.
+pub fn has_record(s: Setup, o: Own) -> bool
+    ensures { λ r. ⌜ r ≡ hasRecord s o ⌝ }
+{
+    claims::records::is_present(o, s.hasaaaa)
+}
+
+fn service_name(s: Setup) -> OwnBytes
+    ensures { λ r. ⌜ r ≡ ownOf (encode (serviceLabels s)) ⌝ }
 {
     let mut bytes = [0u8; 400];
-    if i == PTR {
-        let len = put_service_name(&mut bytes, 0, s);
-        return Own { bytes, len };
-    }
-    if i <= TXT {
-        let len = put_instance_name(&mut bytes, 0, s);
-        return Own { bytes, len };
-    }
+    let len = put_service_name(&mut bytes, 0, s);
+    OwnBytes { bytes, len }
+}
+
+fn instance_name(s: Setup) -> OwnBytes
+    ensures { λ r. ⌜ r ≡ ownOf (encode (instanceLabels s)) ⌝ }
+{
+    let mut bytes = [0u8; 400];
+    let len = put_instance_name(&mut bytes, 0, s);
+    OwnBytes { bytes, len }
+}
+
+fn host_name(s: Setup) -> OwnBytes
+    ensures { λ r. ⌜ r ≡ ownOf (encode (hostLabels s)) ⌝ }
+{
+    let mut bytes = [0u8; 400];
     let len = put_host_name(&mut bytes, 0, s);
-    Own { bytes, len }
+    OwnBytes { bytes, len }
+}
+
+// The owner of an own record.
+pub fn own_name(s: Setup, o: Own) -> OwnBytes
+    ensures { λ r. ⌜ r ≡ ownOf (ownName s o) ⌝ }
+{
+    match o {
+        Own::Ptr => service_name(s),
+        Own::Srv => instance_name(s),
+        Own::Txt => instance_name(s),
+        Own::A => host_name(s),
+        Own::Aaaa => host_name(s),
+    }
 }
 
 // Priority 0, weight 0, the port, and the host's name.
-fn srv_rdata(s: Setup) -> Own
+fn srv_rdata(s: Setup) -> OwnBytes
     ensures { λ r. ⌜ r ≡ ownOf (srvRdata s) ⌝ }
 {
     let mut bytes = [0u8; 400];
@@ -205,48 +214,55 @@ fn srv_rdata(s: Setup) -> Own
     bytes[4] = (port / 256) as u8;
     bytes[5] = (port % 256) as u8;
     let len = put_host_name(&mut bytes, 6, s);
-    Own { bytes, len }
+    OwnBytes { bytes, len }
 }
 
 // The TXT strings.
-fn txt_rdata(t: Strings) -> Own
+fn txt_rdata(t: Strings) -> OwnBytes
     ensures { λ r. ⌜ r ≡ ownOf (take (t .len) (t .bytes)) ⌝ }
 {
     let held = t.bytes;
     let len = t.len;
     if MOST_TXT <= len {
-        return Own {
+        return OwnBytes {
             bytes: held,
             len: MOST_TXT,
         };
     }
     let mut bytes = [0u8; 400];
     put(&mut bytes, 0, &held[..len]);
-    Own { bytes, len }
+    OwnBytes { bytes, len }
 }
 
-// The rdata, names expanded, of the own record of an index.
-pub fn own_rdata(s: Setup, i: usize) -> Own
-    ensures { λ r. ⌜ r ≡ ownOf (ownRdata s i) ⌝ }
+// The two addresses.
+fn a_rdata(a: [u8; 4]) -> OwnBytes
+    ensures { λ r. ⌜ r ≡ ownOf a ⌝ }
 {
-    if i == SRV {
-        return srv_rdata(s);
-    }
-    if i == TXT {
-        let txt = s.txt;
-        return txt_rdata(txt);
-    }
     let mut bytes = [0u8; 400];
-    if i == PTR {
-        let len = put_instance_name(&mut bytes, 0, s);
-        return Own { bytes, len };
-    }
-    if i == A {
-        let a = s.a;
-        put(&mut bytes, 0, &a);
-        return Own { bytes, len: 4 };
-    }
+    put(&mut bytes, 0, &a);
+    OwnBytes { bytes, len: 4 }
+}
+
+fn aaaa_rdata(a: [u8; 16]) -> OwnBytes
+    ensures { λ r. ⌜ r ≡ ownOf a ⌝ }
+{
+    let mut bytes = [0u8; 400];
+    put(&mut bytes, 0, &a);
+    OwnBytes { bytes, len: 16 }
+}
+
+// The rdata of an own record, names expanded.
+pub fn own_rdata(s: Setup, o: Own) -> OwnBytes
+    ensures { λ r. ⌜ r ≡ ownOf (ownRdata s o) ⌝ }
+{
+    let txt = s.txt;
+    let a = s.a;
     let aaaa = s.aaaa;
-    put(&mut bytes, 0, &aaaa);
-    Own { bytes, len: 16 }
+    match o {
+        Own::Ptr => instance_name(s),
+        Own::Srv => srv_rdata(s),
+        Own::Txt => txt_rdata(txt),
+        Own::A => a_rdata(a),
+        Own::Aaaa => aaaa_rdata(aaaa),
+    }
 }

@@ -7,11 +7,13 @@ use lib.ListN.{length, replicate}
 use Rattle.wire.specs.message.Message.{Record, Message}
 use Rattle.own.specs.declared.records.Setup.{Setup}
 use Rattle.own.specs.records.Setups.{tcp, local}
-use Rattle.own.specs.records.Records.{ownName, ownType, ownRdata}
-use Rattle.claims.specs.declared.Claim.the-variants.{Held}
-use Rattle.claims.specs.declared.Sent.the-variants.{Never}
-use Rattle.claims.specs.declared.Reply.the-variants.{Unset}
-use Rattle.claims.specs.declared.Life.{Life}
+use Rattle.own.specs.records.Records.{ownName, ownRdata}
+use Rattle.claims.specs.records.Own.{ownType}
+use Rattle.claims.specs.Time.{neverSent}
+use Rattle.claims.specs.declared.records.Own.{Own}
+use Rattle.claims.specs.declared.ClaimState.the-variants.{Held}
+use Rattle.claims.specs.declared.When.the-variants.{Never}
+use Rattle.claims.specs.declared.Progress.{Progress}
 use Rattle.cache.specs.declared.entries.Entry.{Entry}
 use Rattle.cache.specs.entries.Cache.{Cache, atStart}
 
@@ -41,23 +43,23 @@ example = record {
 }
 
 -- both claims held, and nothing multicast
-unfoldable pub holding : Life
+unfoldable pub holding : Progress
 holding = record {
   instance = Held;
   host = Held;
-  sent = record { ptr = Never; srv = Never; txt = Never; a = Never; aaaa = Never };
-  reply = Unset;
+  sent = neverSent;
+  reply = Never;
   draw = 0;
   last = 0;
 }
 
--- a query that carries the own record of an index as a known answer, with a TTL
-unfoldable pub knowing : ℕ → ℕ → Message
-knowing i ttl = record {
+-- a query that carries an own record as a known answer, with a TTL
+unfoldable pub knowing : Own → ℕ → Message
+knowing o ttl = record {
   id = 0;
   flags = 0;
   questions = [];
-  answers = record { owner = ownName example i; rtype = ownType i; class = 1; ttl = ttl; rdata = ownRdata example i } ∷ [];
+  answers = record { owner = ownName example o; rtype = ownType o; class = 1; ttl = ttl; rdata = ownRdata example o } ∷ [];
   authorities = [];
   additionals = [];
 }

@@ -11,17 +11,20 @@ use Rattle.wire.specs.name_pieces.Pieces.{pieceAt}
 use Rattle.wire.specs.names.Names.{readFrom, fromRun, nameAt}
 use Rattle.wire.specs.rdata.Rdata.{stringsFill, rdataIn, rdataAt}
 use Rattle.wire.specs.expansion.Equal.{sameBytes}
-use Rattle.wire.specs.message.Layout.{questionRead, questionAt, recordRead, recordAt, listFrom, refused, messageAt}
+use Rattle.wire.specs.message.Layout.{questionRead, questionAt, recordRead, recordAt, listFrom, refused, andThen, messageAt}
 use Rattle.txt.specs.Txt.{stringsFrom, keyOf, valueOf, hasKey, firstWith}
-use Rattle.txt.specs.Lookup.{anyBad, badKey, refusalOf, givenBy, inTxt, lookupOf}
+use Rattle.txt.specs.Lookup.{badKey, refusalOf, givenBy, inTxt, lookupOf}
 use Rattle.txt.specs.declared.Answer.the-variants.{Present}
 use Rattle.own.specs.records.Setups.{serviceLabels, instanceLabels, hostLabels}
-use Rattle.own.specs.records.Records.{hasRecord, ownLabels, ownName, ownType, ownClass, ownTtl, srvRdata, ownRdata}
+use Rattle.own.specs.records.Records.{hasRecord, ownLabels, ownName, srvRdata, ownRdata}
 use Rattle.facts.specs.tiebreak.Later.{numberOf, compareNumbers, inTurn, compareRecords, insertBy, sortBy, tie}
-use Rattle.facts.specs.probe.Probe.{some, isProbe}
+use Rattle.wire.specs.Lists.{some}
+use Rattle.facts.specs.probe.Probe.{isProbe}
 use Rattle.facts.specs.tiebreak.Lists.{ownRecord, listUnder}
-use Rattle.claims.specs.answers.Answers.{omittedOf}
-use Rattle.facts.specs.Facts.{isAsked, isKnown, laterThan, queryFacts, factsOf}
+use Rattle.claims.specs.records.Sets.{picked}
+use Rattle.claims.specs.declared.records.Own.the-variants.{Ptr, A}
+use Rattle.claims.specs.answers.Answers.{isOmitted}
+use Rattle.facts.specs.Facts.{isAsked, isKnown, theirsLater, queryFacts, factsOf}
 use Rattle.cache.specs.entries.Tables.{each}
 use Rattle.cache.specs.entries.Entries.{isOf, liveOf, soon, flushed}
 use Rattle.cache.specs.entries.Cache.{rule1}
@@ -29,7 +32,7 @@ use Rattle.writer.specs.compression.Compression.{standsAt, placeOf, cutFrom, na
 use Rattle.writer.specs.Items.{putName, dataBytes, dataPlaces, putFields}
 use Rattle.writer.specs.own_packets.Packets.{packetOf}
 use Rattle.writer.specs.own_packets.Own as own
-use Rattle.writer.specs.own_packets.Own.{responsePacket, responseRecords, picked, responseOf}
+use Rattle.writer.specs.own_packets.Own.{responsePacket, responseRecords, responseOf}
 use Rattle.readings.specs.Examples.{address, example, holding, knowing, cached, announced, selfPointing, announcement}
 
 abbrev pub Starred : Type 0
@@ -41,11 +44,11 @@ Starred =
     -- "{A} before {A, AAAA} with the same A."
     × (numberOf (tie (ownRecord 1 address ∷ []) (ownRecord 1 address ∷ (ownRecord 28 (replicate 16 0) ∷ []))) ≡ negsuc 0)
     -- "Known PTR TTL 2250 omits, 2249 doesn't."
-    × (omittedOf holding (factsOf example (knowing 0 2250)) 0 .ptr ≡ true)
-    × (omittedOf holding (factsOf example (knowing 0 2249)) 0 .ptr ≡ false)
+    × (isOmitted holding (factsOf example (knowing Ptr 2250)) 0 Ptr ≡ true)
+    × (isOmitted holding (factsOf example (knowing Ptr 2249)) 0 Ptr ≡ false)
     -- "A at 60 omits, at 59 doesn't."
-    × (omittedOf holding (factsOf example (knowing 3 60)) 0 .a ≡ true)
-    × (omittedOf holding (factsOf example (knowing 3 59)) 0 .a ≡ false)
+    × (isOmitted holding (factsOf example (knowing A 60)) 0 A ≡ true)
+    × (isOmitted holding (factsOf example (knowing A 59)) 0 A ≡ false)
     -- "At 5000, a flush leaves an entry received at 4000, and sets one received at 3999 to expire by 6000."
     × (rule1 5000 announced (cached 4000) .entries ≡ cached 4000 .entries)
     × (rule1 5000 announced (cached 3999) .entries ≡ record { rtype = 1; owner = 12; rdata = 4; received = 3999; expiry = 6000 } ∷ [])
@@ -56,8 +59,8 @@ Starred =
     -- "Pointer at 12 to 12: refusal 6."
     × (messageAt selfPointing ≡ refused 6)
     -- "dock.local, 10.0.0.7 announced, 38 bytes"
-    × (responsePacket example (false ∷ (false ∷ (false ∷ (true ∷ (true ∷ []))))) ≡ announcement)
+    × (responsePacket example (record { ptr = false; srv = false; txt = false; a = true; aaaa = true }) ≡ announcement)
 
 pub starred : Starred
-unfolding example knowing cached announced tie sortBy insertBy compareRecords inTurn compareNumbers some isProbe listUnder isAsked isKnown laterThan queryFacts factsOf omittedOf holding sameName sameBytes hasRecord ownLabels ownName ownType ownClass ownTtl srvRdata ownRdata serviceLabels instanceLabels hostLabels rule1 each flushed liveOf isOf soon lookupOf refusalOf badKey anyBad stringsFill inTxt firstWith stringsFrom hasKey keyOf valueOf givenBy messageAt listFrom questionAt questionRead recordAt recordRead nameAt fromRun readFrom pieceAt rdataAt rdataIn responsePacket responseRecords picked responseOf own.ownRecord packetOf putName dataBytes dataPlaces putFields nameBytes namePlaces starts cutFrom placeOf standsAt
+unfolding example knowing cached announced tie sortBy insertBy compareRecords inTurn compareNumbers some isProbe listUnder isAsked isKnown theirsLater queryFacts factsOf holding sameName sameBytes hasRecord ownLabels ownName srvRdata ownRdata serviceLabels instanceLabels hostLabels rule1 each flushed liveOf isOf soon lookupOf refusalOf badKey stringsFill inTxt firstWith stringsFrom hasKey keyOf valueOf givenBy messageAt andThen listFrom questionAt questionRead recordAt recordRead nameAt fromRun readFrom pieceAt rdataAt rdataIn responsePacket responseRecords picked responseOf own.ownRecord packetOf putName dataBytes dataPlaces putFields nameBytes namePlaces starts cutFrom placeOf standsAt
 starred = (refl, refl, refl, refl, refl, refl, refl, refl, refl, refl, refl, refl)

@@ -6,18 +6,21 @@ use mathlib.Core.Bool.{Bool, true, false}
 use mathlib.Core.List.{List, [], _∷_}
 use Rattle.wire.specs.rdata.Rdata.{stringsFill}
 use Rattle.wire.specs.expansion.Equal.{sameBytes}
-use Rattle.wire.specs.message.Layout.{listFrom, messageAt}
+use Rattle.wire.specs.message.Layout.{listFrom, andThen, messageAt}
 use Rattle.own.specs.records.Setups.{labelFits, isLetter, isNameByte, nameBytes, someLetter, hyphensApart, serviceRule, serviceFits, protocolFits, domainFits, txtFits, validSetup}
 use Rattle.claims.specs.Refusals.{multicastsKept, kept, wrongTime}
-use Rattle.claims.specs.declared.Claim.{Claim}
-use Rattle.claims.specs.declared.Claim.the-variants.{Waiting, Held}
-use Rattle.claims.specs.declared.Sent.{Sent}
-use Rattle.claims.specs.declared.Sent.the-variants.{Never, At}
-use Rattle.claims.specs.declared.Reply.{Reply}
-use Rattle.claims.specs.declared.Reply.the-variants.{Unset, Due}
-use Rattle.claims.specs.declared.Life.{Life}
+use Rattle.claims.specs.records.Own.{has}
+use Rattle.claims.specs.records.Sets.{noRecord, only, everyOf, atOnce}
+use Rattle.claims.specs.Time.{neverSent, markedAll}
+use Rattle.claims.specs.declared.records.Own.the-variants.{A}
+use Rattle.claims.specs.declared.ClaimState.{ClaimState}
+use Rattle.claims.specs.declared.ClaimState.the-variants.{Waiting, Held}
+use Rattle.claims.specs.declared.When.{When}
+use Rattle.claims.specs.declared.When.the-variants.{Never, At}
+use Rattle.claims.specs.declared.Multicasts.{Multicasts}
+use Rattle.claims.specs.declared.Progress.{Progress}
 use Rattle.claims.specs.declared.answers.Facts.{Facts}
-use Rattle.claims.specs.answers.Answers.{dueOf, omittedOf, without, wantedOf, receiveOf}
+use Rattle.claims.specs.answers.Answers.{wantedOf, receiveOf}
 use Rattle.responder.specs.declared.State.{State}
 use Rattle.responder.specs.Refusals.{wrongState, startRefusal, receiveRefusal, tickRefusal}
 use Rattle.readings.specs.Examples.{example}
@@ -26,26 +29,31 @@ use Rattle.readings.specs.Examples.{example}
 abbrev pub latest : ℕ
 latest = 4611686018427387904
 
+-- the last multicasts of a responder that has multicast A alone, or nothing
+abbrev pub lastA : When → Multicasts
+lastA Never = neverSent
+lastA (At time) = markedAll (only A) neverSent time
+
 -- The specification's example with a host claim, a last multicast of A, a PTR reply, a start draw and a last time
-abbrev pub lived : Claim → Sent → Reply → ℕ → ℕ → Life
+abbrev pub lived : ClaimState → When → When → ℕ → ℕ → Progress
 lived host a reply draw last = record {
   instance = Held;
   host = host;
-  sent = record { ptr = Never; srv = Never; txt = Never; a = a; aaaa = Never };
+  sent = lastA a;
   reply = reply;
   draw = draw;
   last = last;
 }
 
-abbrev pub handed : Claim → Sent → Reply → ℕ → ℕ → State
-handed host a reply draw last = record { setup = example; life = lived host a reply draw last }
+abbrev pub handed : ClaimState → When → When → ℕ → ℕ → State
+handed host a reply draw last = record { setup = example; progress = lived host a reply draw last }
 
 -- a query that asks for A alone; `probe` where it is a probe for the host's name, with our own data
 abbrev pub asksA : Bool → Facts
 asksA probe = record {
   response = false;
-  asked = record { ptr = false; srv = false; txt = false; a = true; aaaa = false };
-  known = record { ptr = false; srv = false; txt = false; a = false; aaaa = false };
+  asked = only A;
+  known = noRecord;
   instance = record { probe = false; later = false; conflict = false };
   host = record { probe = probe; later = false; conflict = false };
 }
@@ -57,36 +65,36 @@ bare = 0 ∷ (0 ∷ (0 ∷ (0 ∷ (0 ∷ (0 ∷ (0 ∷ (0 ∷ (0 ∷ (0 ∷ (0 �
 abbrev pub HandedIn : Type 0
 HandedIn =
     -- "a time kept in the state above 2^62 + 2,000": a due time, a last multicast, a PTR reply at the limit, and 1 ms past it
-    (tickRefusal (handed (Waiting 4611686018427389904) Never Unset 0 0) 0 1452 ≡ 0)
-    × (tickRefusal (handed (Waiting 4611686018427389905) Never Unset 0 0) 0 1452 ≡ 1)
-    × (tickRefusal (handed Held (At 4611686018427389904) Unset 0 0) 0 1452 ≡ 0)
-    × (tickRefusal (handed Held (At 4611686018427389905) Unset 0 0) 0 1452 ≡ 1)
-    × (receiveRefusal (handed Held Never (Due 4611686018427389904) 0 0) 0 5353 20 bare 1452 ≡ 0)
-    × (receiveRefusal (handed Held Never (Due 4611686018427389905) 0 0) 0 5353 20 bare 1452 ≡ 1)
+    (tickRefusal (handed (Waiting 4611686018427389904) Never Never 0 0) 0 1452 ≡ 0)
+    × (tickRefusal (handed (Waiting 4611686018427389905) Never Never 0 0) 0 1452 ≡ 1)
+    × (tickRefusal (handed Held (At 4611686018427389904) Never 0 0) 0 1452 ≡ 0)
+    × (tickRefusal (handed Held (At 4611686018427389905) Never 0 0) 0 1452 ≡ 1)
+    × (receiveRefusal (handed Held Never (At 4611686018427389904) 0 0) 0 5353 20 bare 1452 ≡ 0)
+    × (receiveRefusal (handed Held Never (At 4611686018427389905) 0 0) 0 5353 20 bare 1452 ≡ 1)
     -- "a kept start draw is above 250", after 1, 2 and 3
-    × (tickRefusal (handed Held Never Unset 250 0) 0 1452 ≡ 0)
-    × (tickRefusal (handed Held Never Unset 251 0) 0 1452 ≡ 7)
-    × (tickRefusal (handed Held Never Unset 251 0) 0 1451 ≡ 3)
-    × (tickRefusal (handed Held Never Unset 251 1) 0 1451 ≡ 1)
-    × (receiveRefusal (handed Held Never Unset 251 0) 0 5353 20 bare 1452 ≡ 7)
-    × (receiveRefusal (handed Held Never Unset 251 0) 0 5354 20 bare 1452 ≡ 5)
-    × (receiveRefusal (handed Held Never Unset 251 0) 0 5354 20 [] 1452 ≡ 4)
-    × (receiveRefusal (handed Held Never Unset 251 0) 0 5354 121 [] 1451 ≡ 2)
+    × (tickRefusal (handed Held Never Never 250 0) 0 1452 ≡ 0)
+    × (tickRefusal (handed Held Never Never 251 0) 0 1452 ≡ 7)
+    × (tickRefusal (handed Held Never Never 251 0) 0 1451 ≡ 3)
+    × (tickRefusal (handed Held Never Never 251 1) 0 1451 ≡ 1)
+    × (receiveRefusal (handed Held Never Never 251 0) 0 5353 20 bare 1452 ≡ 7)
+    × (receiveRefusal (handed Held Never Never 251 0) 0 5354 20 bare 1452 ≡ 5)
+    × (receiveRefusal (handed Held Never Never 251 0) 0 5354 20 [] 1452 ≡ 4)
+    × (receiveRefusal (handed Held Never Never 251 0) 0 5354 121 [] 1451 ≡ 2)
     -- "time above 2^62, or before the state's last time"
     × (startRefusal example 0 0 ≡ 0)
     × (startRefusal example latest 250 ≡ 0)
     × (startRefusal example 4611686018427387905 251 ≡ 1)
-    × (tickRefusal (handed Held Never Unset 0 latest) latest 1452 ≡ 0)
-    × (tickRefusal (handed Held Never Unset 0 latest) 4611686018427387905 1452 ≡ 1)
-    × (tickRefusal (handed Held Never Unset 0 latest) 4611686018427387903 1452 ≡ 1)
+    × (tickRefusal (handed Held Never Never 0 latest) latest 1452 ≡ 0)
+    × (tickRefusal (handed Held Never Never 0 latest) 4611686018427387905 1452 ≡ 1)
+    × (tickRefusal (handed Held Never Never 0 latest) 4611686018427387903 1452 ≡ 1)
     -- "A kept time ahead of now counts as 0 ms ago": A multicast at 5,000 is not sent at 4,000, nor to a probe
-    × (receiveOf (lived Held (At 5000) Unset 0 0) 4000 20 (asksA false) false .answers .a ≡ false)
-    × (receiveOf (lived Held (At 5000) Unset 0 0) 4000 20 (asksA true) false .answers .a ≡ false)
-    × (receiveOf (lived Held (At 5000) Unset 0 0) 5249 20 (asksA true) false .answers .a ≡ false)
-    × (receiveOf (lived Held (At 5000) Unset 0 0) 5250 20 (asksA true) false .answers .a ≡ true)
-    × (receiveOf (lived Held (At 5000) Unset 0 0) 5999 20 (asksA false) false .answers .a ≡ false)
-    × (receiveOf (lived Held (At 5000) Unset 0 0) 6000 20 (asksA false) false .answers .a ≡ true)
+    × (has A (receiveOf (lived Held (At 5000) Never 0 0) 4000 20 (asksA false) false .answers) ≡ false)
+    × (has A (receiveOf (lived Held (At 5000) Never 0 0) 4000 20 (asksA true) false .answers) ≡ false)
+    × (has A (receiveOf (lived Held (At 5000) Never 0 0) 5249 20 (asksA true) false .answers) ≡ false)
+    × (has A (receiveOf (lived Held (At 5000) Never 0 0) 5250 20 (asksA true) false .answers) ≡ true)
+    × (has A (receiveOf (lived Held (At 5000) Never 0 0) 5999 20 (asksA false) false .answers) ≡ false)
+    × (has A (receiveOf (lived Held (At 5000) Never 0 0) 6000 20 (asksA false) false .answers) ≡ true)
 
 pub handed-in : HandedIn
-unfolding example tickRefusal receiveRefusal startRefusal wrongState wrongTime kept multicastsKept validSetup labelFits isLetter isNameByte nameBytes someLetter hyphensApart serviceRule serviceFits protocolFits domainFits txtFits stringsFill sameBytes messageAt listFrom receiveOf wantedOf without dueOf omittedOf
+unfolding example tickRefusal receiveRefusal startRefusal wrongState wrongTime kept multicastsKept validSetup labelFits isLetter isNameByte nameBytes someLetter hyphensApart serviceRule serviceFits protocolFits domainFits txtFits stringsFill sameBytes messageAt andThen listFrom receiveOf wantedOf only markedAll atOnce everyOf
 handed-in = (refl, refl, refl, refl, refl, refl, refl, refl, refl, refl, refl, refl, refl, refl, refl, refl, refl, refl, refl, refl, refl, refl, refl, refl, refl, refl)

@@ -9,12 +9,13 @@ use Rattle.wire.specs.names.Names.{readFrom, fromRun, nameAt}
 use Rattle.wire.specs.expansion.Equal.{sameBytes}
 use Rattle.own.specs.declared.records.Setup.{Setup}
 use Rattle.own.specs.records.Setups.{serviceLabels, instanceLabels, hostLabels}
-use Rattle.own.specs.records.Records.{hasRecord, ownLabels, ownName, ownType, ownClass, ownTtl, srvRdata, ownRdata}
+use Rattle.own.specs.records.Records.{hasRecord, ownLabels, ownName, srvRdata, ownRdata}
+use Rattle.claims.specs.records.Sets.{picked}
 use Rattle.writer.specs.compression.Compression.{standsAt, placeOf, cutFrom, nameBytes, starts, namePlaces}
 use Rattle.writer.specs.Items.{putName, dataBytes, dataPlaces, putFields}
 use Rattle.writer.specs.own_packets.Packets.{packetOf}
 use Rattle.writer.specs.own_packets.Own as own
-use Rattle.writer.specs.own_packets.Own.{responsePacket, responseRecords, picked, responseOf}
+use Rattle.writer.specs.own_packets.Own.{responsePacket, responseRecords, responseOf}
 use Rattle.readings.specs.Examples.{padded, example}
 
 -- the bytes after a 1, as one number
@@ -39,7 +40,7 @@ hosted host len = record {
 
 -- the response with PTR, SRV, TXT, A, AAAA or without
 abbrev pub written : Setup → Bool → Bool → Bool → Bool → Bool → ℕ
-written s ptr srv txt a aaaa = number 1 (responsePacket s (ptr ∷ (srv ∷ (txt ∷ (a ∷ (aaaa ∷ []))))))
+written s ptr srv txt a aaaa = number 1 (responsePacket s (record { ptr = ptr; srv = srv; txt = txt; a = a; aaaa = aaaa }))
 
 -- a host label that stands nowhere else
 abbrev pub plain : Setup
@@ -80,7 +81,7 @@ Plain =
     × (written plain true true true true true ≡ 0x01000084000000000500000000065f766f696365045f746370056c6f63616c00000c000100001194000805626f6f7468c00cc0290021800100000078000d000000000fa004646f636bc018c0290010800100001194000100c043000180010000007800040a000007c043001c8001000000780010fe80000000000000000000000000000a)
 
 pub plain-subsets : Plain
-unfolding number hosted example nameAt fromRun readFrom pieceAt sameBytes hasRecord ownLabels ownName ownType ownClass ownTtl srvRdata ownRdata serviceLabels instanceLabels hostLabels responsePacket responseRecords picked responseOf own.ownRecord packetOf putName dataBytes dataPlaces putFields nameBytes namePlaces starts cutFrom placeOf standsAt
+unfolding number hosted example nameAt fromRun readFrom pieceAt sameBytes hasRecord ownLabels ownName srvRdata ownRdata serviceLabels instanceLabels hostLabels responsePacket responseRecords picked responseOf own.ownRecord packetOf putName dataBytes dataPlaces putFields nameBytes namePlaces starts cutFrom placeOf standsAt
 plain-subsets = (refl, refl, refl, refl, refl, refl, refl, refl, refl, refl, refl, refl, refl, refl, refl, refl, refl, refl, refl, refl, refl, refl, refl, refl, refl, refl, refl, refl, refl, refl, refl)
 
 -- a host label that is a label of the service's name
@@ -122,7 +123,7 @@ Shared =
     × (written shared true true true true true ≡ 0x01000084000000000500000000065f766f696365045f746370056c6f63616c00000c000100001194000805626f6f7468c00cc02900218001000000780008000000000fa0c013c0290010800100001194000100c013000180010000007800040a000007c013001c8001000000780010fe80000000000000000000000000000a)
 
 pub shared-subsets : Shared
-unfolding number hosted example nameAt fromRun readFrom pieceAt sameBytes hasRecord ownLabels ownName ownType ownClass ownTtl srvRdata ownRdata serviceLabels instanceLabels hostLabels responsePacket responseRecords picked responseOf own.ownRecord packetOf putName dataBytes dataPlaces putFields nameBytes namePlaces starts cutFrom placeOf standsAt
+unfolding number hosted example nameAt fromRun readFrom pieceAt sameBytes hasRecord ownLabels ownName srvRdata ownRdata serviceLabels instanceLabels hostLabels responsePacket responseRecords picked responseOf own.ownRecord packetOf putName dataBytes dataPlaces putFields nameBytes namePlaces starts cutFrom placeOf standsAt
 shared-subsets = (refl, refl, refl, refl, refl, refl, refl, refl, refl, refl, refl, refl, refl, refl, refl, refl, refl, refl, refl, refl, refl, refl, refl, refl, refl, refl, refl, refl, refl, refl, refl)
 
 -- a host label that differs from the instance's only in case
@@ -164,5 +165,5 @@ Cased =
     × (written cased true true true true true ≡ 0x01000084000000000500000000065f766f696365045f746370056c6f63616c00000c000100001194000805626f6f7468c00cc0290021800100000078000e000000000fa005426f6f7468c018c0290010800100001194000100c043000180010000007800040a000007c043001c8001000000780010fe80000000000000000000000000000a)
 
 pub cased-subsets : Cased
-unfolding number hosted example nameAt fromRun readFrom pieceAt sameBytes hasRecord ownLabels ownName ownType ownClass ownTtl srvRdata ownRdata serviceLabels instanceLabels hostLabels responsePacket responseRecords picked responseOf own.ownRecord packetOf putName dataBytes dataPlaces putFields nameBytes namePlaces starts cutFrom placeOf standsAt
+unfolding number hosted example nameAt fromRun readFrom pieceAt sameBytes hasRecord ownLabels ownName srvRdata ownRdata serviceLabels instanceLabels hostLabels responsePacket responseRecords picked responseOf own.ownRecord packetOf putName dataBytes dataPlaces putFields nameBytes namePlaces starts cutFrom placeOf standsAt
 cased-subsets = (refl, refl, refl, refl, refl, refl, refl, refl, refl, refl, refl, refl, refl, refl, refl, refl, refl, refl, refl, refl, refl, refl, refl, refl, refl, refl, refl, refl, refl, refl, refl)

@@ -13,7 +13,7 @@ use Rattle.own.specs.declared.records.Setup.{Setup}
 use Rattle.own.specs.records.Setups.{validSetup}
 use Rattle.claims.specs.Claims as claims
 use Rattle.claims.specs.Refusals.{lateStart, wrongTime, wrongStartDraw, wrongReplyDraw, kept}
-use Rattle.claims.specs.declared.Life.{Life}
+use Rattle.claims.specs.declared.Progress.{Progress}
 use Rattle.claims.proofs.Keeping.{start-kept}
 use Rattle.claims.proofs.steps.Ticks.{tick-kept, tick-draw}
 use Rattle.claims.proofs.answers.Receives.{receive-kept, receive-draw}
@@ -30,7 +30,7 @@ clash z = absurd (omega arith)
 
 -- every kept time is at most `most`, and the set-up and the start draw keep the rules
 pub record Within (most : ℕ) (s : State) : Type 0 where
-  pub times : kept most (s .life) ≡ true
+  pub times : kept most (s .progress) ≡ true
   pub right : wrongState s ≡ false
 
 -- what is never refused for what it keeps: 2^62 + 2,000 is refusal 1's bound
@@ -43,9 +43,9 @@ not-in : (v : Bool) → not v ≡ false → v ≡ true
 not-in true h = refl
 not-in false h = clash (cc)
 
-pub sound-time : (s : State) (now : ℕ) → Sound s → wrongTime (s .life) now ≡ (lateStart now || ltb now (s .life .last))
+pub sound-time : (s : State) (now : ℕ) → Sound s → wrongTime (s .progress) now ≡ (lateStart now || ltb now (s .progress .last))
 unfolding wrongTime
-sound-time s now h = rw (h .times) (go (lateStart now) (ltb now (s .life .last)))
+sound-time s now h = rw (h .times) (go (lateStart now) (ltb now (s .progress .last)))
   where
     go : (a b : Bool) → (a || (b || not true)) ≡ (a || b)
     go true b = refl
@@ -65,34 +65,34 @@ never-7 false false false n l e = go (eqb n 0) e
 pub sound-never-7 : (s : State) (c : Call) → Sound s → refusalOfCall s c ≡ 7 → ⊥
 unfolding receiveRefusal tickRefusal
 sound-never-7 s (received now port draw p room) h e =
-    never-7 (wrongTime (s .life) now) (wrongReplyDraw draw) (smallBuffer room) (byPort (readRefusal (messageAt p)) port)
+    never-7 (wrongTime (s .progress) now) (wrongReplyDraw draw) (smallBuffer room) (byPort (readRefusal (messageAt p)) port)
     (number-at-most (messageAt p) port (proper p))
     (rw (h .right) at e)
-sound-never-7 s (ticked now room) h e = never-7 (wrongTime (s .life) now) false (smallBuffer room) 0 (omega arith) (rw (h .right) at e)
+sound-never-7 s (ticked now room) h e = never-7 (wrongTime (s .progress) now) false (smallBuffer room) 0 (omega arith) (rw (h .right) at e)
 
 -- ---- what an accepted call says of the numbers
 
-in-time : (life : Life) (now : ℕ) → wrongTime life now ≡ false → (now ≤ 4611686018427387904) × (kept 4611686018427389904 life ≡ true)
+in-time : (progress : Progress) (now : ℕ) → wrongTime progress now ≡ false → (now ≤ 4611686018427387904) × (kept 4611686018427389904 progress ≡ true)
 unfolding wrongTime
-in-time life now h =
-    let a : (lateStart now ≡ false) × ((ltb now (life .last) || not (kept 4611686018427389904 life)) ≡ false) = neither _ _ .0 h in
-    let b : (ltb now (life .last) ≡ false) × (not (kept 4611686018427389904 life) ≡ false) = neither _ _ .0 (a .1) in
+in-time progress now h =
+    let a : (lateStart now ≡ false) × ((ltb now (progress .last) || not (kept 4611686018427389904 progress)) ≡ false) = neither _ _ .0 h in
+    let b : (ltb now (progress .last) ≡ false) × (not (kept 4611686018427389904 progress) ≡ false) = neither _ _ .0 (a .1) in
     (ltb-false 4611686018427387904 now (a .0), not-in _ (b .1))
 
-small-draw : (s : State) → wrongState s ≡ false → s .life .draw ≤ 250
+small-draw : (s : State) → wrongState s ≡ false → s .progress .draw ≤ 250
 unfolding wrongState
-small-draw s h = ltb-false 250 (s .life .draw) (neither (not (validSetup (s .setup))) (wrongStartDraw (s .life .draw)) .0 h .1)
+small-draw s h = ltb-false 250 (s .progress .draw) (neither (not (validSetup (s .setup))) (wrongStartDraw (s .progress .draw)) .0 h .1)
 
 small-reply : (draw : ℕ) → wrongReplyDraw draw ≡ false → draw ≤ 120
 small-reply draw h = ltb-false 120 draw (neither (ltb draw 20) (ltb 120 draw) .0 h .1)
 
 -- a state whose set-up and start draw are those of another
-same-right : (s : State) (life : Life) → life .draw ≡ s .life .draw → wrongState s ≡ false → wrongState (record { setup = s .setup; life = life }) ≡ false
+same-right : (s : State) (progress : Progress) → progress .draw ≡ s .progress .draw → wrongState s ≡ false → wrongState (record { setup = s .setup; progress = progress }) ≡ false
 unfolding wrongState
-same-right s life e h = rw e h
+same-right s progress e h = rw e h
 
 right-start : (setup : Setup) (now draw : ℕ) → validSetup setup ≡ true → wrongStartDraw draw ≡ false
-    → wrongState (record { setup = setup; life = claims.startOf now draw }) ≡ false
+    → wrongState (record { setup = setup; progress = claims.startOf now draw }) ≡ false
 unfolding wrongState claims.startOf
 right-start setup now draw v d = simp (v, d)
 
@@ -111,34 +111,34 @@ module _ (most : ℕ) (l : 4611686018427388904 ≤ most) where
       (s : State) (now draw : ℕ) (x : Reads)
       → now ≤ 4611686018427387904
       → draw ≤ 120
-      → kept most (s .life) ≡ true
+      → kept most (s .progress) ≡ true
       → wrongState s ≡ false
-      → Within most (record { setup = s .setup; life = heardOf s now draw x .life })
+      → Within most (record { setup = s .setup; progress = heardOf s now draw x .progress })
   heard-within s now draw (read _ m) n d k w =
       record {
-        times = receive-kept now draw (factsOf (s .setup) m) (s .setup .hasaaaa) most n d l (s .life) (small-draw s w) k;
-        right = same-right s _ (receive-draw now draw (factsOf (s .setup) m) (s .setup .hasaaaa) (s .life)) w;
+        times = receive-kept now draw (factsOf (s .setup) m) (s .setup .hasaaaa) most n d l (s .progress) (small-draw s w) k;
+        right = same-right s _ (receive-draw now draw (factsOf (s .setup) m) (s .setup .hasaaaa) (s .progress)) w;
       }
   heard-within s now draw (refused _) n d k w = record { times = k; right = w }
 
   pub receive-within :
       (s : State) (now port draw : ℕ) (p : List ℕ) (room : ℕ)
       → receiveRefusal s now port draw p room ≡ 0
-      → kept most (s .life) ≡ true
+      → kept most (s .progress) ≡ true
       → Within most (receiveOf s now port draw p room .state)
   unfolding receiveOf
   receive-within s now port draw p room h k =
       let a : ReceiveAccepted s now port draw p room = receive-accepted s now port draw p room h in
-      rw h (heard-within s now draw (messageAt p) (in-time (s .life) now (a .time) .0) (small-reply draw (a .drawn)) k (a .right))
+      rw h (heard-within s now draw (messageAt p) (in-time (s .progress) now (a .time) .0) (small-reply draw (a .drawn)) k (a .right))
 
   pub tick-within :
-      (s : State) (now room : ℕ) → tickRefusal s now room ≡ 0 → kept most (s .life) ≡ true → Within most (tickOf s now room .state)
+      (s : State) (now room : ℕ) → tickRefusal s now room ≡ 0 → kept most (s .progress) ≡ true → Within most (tickOf s now room .state)
   unfolding tickOf
   tick-within s now room h k =
       let a : TickAccepted s now room = tick-accepted s now room h in
       rw h (record {
-        times = tick-kept now (s .setup .hasaaaa) most (in-time (s .life) now (a .time) .0) l (s .life) k;
-        right = same-right s _ (tick-draw now (s .setup .hasaaaa) (s .life)) (a .right);
+        times = tick-kept now (s .setup .hasaaaa) most (in-time (s .progress) now (a .time) .0) l (s .progress) k;
+        right = same-right s _ (tick-draw now (s .setup .hasaaaa) (s .progress)) (a .right);
       })
 
   -- accepted or refused
@@ -161,9 +161,9 @@ module _ (most : ℕ) (l : 4611686018427388904 ≤ most) where
 pub accepted-sound : (s : State) (c : Call) → refusalOfCall s c ≡ 0 → Sound (stateAfter s c)
 accepted-sound s (received now port draw p room) h =
     receive-within 4611686018427389904 (omega arith) s now port draw p room h
-    (in-time (s .life) now (receive-accepted s now port draw p room h .time) .1)
+    (in-time (s .progress) now (receive-accepted s now port draw p room h .time) .1)
 accepted-sound s (ticked now room) h =
-    tick-within 4611686018427389904 (omega arith) s now room h (in-time (s .life) now (tick-accepted s now room h .time) .1)
+    tick-within 4611686018427389904 (omega arith) s now room h (in-time (s .progress) now (tick-accepted s now room h .time) .1)
 
 -- from a start on, no kept time is above 2^62 + 1,000
 pub from-a-start :

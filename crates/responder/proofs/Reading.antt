@@ -1,15 +1,13 @@
 -- What a scanned packet says about the message: its refusal is 4, 5 or 6, and facts are those of the message. Assumes nothing.
 use Prim.Native.Nat.{ℕ, _≤_}
 use mathlib.Core.Path.{_≡_, refl}
-use mathlib.Core.Bool.{Bool, true, false, cond, _||_}
+use mathlib.Core.Bool.{Bool, true, false, cond}
 use mathlib.Core.List.{List}
 use native.Mathlib.Omega.{arith}
-use lib.Dec.{eqb, ltb}
-use lib.ListN.{length}
+use lib.Dec.{eqb}
 use borrow.Author.Tests.{ne-eqb}
-use Rattle.wire.specs.octets.Octets.{word16}
-use Rattle.wire.specs.message.Message.{Question, Record}
-use Rattle.wire.specs.message.Layout.{Reads, read, refused, Listing, listing, cut, questionAt, recordAt, listFrom, additionalsOf, authoritiesOf, answersOf, questionsOf, plainHeader, messageAt}
+use Rattle.wire.specs.message.Layout.{Reads, read, refused, messageAt}
+use Rattle.wire.proofs.message.Refused.{refused-as}
 use Rattle.own.specs.declared.records.Setup.{Setup}
 use Rattle.claims.specs.declared.answers.Facts.{Facts}
 use Rattle.claims.specs.declared.answers.Received as heard
@@ -28,31 +26,12 @@ abbrev pub Proper : Reads → Type 0
 Proper (read l m) = Unit {0}
 Proper (refused n) = (4 ≤ n) × (n ≤ 6)
 
-module _ (p : List ℕ) where
-  proper-additionals : (qs : List Question) (an ns : List Record) (a b c : ℕ) (x : Listing Record) → Proper (additionalsOf p qs an ns a b c x)
-  proper-additionals qs an ns a b c (listing ar e) = tt
-  proper-additionals qs an ns a b c cut = (omega arith, omega arith)
-
-  proper-authorities : (qs : List Question) (an : List Record) (a b : ℕ) (x : Listing Record) → Proper (authoritiesOf p qs an a b x)
-  proper-authorities qs an a b (listing ns c) = proper-additionals qs an ns a b c (listFrom (recordAt p) (word16 p 10) c)
-  proper-authorities qs an a b cut = (omega arith, omega arith)
-
-  proper-answers : (qs : List Question) (a : ℕ) (x : Listing Record) → Proper (answersOf p qs a x)
-  proper-answers qs a (listing an b) = proper-authorities qs an a b (listFrom (recordAt p) (word16 p 8) b)
-  proper-answers qs a cut = (omega arith, omega arith)
-
-  proper-questions : (x : Listing Question) → Proper (questionsOf p x)
-  proper-questions (listing qs a) = proper-answers qs a (listFrom (recordAt p) (word16 p 6) a)
-  proper-questions cut = (omega arith, omega arith)
-
-  pub proper : Proper (messageAt p)
-  unfolding messageAt
-  proper = go (ltb (length p) 12 || ltb 8972 (length p)) (plainHeader (word16 p 2))
-    where
-      go : (long plain : Bool) → Proper (cond long (refused 4) (cond plain (questionsOf p (listFrom (questionAt p) (word16 p 4) 12)) (refused 5)))
-      go true plain = (omega arith, omega arith)
-      go false true = proper-questions (listFrom (questionAt p) (word16 p 4) 12)
-      go false false = (omega arith, omega arith)
+pub proper : (p : List ℕ) → Proper (messageAt p)
+proper p = go (messageAt p) refl
+  where
+    go : (x : Reads) → messageAt p ≡ x → Proper x
+    go (read l m) e = tt
+    go (refused n) e = refused-as p n e
 
 -- a message is refused by 4, 5 or 6, or not at all
 pub number-at-most : (x : Reads) (port : ℕ) → Proper x → byPort (readRefusal x) port ≤ 6
@@ -95,7 +74,7 @@ said-number setup (refused n) f e = clash (cc)
 pub said-heard :
     (s : State) (now draw : ℕ) (x : Reads) (f : Facts) (h : heard.Received)
     → scannedOf (s .setup) x ≡ Said f
-    → h ≡ answers.receiveOf (s .life) now draw f (s .setup .hasaaaa)
+    → h ≡ answers.receiveOf (s .progress) now draw f (s .setup .hasaaaa)
     → heardOf s now draw x ≡ h
 said-heard s now draw (read l m) f h e d = let i : factsOf (s .setup) m ≡ f = cc in simp (d, i)
 said-heard s now draw (refused n) f h e d = clash (cc)

@@ -33,14 +33,14 @@ pub record StartAccepted (setup : Setup) (now draw : ℕ) : Type 0 where
   pub right : validSetup setup ≡ true
 
 pub record ReceiveAccepted (s : State) (now port draw : ℕ) (p : List ℕ) (room : ℕ) : Type 0 where
-  pub time : wrongTime (s .life) now ≡ false
+  pub time : wrongTime (s .progress) now ≡ false
   pub drawn : wrongReplyDraw draw ≡ false
   pub buffer : smallBuffer room ≡ false
   pub message : byPort (readRefusal (messageAt p)) port ≡ 0
   pub right : wrongState s ≡ false
 
 pub record TickAccepted (s : State) (now room : ℕ) : Type 0 where
-  pub time : wrongTime (s .life) now ≡ false
+  pub time : wrongTime (s .progress) now ≡ false
   pub buffer : smallBuffer room ≡ false
   pub right : wrongState s ≡ false
 
@@ -63,8 +63,8 @@ pub receive-accepted :
     → ReceiveAccepted s now port draw p room
 unfolding receiveRefusal
 receive-accepted s now port draw p room h =
-    let x : (wrongTime (s .life) now ≡ false) × (wrongReplyDraw draw ≡ false) × (smallBuffer room ≡ false) × (byPort (readRefusal (messageAt p)) port ≡ 0) × (wrongState s ≡ false) =
-    go (wrongTime (s .life) now) (wrongReplyDraw draw) (smallBuffer room) (byPort (readRefusal (messageAt p)) port) (wrongState s) h in
+    let x : (wrongTime (s .progress) now ≡ false) × (wrongReplyDraw draw ≡ false) × (smallBuffer room ≡ false) × (byPort (readRefusal (messageAt p)) port ≡ 0) × (wrongState s ≡ false) =
+    go (wrongTime (s .progress) now) (wrongReplyDraw draw) (smallBuffer room) (byPort (readRefusal (messageAt p)) port) (wrongState s) h in
     record { time = x .0; drawn = x .1; buffer = x .2; message = x .3; right = x .4 }
   where
     go : (t d b : Bool) (n : ℕ) (w : Bool)
@@ -80,8 +80,8 @@ receive-accepted s now port draw p room h =
 pub tick-accepted : (s : State) (now room : ℕ) → tickRefusal s now room ≡ 0 → TickAccepted s now room
 unfolding tickRefusal
 tick-accepted s now room h =
-    let x : (wrongTime (s .life) now ≡ false) × (smallBuffer room ≡ false) × (wrongState s ≡ false) =
-    go (wrongTime (s .life) now) (smallBuffer room) (wrongState s) h in
+    let x : (wrongTime (s .progress) now ≡ false) × (smallBuffer room ≡ false) × (wrongState s ≡ false) =
+    go (wrongTime (s .progress) now) (smallBuffer room) (wrongState s) h in
     record { time = x .0; buffer = x .1; right = x .2 }
   where
     go : (t b w : Bool) → _≡_ {A = ℕ} (cond t 1 (cond b 3 (cond w 7 0))) 0 → (t ≡ false) × (b ≡ false) × (w ≡ false)

@@ -20,7 +20,7 @@ told e t = cc
 
 -- ---- refusal 7
 
-pub by-draw : (s : State) (r : Bool) → validSetup (s .setup) ≡ true → r ≡ wrongStartDraw (s .life .draw) → r ≡ wrongState s
+pub by-draw : (s : State) (r : Bool) → validSetup (s .setup) ≡ true → r ≡ wrongStartDraw (s .progress .draw) → r ≡ wrongState s
 unfolding wrongState
 by-draw s r v d = simp (v, d)
 
@@ -34,7 +34,7 @@ valid-in false d h = let z : _≡_ {A = ℕ} 0 1 = cc in absurd (omega arith)
 
 pub right-setup : (s : State) → wrongState s ≡ false → validSetup (s .setup) ≡ true
 unfolding wrongState
-right-setup s h = valid-in (validSetup (s .setup)) (wrongStartDraw (s .life .draw)) h
+right-setup s h = valid-in (validSetup (s .setup)) (wrongStartDraw (s .progress .draw)) h
 
 -- what is sent can be written
 pub can-send : (s : State) (out : List ℕ) → 1452 ≤ length out → wrongState s ≡ false → refusal (s .setup) out ≡ 0
@@ -55,11 +55,11 @@ other-port n port e h = simp (ne-eqb n 4 e, ne-eqb port 5353 h)
 -- ---- a tick
 
 module _ (s : State) (now room : ℕ) where
-  pub tick-1 : wrongTime (s .life) now ≡ true → tickRefusal s now room ≡ 1
+  pub tick-1 : wrongTime (s .progress) now ≡ true → tickRefusal s now room ≡ 1
   unfolding tickRefusal
   tick-1 t = simp t
 
-  module _ (t : wrongTime (s .life) now ≡ false) where
+  module _ (t : wrongTime (s .progress) now ≡ false) where
     pub tick-3 : room < 1452 → tickRefusal s now room ≡ 3
     unfolding tickRefusal
     tick-3 r = simp (t, lt-ltb room 1452 r)
@@ -79,11 +79,11 @@ module _ (s : State) (now port draw : ℕ) (p : List ℕ) (room : ℕ) where
   abbrev Refuses : ℕ → Type 0
   Refuses n = receiveRefusal s now port draw p room ≡ n
 
-  pub receive-1 : wrongTime (s .life) now ≡ true → Refuses 1
+  pub receive-1 : wrongTime (s .progress) now ≡ true → Refuses 1
   unfolding receiveRefusal
   receive-1 t = simp t
 
-  module _ (t : wrongTime (s .life) now ≡ false) where
+  module _ (t : wrongTime (s .progress) now ≡ false) where
     pub receive-2 : wrongReplyDraw draw ≡ true → Refuses 2
     unfolding receiveRefusal
     receive-2 d = simp (t, d)

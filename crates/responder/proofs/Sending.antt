@@ -3,14 +3,13 @@ use Prim.Native.Nat.{ℕ}
 use mathlib.Core.Path.{_≡_, refl}
 use mathlib.Core.List.{List, [], _∷_}
 use Rattle.own.specs.declared.records.Setup.{Setup}
-use Rattle.own.specs.declared.records.Claim.{Claim}
-use Rattle.claims.specs.declared.Kind.{Kind}
-use Rattle.claims.specs.declared.Records.{Records}
+use Rattle.claims.specs.declared.records.Claim.{Claim}
+use Rattle.claims.specs.declared.records.Set.{Set}
 use Rattle.claims.specs.declared.steps.Output.{Output}
 use Rattle.claims.specs.declared.steps.Output.the-variants.{Nothing, Probe, Response}
 use Rattle.writer.specs.own_packets.Own.{responsePacket, probePacket, refusal, unlessRefused, sentOf, writtenOf, laidOver}
 use Rattle.writer.specs.declared.own_packets.Written.{Written}
-use Rattle.responder.specs.Calls.{sentOr, answerFor, claimFor, listed, packetFor}
+use Rattle.responder.specs.Calls.{sentOr, answerFor, packetFor}
 use Rattle.responder.specs.declared.Answer.{Answer}
 use Rattle.responder.specs.declared.Answer.the-variants.{Quiet}
 
@@ -23,11 +22,11 @@ module _ (setup : Setup) (output : Output) where
   abbrev pub Sends : List ℕ → Answer → List ℕ → Type 0
   Sends out a o = (a ≡ sentOr (packetFor setup output)) × (o ≡ laidOver (packetFor setup output) out)
 
-  pub probe-packet : (k : Kind) (claim : Claim) → output ≡ Probe k → claim ≡ claimFor k → packetFor setup output ≡ probePacket setup claim
+  pub probe-packet : (claim : Claim) → output ≡ Probe claim → packetFor setup output ≡ probePacket setup claim
   unfolding packetFor
-  probe-packet k claim e h = simp (e, h)
+  probe-packet claim e = simp e
 
-  pub response-packet : (set : Records) → output ≡ Response set → packetFor setup output ≡ responsePacket setup (listed set)
+  pub response-packet : (set : Set) → output ≡ Response set → packetFor setup output ≡ responsePacket setup set
   unfolding packetFor
   response-packet set e = simp e
 

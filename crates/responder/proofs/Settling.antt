@@ -10,7 +10,7 @@ use Rattle.own.specs.declared.records.Setup.{Setup}
 use Rattle.own.specs.records.Setups.{validSetup}
 use Rattle.claims.specs.Refusals.{lateStart, wrongStartDraw}
 use Rattle.claims.specs.Claims as claims
-use Rattle.claims.specs.declared.Life.{Life}
+use Rattle.claims.specs.declared.Progress.{Progress}
 use Rattle.claims.specs.declared.steps.Output.the-variants.{Response}
 use Rattle.claims.specs.declared.steps.Ticked as walked
 use Rattle.claims.specs.declared.answers.Received as heard
@@ -53,14 +53,14 @@ module _ (setup : Setup) (now draw : ℕ) where
     start-7 t d v = numbered _ (simp (t, d, v, b))
 
   pub starts :
-      (life : Life)
-      → life ≡ claims.startOf now draw
+      (progress : Progress)
+      → progress ≡ claims.startOf now draw
       → lateStart now ≡ false
       → wrongStartDraw draw ≡ false
       → validSetup setup ≡ true
-      → Starts (record { answer = Quiet; state = record { setup = setup; life = life } })
+      → Starts (record { answer = Quiet; state = record { setup = setup; progress = progress } })
   unfolding startOf startRefusal
-  starts life e t d v = numbered _ (simp (t, d, v, e))
+  starts progress e t d v = numbered _ (simp (t, d, v, e))
 
 -- ---- a packet received
 
@@ -86,7 +86,7 @@ module _ (s : State) (now port draw : ℕ) (p out : List ℕ) where
       → receiveRefusal s now port draw p (length out) ≡ 0
       → heardOf s now draw (messageAt p) ≡ h
       → Sends (s .setup) (Response (h .answers)) out a o
-      → Receives (record { answer = a; state = record { setup = s .setup; life = h .life } }) o
+      → Receives (record { answer = a; state = record { setup = s .setup; progress = h .progress } }) o
   unfolding receiveOf receivedPacket
   receives h a o e d w = received-numbered _ _ (simp (e, d, w .0)) (simp (e, d, w .1))
 
@@ -112,6 +112,6 @@ module _ (s : State) (now : ℕ) (out : List ℕ) where
       → tickRefusal s now (length out) ≡ 0
       → w ≡ walkedOf s now
       → Sends (s .setup) (w .output) out a o
-      → Ticks (record { answer = a; more = w .more; state = record { setup = s .setup; life = w .life } }) o
+      → Ticks (record { answer = a; more = w .more; state = record { setup = s .setup; progress = w .progress } }) o
   unfolding tickOf tickedPacket
   ticks w a o e d h = ticked-numbered _ _ (simp (e, ← d, h .0)) (simp (e, ← d, h .1))

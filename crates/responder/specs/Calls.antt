@@ -7,16 +7,12 @@ use lib.ListN.{length, replicate}
 use lib.Dec.{eqb}
 use Rattle.wire.specs.message.Layout.{Reads, read, refused, messageAt}
 use Rattle.own.specs.declared.records.Setup.{Setup}
-use Rattle.own.specs.declared.records.Claim.{Claim}
-use Rattle.own.specs.declared.records.Claim.the-variants as own
 use Rattle.claims.specs.Claims as claims
-use Rattle.claims.specs.declared.Claim.the-variants.{Lost}
-use Rattle.claims.specs.declared.Kind.{Kind}
-use Rattle.claims.specs.declared.Kind.the-variants.{Instance, Host}
-use Rattle.claims.specs.declared.Sent.the-variants.{Never}
-use Rattle.claims.specs.declared.Reply.the-variants.{Unset}
-use Rattle.claims.specs.declared.Records.{Records}
-use Rattle.claims.specs.declared.Life.{Life}
+use Rattle.claims.specs.declared.ClaimState.the-variants.{Lost}
+use Rattle.claims.specs.declared.When.the-variants.{Never}
+use Rattle.claims.specs.Time.{neverSent}
+use Rattle.claims.specs.records.Sets.{noRecord}
+use Rattle.claims.specs.declared.Progress.{Progress}
 use Rattle.claims.specs.steps.Tick as steps
 use Rattle.claims.specs.declared.steps.Output.{Output}
 use Rattle.claims.specs.declared.steps.Output.the-variants.{Nothing, Probe, Response}
@@ -56,8 +52,8 @@ abbrev pub answerOf : ℕ → List ℕ → Answer
 answerOf refusal packet = cond (eqb refusal 0) (sentOr packet) (Refused refusal)
 
 -- ".. state .. keep every byte"
-abbrev pub stateOf : ℕ → State → Life → State
-stateOf refusal s life = cond (eqb refusal 0) (record { setup = s .setup; life = life }) s
+abbrev pub stateOf : ℕ → State → Progress → State
+stateOf refusal s progress = cond (eqb refusal 0) (record { setup = s .setup; progress = progress }) s
 
 -- the answer for what a packet's writer answers
 abbrev pub answerFor : Written → Answer
@@ -87,18 +83,18 @@ blank = record {
     hasaaaa = false;
     aaaa = replicate 16 0;
   };
-  life = record {
+  progress = record {
     instance = Lost;
     host = Lost;
-    sent = record { ptr = Never; srv = Never; txt = Never; a = Never; aaaa = Never };
-    reply = Unset;
+    sent = neverSent;
+    reply = Never;
     draw = 0;
     last = 0;
   };
 }
 
 abbrev pub startState : ℕ → Setup → ℕ → ℕ → State
-startState refusal setup now draw = cond (eqb refusal 0) (record { setup = setup; life = claims.startOf now draw }) blank
+startState refusal setup now draw = cond (eqb refusal 0) (record { setup = setup; progress = claims.startOf now draw }) blank
 
 unfoldable pub startOf : Setup → ℕ → ℕ → Started
 startOf setup now draw = record {
@@ -108,26 +104,17 @@ startOf setup now draw = record {
 
 -- ---- what a call sends
 
--- the claim by the own records' name for it
-abbrev pub claimFor : Kind → Claim
-claimFor Instance = own.Instance
-claimFor Host = own.Host
-
--- the records of a set by their indices
-abbrev pub listed : Records → List Bool
-listed set = set .ptr ∷ set .srv ∷ set .txt ∷ set .a ∷ set .aaaa ∷ []
-
 unfoldable pub packetFor : Setup → Output → List ℕ
 packetFor setup Nothing = []
-packetFor setup (Probe k) = probePacket setup (claimFor k)
-packetFor setup (Response set) = responsePacket setup (listed set)
+packetFor setup (Probe k) = probePacket setup k
+packetFor setup (Response set) = responsePacket setup set
 
 -- ---- a packet received
 
--- What a message does to a state: the life after it, and the records that go out at once. A message that is refused says nothing.
+-- What a message does to a state: the progress after it, and the records that go out at once. A message that is refused says nothing.
 abbrev pub heardOf : State → ℕ → ℕ → Reads → heard.Received
-heardOf s now draw (read l m) = answers.receiveOf (s .life) now draw (factsOf (s .setup) m) (s .setup .hasaaaa)
-heardOf s now draw (refused n) = record { life = s .life; answers = record { ptr = false; srv = false; txt = false; a = false; aaaa = false } }
+heardOf s now draw (read l m) = answers.receiveOf (s .progress) now draw (factsOf (s .setup) m) (s .setup .hasaaaa)
+heardOf s now draw (refused n) = record { progress = s .progress; answers = noRecord }
 
 -- "SRV, TXT, A, AAAA go out at once in one packet."
 unfoldable pub receivedPacket : State → ℕ → ℕ → ℕ → List ℕ → ℕ → List ℕ
@@ -137,14 +124,14 @@ receivedPacket s now port draw p room =
 unfoldable pub receiveOf : State → ℕ → ℕ → ℕ → List ℕ → ℕ → Received
 receiveOf s now port draw p room = record {
   answer = answerOf (receiveRefusal s now port draw p room) (receivedPacket s now port draw p room);
-  state = stateOf (receiveRefusal s now port draw p room) s (heardOf s now draw (messageAt p) .life);
+  state = stateOf (receiveRefusal s now port draw p room) s (heardOf s now draw (messageAt p) .progress);
 }
 
 -- ---- a tick
 
 -- the due steps of a state
 abbrev pub walkedOf : State → ℕ → walked.Ticked
-walkedOf s now = steps.tickOf (s .life) now (s .setup .hasaaaa)
+walkedOf s now = steps.tickOf (s .progress) now (s .setup .hasaaaa)
 
 -- "the first that sends ends the tick"
 unfoldable pub tickedPacket : State → ℕ → ℕ → List ℕ
@@ -155,5 +142,5 @@ unfoldable pub tickOf : State → ℕ → ℕ → Ticked
 tickOf s now room = record {
   answer = answerOf (tickRefusal s now room) (tickedPacket s now room);
   more = cond (eqb (tickRefusal s now room) 0) (walkedOf s now .more) false;
-  state = stateOf (tickRefusal s now room) s (walkedOf s now .life);
+  state = stateOf (tickRefusal s now room) s (walkedOf s now .progress);
 }

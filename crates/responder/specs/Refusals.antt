@@ -16,7 +16,7 @@ smallBuffer room = ltb room 1452
 
 -- 7: "names or data, in a setup or a state handed in, break the rules below, or a kept start draw is above 250"
 unfoldable pub wrongState : State → Bool
-wrongState s = not (validSetup (s .setup)) || wrongStartDraw (s .life .draw)
+wrongState s = not (validSetup (s .setup)) || wrongStartDraw (s .progress .draw)
 
 -- one refusal, then the next
 abbrev pub orElse : ℕ → ℕ → ℕ
@@ -37,10 +37,10 @@ startRefusal setup now draw = cond (lateStart now) 1 (cond (wrongStartDraw draw)
 
 unfoldable pub receiveRefusal : State → ℕ → ℕ → ℕ → List ℕ → ℕ → ℕ
 receiveRefusal s now port draw p room =
-    cond (wrongTime (s .life) now) 1
+    cond (wrongTime (s .progress) now) 1
     (cond (wrongReplyDraw draw) 2
     (cond (smallBuffer room) 3
     (orElse (byPort (readRefusal (messageAt p)) port) (cond (wrongState s) 7 0))))
 
 unfoldable pub tickRefusal : State → ℕ → ℕ → ℕ
-tickRefusal s now room = cond (wrongTime (s .life) now) 1 (cond (smallBuffer room) 3 (cond (wrongState s) 7 0))
+tickRefusal s now room = cond (wrongTime (s .progress) now) 1 (cond (smallBuffer room) 3 (cond (wrongState s) 7 0))

@@ -4,13 +4,10 @@ ghost use mathlib.Core.Path.{_≡_};
 ghost use lib.ListN.{length};
 ghost use Rattle.writer.specs.own_packets.Own.{refusal, laidOver};
 ghost use Rattle.responder.specs.Refusals.{wrongState, byPort, startRefusal, receiveRefusal, tickRefusal};
-ghost use Rattle.responder.specs.Calls.{refusalOf, lengthOf, blank, answerFor, sentOr, claimFor, packetFor, startOf, receiveOf, receivedPacket, tickOf, tickedPacket};
-use claims::Claim;
-use claims::Kind;
-use claims::Life;
-use claims::Multicasts;
-use claims::Reply;
-use claims::Sent;
+ghost use Rattle.responder.specs.Calls.{refusalOf, lengthOf, blank, answerFor, sentOr, packetFor, startOf, receiveOf, receivedPacket, tickOf, tickedPacket};
+use claims::ClaimState;
+use claims::Progress;
+use claims::When;
 use claims::steps::Output;
 use facts::Scanned;
 use own::records::Label;
@@ -25,7 +22,7 @@ pub const MDNS_PORT: u16 = 5353;
 // A responder: what it was set up with, and all that changes in it.
 pub struct State {
     pub setup: Setup,
-    pub life: Life,
+    pub progress: Progress,
 }
 
 // What a call answers: the number of its refusal, that it sends nothing, or the length of the packet that it wrote.
@@ -81,17 +78,11 @@ pub fn blank_state() -> State
             hasaaaa: false,
             aaaa: [0; 16],
         },
-        life: Life {
-            instance: Claim::Lost,
-            host: Claim::Lost,
-            sent: Multicasts {
-                ptr: Sent::Never,
-                srv: Sent::Never,
-                txt: Sent::Never,
-                a: Sent::Never,
-                aaaa: Sent::Never,
-            },
-            reply: Reply::Unset,
+        progress: Progress {
+            instance: ClaimState::Lost,
+            host: ClaimState::Lost,
+            sent: claims::never_sent(),
+            reply: When::Never,
             draw: 0,
             last: 0,
         },
@@ -125,7 +116,7 @@ pub fn start(setup: Setup, time: u64, draw: u64) -> Started
         answer: Answer::Quiet,
         state: State {
             setup,
-            life: claims::start(time, draw),
+            progress: claims::start(time, draw),
         },
     }
 }
@@ -135,9 +126,9 @@ fn state_refused(state: State) -> bool
     ensures { λ r. ⌜ r ≡ wrongState state ⌝ }
 {
     let setup = state.setup;
-    let life = state.life;
+    let progress = state.progress;
     if own::setups::check_setup(setup) {
-        return claims::refusal_tests::start_draw_refused(life.draw);
+        return claims::refusal_tests::start_draw_refused(progress.draw);
     }
     true
 }
@@ -153,16 +144,6 @@ fn message_refusal(n: u8, port: u16) -> u8
         return n;
     }
     5
-}
-
-// The claim of the own records that is meant.
-fn claim_for(k: Kind) -> own::records::Claim
-    ensures { λ r. ⌜ r ≡ claimFor k ⌝ }
-{
-    match k {
-        Kind::Instance => own::records::Claim::Instance,
-        Kind::Host => own::records::Claim::Host,
-    }
 }
 
 fn answer_for(w: Written) -> Answer
@@ -184,12 +165,11 @@ fn send(setup: Setup, output: Output, out: &mut [u8]) -> Answer
     match output {
         Output::Nothing => Answer::Quiet,
         Output::Probe(k) => {
-            let w = writer::own_packets::probe(setup, claim_for(k), out);
+            let w = writer::own_packets::probe(setup, k, out);
             answer_for(w)
         }
         Output::Response(set) => {
-            let chosen = [set.ptr, set.srv, set.txt, set.a, set.aaaa];
-            let w = writer::own_packets::respond(setup, chosen, out);
+            let w = writer::own_packets::respond(setup, set, out);
             answer_for(w)
         }
     }
@@ -210,8 +190,8 @@ pub fn receive(
     ensures sent { λ r. ⌜ lengthOf (r .answer) ≡ length (receivedPacket state time port draw (now (packet .entry)) (length (now (out .entry)))) ⌝ }
 {
     let setup = state.setup;
-    let life = state.life;
-    if claims::refusal_tests::time_refused(life, time) {
+    let progress = state.progress;
+    if claims::refusal_tests::time_refused(progress, time) {
         return Received {
             answer: Answer::Refused(1),
             state,
@@ -247,12 +227,15 @@ pub fn receive(
                     state,
                 };
             }
-            let heard = claims::answers::receive(life, time, draw, facts, setup.hasaaaa);
+            let heard = claims::answers::receive(progress, time, draw, facts, setup.hasaaaa);
             let set = heard.answers;
-            let after = heard.life;
+            let after = heard.progress;
             Received {
                 answer: send(setup, Output::Response(set), out),
-                state: State { setup, life: after },
+                state: State {
+                    setup,
+                    progress: after,
+                },
             }
         }
     }
@@ -266,8 +249,8 @@ pub fn tick(state: State, time: u64, out: &mut [u8]) -> Ticked
     ensures sent { λ r. ⌜ lengthOf (r .answer) ≡ length (tickedPacket state time (length (now (out .entry)))) ⌝ }
 {
     let setup = state.setup;
-    let life = state.life;
-    if claims::refusal_tests::time_refused(life, time) {
+    let progress = state.progress;
+    if claims::refusal_tests::time_refused(progress, time) {
         return Ticked {
             answer: Answer::Refused(1),
             more: false,
@@ -288,13 +271,16 @@ pub fn tick(state: State, time: u64, out: &mut [u8]) -> Ticked
             state,
         };
     }
-    let walked = claims::steps::tick(life, time, setup.hasaaaa);
+    let walked = claims::steps::tick(progress, time, setup.hasaaaa);
     let output = walked.output;
-    let after = walked.life;
+    let after = walked.progress;
     let more = walked.more;
     Ticked {
         answer: send(setup, output, out),
         more,
-        state: State { setup, life: after },
+        state: State {
+            setup,
+            progress: after,
+        },
     }
 }

@@ -6,10 +6,11 @@ use Rattle.wire.specs.rdata.Rdata.{stringsFill}
 use Rattle.wire.specs.expansion.Equal.{sameBytes}
 use Rattle.writer.specs.compression.Compression.{standsAt, placeOf, cutFrom, nameBytes, starts, namePlaces}
 use Rattle.own.specs.records.Setups.{labelFits, isLetter, isNameByte, nameBytes as lettersOnly, someLetter, hyphensApart, serviceRule, serviceFits, protocolFits, domainFits, txtFits, validSetup, serviceLabels, instanceLabels, hostLabels}
-use Rattle.own.specs.records.Records.{hasRecord, ownLabels, ownName, ownType, ownClass, ownTtl, srvRdata, ownRdata}
+use Rattle.own.specs.records.Records.{hasRecord, ownLabels, ownName, srvRdata, ownRdata}
+use Rattle.claims.specs.records.Sets.{picked, recordsOf}
 use Rattle.writer.specs.Items.{putName, dataBytes, dataPlaces, putFields}
 use Rattle.writer.specs.own_packets.Packets.{packetOf}
-use Rattle.writer.specs.own_packets.Own.{ownRecord, picked, responseRecords, probeRecords, responseOf, probeOf, responsePacket, probePacket}
+use Rattle.writer.specs.own_packets.Own.{ownRecord, responseRecords, probeRecords, responseOf, probeOf, responsePacket, probePacket}
 use Rattle.roundtrip.specs.Cases.{SampleValid, Announced, Probed, InstanceProbed}
 
 pub sample-valid : SampleValid
@@ -17,7 +18,7 @@ unfolding labelFits isLetter isNameByte lettersOnly someLetter hyphensApart serv
 sample-valid = refl
 
 packets : Announced × Probed × InstanceProbed
-unfolding nameAt fromRun readFrom pieceAt sameBytes standsAt placeOf cutFrom nameBytes starts namePlaces serviceLabels instanceLabels hostLabels hasRecord ownLabels ownName ownType ownClass ownTtl srvRdata ownRdata putName dataBytes dataPlaces putFields packetOf ownRecord picked responseRecords probeRecords responseOf probeOf responsePacket probePacket
+unfolding nameAt fromRun readFrom pieceAt sameBytes standsAt placeOf cutFrom nameBytes starts namePlaces serviceLabels instanceLabels hostLabels hasRecord ownLabels ownName srvRdata ownRdata putName dataBytes dataPlaces putFields packetOf ownRecord picked recordsOf responseRecords probeRecords responseOf probeOf responsePacket probePacket
 packets = (refl, refl, refl)
 
 pub announced : Announced

@@ -11,8 +11,7 @@ use lib.Seq.{length-take-le}
 use Rattle.wire.specs.names.Names.{isName}
 use Rattle.wire.specs.labels.Labels.{encode}
 use Rattle.wire.proofs.labels.Encoded.{made-of}
-use Rattle.wire.specs.rdata.Answers.{targetIn}
-use Rattle.wire.specs.expansion.Opened.{namesIn}
+use Rattle.wire.specs.rdata.Rdata.{formOf}
 use Rattle.writer.specs.compression.Compression.{nameBytes, namePlaces}
 use Rattle.writer.specs.compression.Sentence.{empty}
 use Rattle.writer.proofs.compression.AsSaid.{is-cut}
@@ -58,35 +57,35 @@ module _ (w : Writing) (r : Record) where
   F = fields (r .rtype) (r .class) (r .ttl) (length D)
 
   -- rdata without a name
-  no-name : namesIn (r .rtype) ≡ false → dataPlaces (w .bytes) (w .places) (length (w .bytes) + 10) (r .rtype) (r .rdata) ≡ []
+  no-name : formOf (r .rtype) .named ≡ false → dataPlaces (w .bytes) (w .places) (length (w .bytes) + 10) (r .rtype) (r .rdata) ≡ []
   unfolding dataPlaces
   no-name t = simp t
 
-  plain-fields : Composed w → namesIn (r .rtype) ≡ false → Composed (putFields w r)
+  plain-fields : Composed w → formOf (r .rtype) .named ≡ false → Composed (putFields w r)
   unfolding putFields
   plain-fields c t =
       subst (λ (ps : List ℕ). Composed (record { bytes = w .bytes ++ (F ++ D); places = ps }))
       (sym (ap (λ (l : List ℕ). w .places ++ l) (no-name t) ∙ append-nil (w .places))) (plain (F ++ D) c)
 
   -- rdata with a name behind its first bytes
-  module _ (t : namesIn (r .rtype) ≡ true) (long : targetIn (r .rtype) ≤ length (r .rdata)) (ok : isName (drop (targetIn (r .rtype)) (r .rdata)) ≡ true) where
+  module _ (t : formOf (r .rtype) .named ≡ true) (long : formOf (r .rtype) .before ≤ length (r .rdata)) (ok : isName (drop (formOf (r .rtype) .before) (r .rdata)) ≡ true) where
     abbrev first : List ℕ
-    first = take (targetIn (r .rtype)) (r .rdata)
+    first = take (formOf (r .rtype) .before) (r .rdata)
 
     abbrev target′ : List ℕ
-    target′ = drop (targetIn (r .rtype)) (r .rdata)
+    target′ = drop (formOf (r .rtype) .before) (r .rdata)
 
     data-is : D ≡ first ++ nameBytes (w .bytes) (w .places) target′
     unfolding dataBytes
     data-is = simp t
 
     places-are : dataPlaces (w .bytes) (w .places) (length (w .bytes) + 10) (r .rtype) (r .rdata)
-        ≡ namePlaces (w .bytes) (w .places) (length (w .bytes) + 10 + targetIn (r .rtype)) target′
+        ≡ namePlaces (w .bytes) (w .places) (length (w .bytes) + 10 + formOf (r .rtype) .before) target′
     unfolding dataPlaces
     places-are = simp t
 
-    behind : length (w .bytes) + length (F ++ first) ≡ length (w .bytes) + 10 + targetIn (r .rtype)
-    behind = omega (arith, length-append F first, length-take-le (targetIn (r .rtype)) (r .rdata) long)
+    behind : length (w .bytes) + length (F ++ first) ≡ length (w .bytes) + 10 + formOf (r .rtype) .before
+    behind = omega (arith, length-append F first, length-take-le (formOf (r .rtype) .before) (r .rdata) long)
 
     bytes-are : w .bytes ++ ((F ++ first) ++ nameBytes (w .bytes) (w .places) target′) ≡ w .bytes ++ (F ++ D)
     bytes-are = ap (λ (l : List ℕ). w .bytes ++ l) (append-assoc F first (nameBytes (w .bytes) (w .places) target′) ∙ ap (λ (l : List ℕ). F ++ l) (sym data-is))

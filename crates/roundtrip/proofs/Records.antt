@@ -17,12 +17,12 @@ use Rattle.wire.specs.message.Message.{Record, ttlOf}
 use Rattle.wire.specs.message.Layout.{recordFrom, recordRead, item, bytesOf, withRdata, recordMeant, recordAt}
 use Rattle.writer.specs.Items.{Writing, fields, dataBytes, putName, putFields, putRecord}
 use Rattle.roundtrip.specs.Writable.{Shaped, IsRecord}
-use Rattle.roundtrip.proofs.Names.{word-at, name-here, data-back}
+use Rattle.roundtrip.proofs.Names.{word-at, lying, name-here, data-back}
 use Rattle.roundtrip.proofs.Sound.{Sound}
 
 -- a record from its parts
 assemble : (P o D : List ℕ) (at E k c t n : ℕ) → nameAt P at ≡ name o E → E + 10 + n ≤ length P → word16 P E ≡ k → word16 P (E + 2) ≡ c → word32 P (E + 4) ≡ t
-    → t < 2147483648 → word16 P (E + 8) ≡ n → rdataAt P k (E + 10) n ≡ rdata D
+    → t < 2147483648 → word16 P (E + 8) ≡ n → ((o s c t x : ℕ) → rdataAt P (lying o s k c t (E + 10) n x) ≡ rdata D)
     → recordAt P at ≡ item (record { owner = o; rtype = k; class = c; ttl = t; rdata = D }) (E + 10 + n)
 unfolding recordAt recordRead
 assemble P o D at E k c t n nm fits ek ec et st en ed =
@@ -31,16 +31,9 @@ assemble P o D at E k c t n nm fits ek ec et st en ed =
     let et′ : ttlOf (word32 P (E + 4)) ≡ t = ap ttlOf et ∙ simp (lt-leb 2147483648 t st) in
     ap (λ (x : Reading). recordMeant P (bytesOf x) (recordFrom P at x)) nm ∙ simp (le-leb (E + 10) (length P) some, le-leb (E + 10 + word16 P (E + 8)) (length P) long)
     (ap
-    (withRdata o (record {
-      owner = at;
-      span = length o;
-      rtype = word16 P E;
-      class = word16 P (E + 2);
-      ttl = ttlOf (word32 P (E + 4));
-      rdata = E + 10;
-      rdlength = word16 P (E + 8);
-      next = E + 10 + word16 P (E + 8);
-    })) (ap₂ (λ (x y : ℕ). rdataAt P x (E + 10) y) ek en ∙ ed)
+    (withRdata o (lying at (length o) (word16 P E) (word16 P (E + 2)) (ttlOf (word32 P (E + 4))) (E + 10) (word16 P (E + 8)) (E + 10 + word16 P (E + 8))))
+    (ap₂ (λ (x y : ℕ). rdataAt P (lying at (length o) x (word16 P (E + 2)) (ttlOf (word32 P (E + 4))) (E + 10) y (E + 10 + word16 P (E + 8)))) ek en
+    ∙ ed at (length o) (word16 P (E + 2)) (ttlOf (word32 P (E + 4))) (E + 10 + word16 P (E + 8)))
     ∙ λ i. item (record { owner = o; rtype = ek i; class = ec i; ttl = et′ i; rdata = D }) (E + 10 + en i))
 
 -- what follows the owner's name

@@ -13,7 +13,7 @@ use Rattle.writer.specs.compression.Sentence.{Rising, empty}
 use Rattle.writer.proofs.compression.Places.{rising-from, rising-to, rising-append}
 use Rattle.writer.proofs.compression.Written.{written-rising}
 use Rattle.wire.specs.message.Message.{Question, Record}
-use Rattle.wire.specs.expansion.Opened.{namesIn}
+use Rattle.wire.specs.rdata.Rdata.{formOf}
 use Rattle.writer.specs.Items.{Writing, u16, fields, dataBytes, dataPlaces, putBytes, putName, putFields, putRecord, putQuestion}
 use Rattle.roundtrip.specs.Writable.{Shaped, four, target, strings, sixteen, server, other, IsRecord, IsQuestion}
 
@@ -22,7 +22,7 @@ abbrev pub Sound : Writing → Type 0
 Sound w = Rising 12 (length (w .bytes)) (w .places)
 
 -- the labels in rdata start in the rdata
-plain-rising : (p os : List ℕ) (at k : ℕ) (d : List ℕ) → namesIn k ≡ false → Rising at (at + length (dataBytes p os k d)) (dataPlaces p os at k d)
+plain-rising : (p os : List ℕ) (at k : ℕ) (d : List ℕ) → formOf k .named ≡ false → Rising at (at + length (dataBytes p os k d)) (dataPlaces p os at k d)
 unfolding dataBytes dataPlaces
 plain-rising p os at k d t = let g : at ≤ at + length d = omega arith in simp t (empty g)
 

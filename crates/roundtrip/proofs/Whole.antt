@@ -9,7 +9,7 @@ use lib.ListN.{length, getD, length-append}
 use Rattle.wire.specs.octets.Octets.{word16}
 use Rattle.writer.specs.compression.Sentence.{empty}
 use Rattle.wire.specs.message.Message.{Question, Record}
-use Rattle.wire.specs.message.Layout.{questionAt, recordAt, listing, listFrom, read, plainHeader, additionalsOf, authoritiesOf, answersOf, questionsOf, messageAt}
+use Rattle.wire.specs.message.Layout.{questionAt, recordAt, listing, listFrom, read, plainHeader, andThen, messageAt}
 use Rattle.writer.specs.Items.{Writing, putRecord, putQuestion}
 use Rattle.writer.specs.own_packets.Packets.{putAll, header, packetOf}
 use Rattle.roundtrip.specs.Writable.{IsRecord, IsQuestion}
@@ -34,14 +34,14 @@ sections : (P : List ℕ) (i f nq na nn nr : ℕ) (qs : List Question) (an ns ar
       additionals = record { at = c; count = nr };
       end = d;
     }) (record { id = i; flags = f; questions = qs; answers = an; authorities = ns; additionals = ar })
-unfolding messageAt
+unfolding messageAt andThen
 sections P i f nq na nn nr qs an ns ar a b c d long most plain ei ef eq ea en er hq ha hn hr =
-    simp (le-ltb (length P) 12 long, le-ltb 8972 (length P) most, ap plainHeader ef ∙ plain)
-    (ap (questionsOf P) (ap (λ (n : ℕ). listFrom (questionAt P) n 12) eq ∙ hq)
-    ∙ ap (answersOf P qs a) (ap (λ (n : ℕ). listFrom (recordAt P) n a) ea ∙ ha)
-    ∙ ap (authoritiesOf P qs an a b) (ap (λ (n : ℕ). listFrom (recordAt P) n b) en ∙ hn)
-    ∙ ap (additionalsOf P qs an ns a b c) (ap (λ (n : ℕ). listFrom (recordAt P) n c) er ∙ hr)
-    ∙ λ j. read
+    let questions : listFrom (questionAt P) (word16 P 4) 12 ≡ listing qs a = ap (λ (n : ℕ). listFrom (questionAt P) n 12) eq ∙ hq in
+    let answers : listFrom (recordAt P) (word16 P 6) a ≡ listing an b = ap (λ (n : ℕ). listFrom (recordAt P) n a) ea ∙ ha in
+    let authorities : listFrom (recordAt P) (word16 P 8) b ≡ listing ns c = ap (λ (n : ℕ). listFrom (recordAt P) n b) en ∙ hn in
+    let additionals : listFrom (recordAt P) (word16 P 10) c ≡ listing ar d = ap (λ (n : ℕ). listFrom (recordAt P) n c) er ∙ hr in
+    simp (le-ltb (length P) 12 long, le-ltb 8972 (length P) most, ap plainHeader ef ∙ plain, questions, answers, authorities, additionals)
+    (λ j. read
     (record {
       id = ei j;
       flags = ef j;

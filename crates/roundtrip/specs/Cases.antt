@@ -5,7 +5,8 @@ use mathlib.Core.List.{[], _∷_}
 use mathlib.Core.Bool.{true, false}
 use lib.ListN.{replicate}
 use Rattle.own.specs.declared.records.Setup.{Setup}
-use Rattle.own.specs.declared.records.Claim.the-variants.{Instance, Host}
+use Rattle.claims.specs.records.Sets.{recordsOf}
+use Rattle.claims.specs.declared.records.Claim.the-variants.{Instance, Host}
 use Rattle.own.specs.records.Setups.{validSetup}
 use Rattle.writer.specs.own_packets.Own.{responsePacket, probePacket}
 
@@ -31,7 +32,7 @@ SampleValid = validSetup sample ≡ true
 -- `announced`: "dock.local, 10.0.0.7 announced, 38 bytes"
 abbrev pub Announced : Type 0
 Announced =
-    responsePacket sample (false ∷ false ∷ false ∷ true ∷ false ∷ [])
+    responsePacket sample (recordsOf Host false)
     ≡ 0x00 ∷ 0x00 ∷ 0x84 ∷ 0x00 ∷ 0x00 ∷ 0x00 ∷ 0x00 ∷ 0x01 ∷ 0x00 ∷ 0x00 ∷ 0x00 ∷ 0x00
     ∷ 0x04 ∷ 0x64 ∷ 0x6f ∷ 0x63 ∷ 0x6b ∷ 0x05 ∷ 0x6c ∷ 0x6f ∷ 0x63 ∷ 0x61 ∷ 0x6c ∷ 0x00
     ∷ 0x00 ∷ 0x01 ∷ 0x80 ∷ 0x01 ∷ 0x00 ∷ 0x00 ∷ 0x00 ∷ 0x78 ∷ 0x00 ∷ 0x04 ∷ 0x0a ∷ 0x00 ∷ 0x00 ∷ 0x07 ∷ []

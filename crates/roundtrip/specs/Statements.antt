@@ -3,12 +3,13 @@
 use Prim.Native.Nat.{ℕ, _≤_}
 use mathlib.Core.Path.{_≡_}
 use mathlib.Core.List.{List, [], _++_}
-use mathlib.Core.Bool.{Bool, true}
+use mathlib.Core.Bool.{true}
 use lib.ListN.{length}
 use Rattle.wire.specs.message.Message.{Message}
 use Rattle.wire.specs.message.Layout.{read, messageAt}
+use Rattle.claims.specs.declared.records.Claim.{Claim}
+use Rattle.claims.specs.declared.records.Set.{Set}
 use Rattle.own.specs.declared.records.Setup.{Setup}
-use Rattle.own.specs.declared.records.Claim.{Claim}
 use Rattle.own.specs.records.Setups.{validSetup}
 use Rattle.writer.specs.own_packets.Packets.{packetOf, written}
 use Rattle.writer.specs.own_packets.Own.{responseRecords, responseOf, probeOf, responsePacket, probePacket}
@@ -31,7 +32,7 @@ MessageComposed = (m : Message) → Writable m → Composed (written m)
 -- `response-back`: a response of any records that the set-up has, at least one, is read as exactly those, "in the order PTR, SRV, TXT, A, AAAA"
 abbrev pub ResponseBack : Type 0
 ResponseBack =
-    (s : Setup) → validSetup s ≡ true → (chosen : List Bool) → (responseRecords s chosen ≡ [] → ⊥)
+    (s : Setup) → validSetup s ≡ true → (chosen : Set) → (responseRecords s chosen ≡ [] → ⊥)
     → messageAt (responsePacket s chosen) ≡ read (layoutOf (responseOf s chosen)) (responseOf s chosen)
 
 -- `probe-back`: a claim's probe is read as "one question (type 255, class 1) with the claim's records in Authority, by rising type"
@@ -41,10 +42,10 @@ ProbeBack = (s : Setup) → validSetup s ≡ true → (claim : Claim) → messag
 -- `packets-fit`: "All five always fit in 1,452 bytes"; any response and any probe has at most 1,009
 abbrev pub PacketsFit : Type 0
 PacketsFit =
-    (s : Setup) → validSetup s ≡ true → (chosen : List Bool) (claim : Claim)
+    (s : Setup) → validSetup s ≡ true → (chosen : Set) (claim : Claim)
     → (length (responsePacket s chosen) ≤ 1009) × (length (probePacket s claim) ≤ 1009)
 
 -- `own-composed`: their names are cut as the sentence says
 abbrev pub OwnComposed : Type 0
 OwnComposed =
-    (s : Setup) → validSetup s ≡ true → (chosen : List Bool) (claim : Claim) → Composed (written (responseOf s chosen)) × Composed (written (probeOf s claim))
+    (s : Setup) → validSetup s ≡ true → (chosen : Set) (claim : Claim) → Composed (written (responseOf s chosen)) × Composed (written (probeOf s claim))

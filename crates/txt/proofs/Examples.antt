@@ -5,7 +5,8 @@ use Prim.Native.Nat.{ℕ}
 use Rattle.wire.specs.case_folding.Fold.{sameName}
 use Rattle.wire.specs.rdata.Rdata.{stringsFill}
 use Rattle.txt.specs.Txt.{stringsFrom, keyOf, valueOf, hasKey, firstWith}
-use Rattle.txt.specs.Lookup.{anyBad, badKey, refusalOf, givenBy, inTxt, lookupOf}
+use Rattle.wire.specs.Lists.{some as someOf}
+use Rattle.txt.specs.Lookup.{badKey, refusalOf, givenBy, inTxt, lookupOf}
 use Rattle.txt.specs.declared.Buffer.{Buffer}
 use Rattle.txt.specs.declared.Buffer.the-variants.{Received, Factory}
 use Rattle.txt.specs.declared.Answer.{Answer}
@@ -61,5 +62,5 @@ Cases =
     × (lookupOf (97 ∷ []) (5 ∷ twoEquals) (1 ∷ []) ≡ Refused 6)
 
 pub evaluated : Cases
-unfolding lookupOf refusalOf badKey anyBad stringsFill inTxt firstWith stringsFrom hasKey keyOf valueOf givenBy sameName
+unfolding lookupOf refusalOf badKey someOf stringsFill inTxt firstWith stringsFrom hasKey keyOf valueOf givenBy sameName
 evaluated = (refl, refl, refl, refl, refl, refl, refl, refl, refl)

@@ -1,7 +1,7 @@
 -- The refusal and the answer of a lookup, by what was found on the way. Assumes nothing.
 use mathlib.Core.Path.{_≡_, refl, sym, _∙_}
 use mathlib.Core.List.{List, [], _∷_}
-use mathlib.Core.Bool.{Bool, true, false, cond, _&&_}
+use mathlib.Core.Bool.{Bool, true, false, cond, not, _&&_}
 use Prim.Native.Nat.{ℕ, zero, suc}
 use native.Mathlib.Omega.{arith}
 use types.Run.{OneOf, miss}
@@ -31,7 +31,7 @@ module _ (key received factory : List ℕ) where
   not-refused e r f = simp (e, r, f)
 
 -- what is not refused is well formed
-both-fill : (a b c : Bool) → _≡_ {A = ℕ} (cond a 9 (cond (b && c) 0 6)) 0 → (b ≡ true) × (c ≡ true)
+both-fill : (a b c : Bool) → _≡_ {A = ℕ} (cond a 9 (cond (not (b && c)) 6 0)) 0 → (b ≡ true) × (c ≡ true)
 both-fill true b c e = absurd (omega arith)
 both-fill false true true e = (refl, refl)
 both-fill false true false e = absurd (omega arith)

@@ -3,9 +3,11 @@
 use Prim.Native.Nat.{ℕ, zero, suc, _+_}
 use mathlib.Core.List.{List, [], _∷_}
 use mathlib.Core.Option.{Option, none, some}
-use mathlib.Core.Bool.{Bool, false, cond, _&&_, _||_}
+use mathlib.Core.Bool.{Bool, not, _&&_, _||_}
 use lib.ListN.{length, take, drop}
 use lib.Dec.{ltb, eqb}
+use Rattle.wire.specs.Lists.{some as someOf}
+use Rattle.wire.specs.refusals.Numbers.{MALFORMED, KEY, firstRefusal}
 use Rattle.wire.specs.rdata.Rdata.{stringsFill}
 use Rattle.txt.specs.Txt.{Text, text, strings, keyOf, valueOf, firstWith}
 use Rattle.txt.specs.declared.Buffer.{Buffer}
@@ -18,16 +20,16 @@ use Rattle.txt.specs.declared.Answer.the-variants.{Refused, Absent, Pres
 abbrev pub badByte : ℕ → Bool
 badByte b = ltb b 32 || (ltb 126 b || eqb b 61)
 
-unfoldable pub anyBad : List ℕ → Bool
-anyBad [] = false
-anyBad (b ∷ bs) = badByte b || anyBad bs
-
 unfoldable pub badKey : List ℕ → Bool
-badKey key = eqb (length key) 0 || anyBad key
+badKey key = eqb (length key) 0 || someOf badByte key
 
--- The number of the refusal, 0 for none. The lookup "tests 9 first"; refusal 6: "Both must be well formed", whichever would have answered.
+-- Refusal 6: "Both must be well formed", whichever would have answered
+abbrev pub badTxt : List ℕ → List ℕ → Bool
+badTxt received factory = not (stringsFill 0 received && stringsFill 0 factory)
+
+-- The refusals of a lookup, which "tests 9 first".
 unfoldable pub refusalOf : List ℕ → List ℕ → List ℕ → ℕ
-refusalOf key received factory = cond (badKey key) 9 (cond (stringsFill 0 received && stringsFill 0 factory) 0 6)
+refusalOf key received factory = firstRefusal ((KEY, badKey key) ∷ ((MALFORMED, badTxt received factory) ∷ []))
 
 -- "present without value, empty value, or the value itself": a value of so many bytes that starts at `at` of a buffer
 abbrev pub valued : Buffer → ℕ → Option (List ℕ) → Answer

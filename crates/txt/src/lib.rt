@@ -9,12 +9,6 @@ ghost use Rattle.wire.specs.rdata.Rdata.{stringsFill};
 ghost use Rattle.txt.specs.Txt.{keyOf, hasKey};
 ghost use Rattle.txt.specs.Lookup.{badByte, badKey, refusalOf, givenBy, inTxt, lookupOf, numberOf, shownOf, bytesOf, startOf};
 
-// Refusal 6: a TXT is malformed.
-pub const MALFORMED: u8 = 6;
-
-// Refusal 9: the key asked for is empty, or has a byte that no key has.
-pub const BAD_KEY: u8 = 9;
-
 // Which of the two TXTs.
 pub enum Buffer {
     Received,
@@ -72,13 +66,13 @@ fn refusal(key: &[u8], received: &[u8], factory: &[u8]) -> u8
     ensures { λ r. ⌜ r ≡ refusalOf (now (key .entry)) (now (received .entry)) (now (factory .entry)) ⌝ }
 {
     if bad_key(key) {
-        return BAD_KEY;
+        return wire::refusals::KEY;
     }
     if !wire::rdata::strings_fill(received) {
-        return MALFORMED;
+        return wire::refusals::MALFORMED;
     }
     if !wire::rdata::strings_fill(factory) {
-        return MALFORMED;
+        return wire::refusals::MALFORMED;
     }
     0
 }
@@ -160,8 +154,10 @@ pub fn lookup(key: &[u8], received: &[u8], factory: &[u8]) -> Answer
 
 // The value that a key shows, as a part of the buffer that held it; where there is none, the empty part at the received TXT's start.
 pub fn shown<'a>(key: &[u8], received: &'a [u8], factory: &'a [u8]) -> &'a [u8]
-    ensures bytes { λ r. ⌜ now r ≡ bytesOf (shownOf (now (key .entry)) (now (received .entry)) (now (factory .entry))) (now (received .entry)) (now (factory .entry)) ⌝ }
-    ensures start { λ r. ⌜ ptr r ≡ startOf (shownOf (now (key .entry)) (now (received .entry)) (now (factory .entry))) (ptr (received .entry)) (ptr (factory .entry)) ⌝ }
+    ensures bytes { λ r. ⌜ (let held : Held = shownOf (now (key .entry)) (now (received .entry)) (now (factory .entry)) in
+        now r ≡ bytesOf held (now (received .entry)) (now (factory .entry))) ⌝ }
+    ensures start { λ r. ⌜ (let held : Held = shownOf (now (key .entry)) (now (received .entry)) (now (factory .entry)) in
+        ptr r ≡ startOf held (ptr (received .entry)) (ptr (factory .entry))) ⌝ }
 {
     match lookup(key, received, factory) {
         Answer::Value(held) => {

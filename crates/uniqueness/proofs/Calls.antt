@@ -12,12 +12,14 @@ use Rattle.wire.specs.message.Message.{Message}
 use Rattle.wire.specs.message.Layout.{Reads, read, refused, messageAt}
 use Rattle.own.specs.declared.records.Setup.{Setup}
 use Rattle.own.specs.records.Setups.{validSetup}
-use Rattle.claims.specs.Time.{lastTime, afterMs}
+use Rattle.claims.specs.Time.{lastTime, lastKept, afterMs}
 use Rattle.claims.specs.Claims as claims
 use Rattle.claims.specs.Refusals.{lateStart, wrongTime, wrongStartDraw, kept}
-use Rattle.claims.specs.Records.{Own, PTR, SRV, TXT, A, AAAA}
+use Rattle.claims.proofs.records.Sets.{sent-each}
+use Rattle.claims.specs.declared.records.Own.{Own}
+use Rattle.claims.specs.declared.When.the-variants.{Never}
 use Rattle.claims.proofs.Times.{after-exact}
-use Rattle.claims.specs.declared.Life.{Life}
+use Rattle.claims.specs.declared.Progress.{Progress}
 use Rattle.claims.specs.declared.steps.Output.{Output}
 use Rattle.claims.specs.declared.steps.Output.the-variants.{Response}
 use Rattle.writer.specs.own_packets.Own.{unlessRefused}
@@ -31,8 +33,8 @@ use Rattle.responder.proofs.Reading.{Proper, proper}
 use Rattle.link.specs.Responder as link
 use Rattle.link.specs.Responder.{Claim, instance, host}
 use Rattle.link.specs.Laws as law
-use Rattle.uniqueness.specs.Responder.{kindOf, recordOf, begunBy, answeredBy, start, tick, receive, messageOf, readAs, responder}
-use Rattle.uniqueness.specs.Rules.{messagesFor, with, told, ticks, hears, stageOf, timeIn, Of, Ready, rules}
+use Rattle.uniqueness.specs.Responder.{ownClaim, recordOf, begunBy, answeredBy, start, tick, receive, messageOf, readAs, responder}
+use Rattle.uniqueness.specs.Rules.{messagesFor, with, told, ticks, hears, stageOf, timeOf, timeIn, Of, Ready, rules}
 use Rattle.uniqueness.proofs.Lists.{clash}
 use Rattle.uniqueness.proofs.Messages.{output-reads}
 
@@ -43,13 +45,13 @@ not-false : (b : Bool) → not b ≡ false → b ≡ true
 not-false true h = refl
 not-false false h = clash (cc)
 
-in-time : (life : Life) (now : ℕ) → wrongTime life now ≡ false → now ≤ lastTime
+in-time : (progress : Progress) (now : ℕ) → wrongTime progress now ≡ false → now ≤ lastTime
 unfolding wrongTime
-in-time life now h = ltb-false lastTime now (neither (lateStart now) (ltb now (life .last) || not (kept 4611686018427389904 life)) .0 h .0)
+in-time progress now h = ltb-false lastTime now (neither (lateStart now) (ltb now (progress .last) || not (kept lastKept progress)) .0 h .0)
 
 pub right-setup : (x : State) → wrongState x ≡ false → validSetup (x .setup) ≡ true
 unfolding wrongState
-right-setup x h = not-false (validSetup (x .setup)) (neither (not (validSetup (x .setup))) (wrongStartDraw (x .life .draw)) .0 h .0)
+right-setup x h = not-false (validSetup (x .setup)) (neither (not (validSetup (x .setup))) (wrongStartDraw (x .progress .draw)) .0 h .0)
 
 -- ---- a call that is not refused
 
@@ -68,28 +70,24 @@ accepted-by (suc n) x p y ps e =
 
 -- ---- a start
 
-abbrev startLife : Setup → ℕ → ℕ → State
-startLife s now draw = record { setup = s; life = claims.startOf now draw }
+abbrev begunState : Setup → ℕ → ℕ → State
+begunState s now draw = record { setup = s; progress = claims.startOf now draw }
 
-begun-by : (n : ℕ) (s : Setup) (now draw : ℕ) (x : State) → begunBy (answerOf n []) (startState n s now draw) ≡ some x → (n ≡ 0) × (x ≡ startLife s now draw)
+begun-by : (n : ℕ) (s : Setup) (now draw : ℕ) (x : State) → begunBy (answerOf n []) (startState n s now draw) ≡ some x → (n ≡ 0) × (x ≡ begunState s now draw)
 begun-by zero s now draw x e = (refl, cc)
 begun-by (suc n) s now draw x e =
     let z : none ≡ some x = sym (ap (λ (b : Bool). begunBy (cond b Quiet (Refused (suc n))) (startState (suc n) s now draw)) (positive n)) ∙ e in
     clash (cc)
 
-waiting-at : (s : Setup) (now draw : ℕ) (k : Claim) → stageOf (claims.claimOf (kindOf k) (startLife s now draw .life)) ≡ law.waiting (afterMs now draw)
+waiting-at : (s : Setup) (now draw : ℕ) (k : Claim) → stageOf (claims.claimOf (ownClaim k) (begunState s now draw .progress)) ≡ law.waiting (afterMs now draw)
 unfolding claims.startOf
 waiting-at s now draw instance = refl
 waiting-at s now draw host = refl
 
-silent-at : (s : Setup) (now draw : ℕ) (o : Option Own) → timeIn (startLife s now draw .life .sent) o ≡ none
+silent-at : (s : Setup) (now draw : ℕ) (o : Option Own) → timeIn (begunState s now draw .progress .sent) o ≡ none
 unfolding claims.startOf
 silent-at s now draw none = refl
-silent-at s now draw (some PTR) = refl
-silent-at s now draw (some SRV) = refl
-silent-at s now draw (some TXT) = refl
-silent-at s now draw (some A) = refl
-silent-at s now draw (some AAAA) = refl
+silent-at s now draw (some r) = ap timeOf (sent-each (λ o. Never) r)
 
 pub begun : (s : Setup) (now draw : ℕ) (x : State) → start s now draw ≡ some x → law.Begun responder rules s now x
 unfolding start startOf
@@ -102,9 +100,9 @@ begun s now draw x e =
     record {
       of = subst (λ (y : State). Of y s) (sym (b .1)) (record { setup = refl; valid = a .right });
       due = λ k. now + draw;
-      waits = λ k. ap (λ (y : State). stageOf (claims.claimOf (kindOf k) (y .life))) (b .1) ∙ waiting-at s now draw k ∙ ap law.waiting exact;
+      waits = λ k. ap (λ (y : State). stageOf (claims.claimOf (ownClaim k) (y .progress))) (b .1) ∙ waiting-at s now draw k ∙ ap law.waiting exact;
       soon = λ k. omega (arith, d);
-      silent = λ k type. ap (λ (y : State). timeIn (y .life .sent) (recordOf k type)) (b .1) ∙ silent-at s now draw (recordOf k type);
+      silent = λ k type. ap (λ (y : State). timeIn (y .progress .sent) (recordOf k type)) (b .1) ∙ silent-at s now draw (recordOf k type);
     }
 
 -- ---- a tick
@@ -113,7 +111,7 @@ ticked-packet : (x : State) (now room : ℕ) → tickRefusal x now room ≡ 0 �
 unfolding tickedPacket
 ticked-packet x now room h = simp h
 
-pub ticked-state : (x : State) (now room : ℕ) → tickRefusal x now room ≡ 0 → tickOf x now room .state ≡ with x (walkedOf x now .life)
+pub ticked-state : (x : State) (now room : ℕ) → tickRefusal x now room ≡ 0 → tickOf x now room .state ≡ with x (walkedOf x now .progress)
 unfolding tickOf
 ticked-state x now room h = simp h
 
@@ -129,7 +127,7 @@ ticked s x now room y ps of e =
     let w = tick-is x now room y ps e in
     let a : TickAccepted x now room = tick-accepted x now room (w .none-refused) in
     let p : ps ≡ packets (packetFor (x .setup) (walkedOf x now .output)) = w .sent ∙ ap packets (ticked-packet x now room (w .none-refused)) in (
-      record { of = of; time = in-time (x .life) now (a .time) },
+      record { of = of; time = in-time (x .progress) now (a .time) },
       record {
         state = w .state ∙ ticked-state x now room (w .none-refused);
         packets = subst (λ (l : List (List ℕ)). law.ReadAs readAs l (messagesFor (x .setup) (walkedOf x now .output))) (sym p) (output-reads (x .setup) (of .valid) (walkedOf x now .output));
@@ -144,7 +142,7 @@ unfolding receivedPacket
 received-packet x now port draw p room h = simp h
 
 received-state : (x : State) (now port draw : ℕ) (p : List ℕ) (room : ℕ) → receiveRefusal x now port draw p room ≡ 0
-    → receiveOf x now port draw p room .state ≡ with x (heardOf x now draw (messageAt p) .life)
+    → receiveOf x now port draw p room .state ≡ with x (heardOf x now draw (messageAt p) .progress)
 unfolding receiveOf
 received-state x now port draw p room h = simp h
 
@@ -184,13 +182,13 @@ received s x now port draw p room y ps of e =
     let o : Output = Response (told x now draw (m .0) .answers) in
     let sent : ps ≡ packets (packetFor (x .setup) o) =
     w .sent ∙ ap packets (received-packet x now port draw p room (w .none-refused)) ∙ ap (λ r. packets (packetFor (x .setup) (Response (r .answers)))) h in (
-      record { of = of; time = in-time (x .life) now (a .time) },
+      record { of = of; time = in-time (x .progress) now (a .time) },
       q .1,
       (
         m .0,
         m .1,
         record {
-          state = w .state ∙ received-state x now port draw p room (w .none-refused) ∙ ap (λ r. with x (r .life)) h;
+          state = w .state ∙ received-state x now port draw p room (w .none-refused) ∙ ap (λ r. with x (r .progress)) h;
           packets = subst (λ (l : List (List ℕ)). law.ReadAs readAs l (messagesFor (x .setup) o)) (sym sent) (output-reads (x .setup) (of .valid) o);
         },
       ),

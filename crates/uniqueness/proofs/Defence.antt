@@ -10,71 +10,62 @@ use Rattle.wire.specs.case_folding.Fold.{sameName}
 use Rattle.wire.specs.message.Message.{Question, Message, isResponse}
 use Rattle.own.specs.declared.records.Setup.{Setup}
 use Rattle.own.specs.records.Setups.{validSetup}
-use Rattle.own.specs.records.Records.{hasRecord, ownName, ownType, ownRdata, ownTtl}
-use Rattle.claims.specs.Time.{lastTime, recently}
+use Rattle.own.specs.records.Records.{hasRecord, ownName}
+use Rattle.claims.specs.Time.{lastTime, recently, sentOf}
 use Rattle.claims.specs.Claims.{claimOf, heldNow}
-use Rattle.claims.specs.Records.{Own, PTR, SRV, TXT, A, AAAA, has, sentOf, claimFor, present}
+use Rattle.claims.specs.records.Own.{ownType, claimFor, has}
+use Rattle.claims.proofs.records.Sets.{has-each}
+use Rattle.claims.specs.declared.records.Claim as own
+use Rattle.claims.specs.declared.records.Own.{Own}
 use Rattle.claims.proofs.Times.{recently-after}
-use Rattle.claims.specs.declared.Kind.{Kind}
-use Rattle.claims.specs.declared.Sent.{Sent}
-use Rattle.claims.specs.declared.Sent.the-variants.{Never, At}
-use Rattle.claims.specs.declared.Records.{Records}
-use Rattle.facts.specs.probe.Probe.{some as someOf, isProbe}
-use Rattle.claims.specs.answers.Answers.{wantedOf, gapOf}
+use Rattle.claims.specs.declared.When.{When}
+use Rattle.claims.specs.declared.When.the-variants.{Never, At}
+use Rattle.claims.specs.declared.records.Set.{Set}
+use Rattle.wire.specs.Lists.{some as someOf}
+use Rattle.facts.specs.probe.Probe.{isProbe}
+use Rattle.claims.specs.answers.Answers.{heardFor, wantedOf, gapOf}
 use Rattle.claims.specs.declared.answers.Heard.{Heard}
 use Rattle.claims.specs.declared.answers.Facts.{Facts}
-use Rattle.claims.proofs.answers.Causes.{heardFor, IsDue, Cause, left-out-for-a-cause, at-once}
-use Rattle.facts.specs.Facts.{asksFor, isAsked, suppresses, isKnown, each, queryTo, queryFacts, factsOf}
-use Rattle.writer.specs.own_packets.Own.{probeOf, claimIndex}
+use Rattle.claims.proofs.answers.Causes.{IsDue, Cause, left-out-for-a-cause, at-once}
+use Rattle.facts.specs.Facts.{isAsked, isKnown, queryFacts, factsOf}
+use Rattle.writer.specs.own_packets.Own.{probeOf}
 use Rattle.responder.specs.declared.State.{State}
 use Rattle.link.specs.Responder.{Claim, instance, host}
 use Rattle.link.specs.Laws as law
-use Rattle.uniqueness.specs.Responder.{kindOf, ownClaim, indexOf, recordOf, rdata, name, responder}
+use Rattle.uniqueness.specs.Responder.{ownClaim, recordOf, rdata, name, responder}
 use Rattle.uniqueness.specs.Rules.{told, stageOf, claimAt, timeOf, timeIn, rules}
 use Rattle.uniqueness.proofs.Lists.{clash, never, or-right}
-use Rattle.uniqueness.proofs.Owned.{Owned, srv, txt, a, aaaa, owned, Has, has-data, own-kind, own-owner, not-ptr, is-present}
+use Rattle.uniqueness.proofs.Owned.{Owned, srv, txt, a, aaaa, owned, Has, has-data, own-claim, own-owner, own-at-once, is-present}
 use Rattle.uniqueness.proofs.Data.{no-response, is-probe}
 use Rattle.uniqueness.proofs.Hearing.{query-facts, query-heard}
 use Rattle.uniqueness.proofs.Facts.{held-stage}
 use Rattle.uniqueness.proofs.Moves.{multicast}
 
 -- what a query says of one record
-asked-of : (r : Own) (s : Setup) (m : Message) → has r (queryFacts s m .asked) ≡ isAsked s (indexOf r) m
+asked-of : (r : Own) (s : Setup) (m : Message) → has r (queryFacts s m .asked) ≡ isAsked s r m
 unfolding queryFacts
-asked-of PTR s m = refl
-asked-of SRV s m = refl
-asked-of TXT s m = refl
-asked-of A s m = refl
-asked-of AAAA s m = refl
+asked-of r s m = has-each (λ o. isAsked s o m) r
 
-known-of : (r : Own) (s : Setup) (m : Message) → has r (queryFacts s m .known) ≡ isKnown s (indexOf r) m
+known-of : (r : Own) (s : Setup) (m : Message) → has r (queryFacts s m .known) ≡ isKnown s r m
 unfolding queryFacts
-known-of PTR s m = refl
-known-of SRV s m = refl
-known-of TXT s m = refl
-known-of A s m = refl
-known-of AAAA s m = refl
+known-of r s m = has-each (λ o. isKnown s o m) r
 
 -- a probe knows no answer
-knows-none : (t : Setup) (k : Claim) (s : Setup) (i : ℕ) → isKnown s i (probeOf t (ownClaim k)) ≡ false
+knows-none : (t : Setup) (k : Claim) (s : Setup) (r : Own) → isKnown s r (probeOf t (ownClaim k)) ≡ false
 unfolding isKnown probeOf someOf
-knows-none t k s i = refl
-
-index : (t : Setup) (k : Claim) → ownName t (claimIndex (ownClaim k)) ≡ name t k
-index t instance = refl
-index t host = refl
+knows-none t k s r = refl
 
 type-any : (b : Bool) → ((b || true) && true) ≡ true
 type-any true = refl
 type-any false = refl
 
 -- it asks for every record of the claim
-asks-all : (t s : Setup) (k : Claim) (type : ℕ) (r : Own) → Owned k type r → sameName (name t k) (name s k) ≡ true → isAsked s (indexOf r) (probeOf t (ownClaim k)) ≡ true
+asks-all : (t s : Setup) (k : Claim) (type : ℕ) (r : Own) → Owned k type r → sameName (name t k) (name s k) ≡ true → isAsked s r (probeOf t (ownClaim k)) ≡ true
 unfolding isAsked probeOf someOf
-asks-all t s k type r o n = rw (index t k, own-owner s k type r o, n, type-any (eqb 255 (ownType (indexOf r)))) refl
+asks-all t s k type r o n = rw (own-owner s k type r o, n, type-any (eqb 255 (ownType r))) refl
 
 -- a record that was multicast lately
-lately : (v : Sent) (now gap : ℕ) → recently v now gap ≡ true → (u : ℕ) × (timeOf v ≡ some u) × (now < u + gap)
+lately : (v : When) (now gap : ℕ) → recently v now gap ≡ true → (u : ℕ) × (timeOf v ≡ some u) × (now < u + gap)
 lately Never now gap h = never h
 lately (At u) now gap h = (u, refl, recently-after (At u) u now gap refl h)
 
@@ -93,7 +84,7 @@ module _ (x : State) (ok : validSetup (x .setup) ≡ true) (now : ℕ) (time : n
       → rdata (x .setup) k type ≡ some d
       → rules .stage x k ≡ law.held
       → law.Multicasts responder rules (x .setup) x now (law.hears draw m) k type ⊎ ((u : ℕ) × (rules .multicast x k type ≡ some u) × (now < u + 250))
-  defends n e h = go (has r (wantedOf (x .life) f now (x .setup .hasaaaa))) refl
+  defends n e h = go (has r (wantedOf (x .progress) f now (x .setup .hasaaaa))) refl
     where
       w : Has (x .setup) k type d
       w = has-data (x .setup) k type d e
@@ -104,39 +95,39 @@ module _ (x : State) (ok : validSetup (x .setup) ≡ true) (now : ℕ) (time : n
       o : Owned k type (w .own)
       o = owned k type (w .own) (w .is)
 
-      kind : claimFor (w .own) ≡ kindOf k
-      kind = own-kind k type (w .own) o
+      claim : claimFor (w .own) ≡ ownClaim k
+      claim = own-claim k type (w .own) o
 
-      held-then : heldNow (claimOf (claimFor (w .own)) (x .life)) ≡ true
-      held-then = subst (λ (j : Kind). heldNow (claimOf j (x .life)) ≡ true) (sym kind) (held-stage (claimAt x k) h)
+      held-then : heldNow (claimOf (claimFor (w .own)) (x .progress)) ≡ true
+      held-then = subst (λ (j : own.Claim). heldNow (claimOf j (x .progress)) ≡ true) (sym claim) (held-stage (claimAt x k) h)
 
-      is-due : IsDue (x .life) now f (x .setup .hasaaaa) (w .own)
+      is-due : IsDue (x .progress) now f (x .setup .hasaaaa) (w .own)
       is-due =
           record {
-            query = ap (λ (g : Facts). g .response) facts ∙ query-heard (kindOf k) (x .setup) m .0;
+            query = ap (λ (g : Facts). g .response) facts ∙ query-heard (ownClaim k) (x .setup) m .0;
             held = held-then;
             there = sym (is-present (x .setup) (w .own)) ∙ w .there;
             asked = ap (λ (g : Facts). has (w .own) (g .asked)) facts ∙ asked-of (w .own) (x .setup) m ∙ asks-all t (x .setup) k type (w .own) o n;
           }
 
       unknown : has (w .own) (f .known) ≡ false
-      unknown = ap (λ (g : Facts). has (w .own) (g .known)) facts ∙ known-of (w .own) (x .setup) m ∙ knows-none t k (x .setup) (indexOf (w .own))
+      unknown = ap (λ (g : Facts). has (w .own) (g .known)) facts ∙ known-of (w .own) (x .setup) m ∙ knows-none t k (x .setup) (w .own)
 
       probe : heardFor (claimFor (w .own)) f .probe ≡ true
       probe =
-          ap (λ (j : Kind). heardFor j f .probe) kind ∙ ap (λ (g : Facts). heardFor (kindOf k) g .probe) facts
-          ∙ ap (λ (g : Heard). g .probe) (query-heard (kindOf k) (x .setup) m .1) ∙ is-probe t (x .setup) k n
+          ap (λ (j : own.Claim). heardFor j f .probe) claim ∙ ap (λ (g : Facts). heardFor (ownClaim k) g .probe) facts
+          ∙ ap (λ (g : Heard). g .probe) (query-heard (ownClaim k) (x .setup) m .1) ∙ is-probe t (x .setup) k n
 
-      recent : Cause (x .life) now f (x .setup .hasaaaa) (w .own) → recently (sentOf (w .own) (x .life .sent)) now 250 ≡ true
+      recent : Cause (x .progress) now f (x .setup .hasaaaa) (w .own) → recently (sentOf (w .own) (x .progress .sent)) now 250 ≡ true
       recent (inl known) = never (sym unknown ∙ known)
-      recent (inr late) = subst (λ (b : Bool). recently (sentOf (w .own) (x .life .sent)) now (gapOf b) ≡ true) probe late
+      recent (inr late) = subst (λ (b : Bool). recently (sentOf (w .own) (x .progress .sent)) now (gapOf b) ≡ true) probe late
 
-      go : (b : Bool) → has (w .own) (wantedOf (x .life) f now (x .setup .hasaaaa)) ≡ b
+      go : (b : Bool) → has (w .own) (wantedOf (x .progress) f now (x .setup .hasaaaa)) ≡ b
           → law.Multicasts responder rules (x .setup) x now (law.hears draw m) k type ⊎ ((u : ℕ) × (rules .multicast x k type ≡ some u) × (now < u + 250))
       go true g =
           inl
           (multicast x ok now time (law.hears draw m) (told x now draw m .answers) refl k type (w .own) (w .is)
-          (at-once (x .life) now f (x .setup .hasaaaa) draw (w .own) (not-ptr k type (w .own) o) ∙ g) (w .there))
+          (at-once (x .progress) now f (x .setup .hasaaaa) draw (w .own) (own-at-once k type (w .own) o) ∙ g) (w .there))
       go false g =
-          let l = lately (sentOf (w .own) (x .life .sent)) now 250 (recent (left-out-for-a-cause (x .life) now f (x .setup .hasaaaa) (w .own) is-due g)) in
-          inr (l .0, ap (timeIn (x .life .sent)) (w .is) ∙ l .1, l .2)
+          let l = lately (sentOf (w .own) (x .progress .sent)) now 250 (recent (left-out-for-a-cause (x .progress) now f (x .setup .hasaaaa) (w .own) is-due g)) in
+          inr (l .0, ap (timeIn (x .progress .sent)) (w .is) ∙ l .1, l .2)

@@ -13,26 +13,28 @@ use Rattle.wire.specs.name_pieces.Pieces.{pieceAt}
 use Rattle.wire.specs.names.Names.{nameAt, fromRun, readFrom}
 use Rattle.wire.specs.rdata.Rdata.{stringsFill, rdataIn, rdataAt}
 use Rattle.wire.specs.expansion.Equal.{sameBytes}
-use Rattle.wire.specs.message.Layout.{questionRead, recordRead, questionAt, recordAt, listFrom, messageAt}
+use Rattle.wire.specs.message.Layout.{questionRead, recordRead, questionAt, recordAt, listFrom, andThen, messageAt}
 use Rattle.writer.specs.compression.Compression.{standsAt, placeOf, cutFrom, nameBytes, starts, namePlaces}
 use Rattle.own.specs.declared.records.Setup.{Setup}
 use Rattle.own.specs.records.Setups.{labelFits, isLetter, isNameByte, nameBytes as lettersOnly, someLetter, hyphensApart, serviceRule, serviceFits, protocolFits, domainFits, txtFits, validSetup, serviceLabels, instanceLabels, hostLabels}
-use Rattle.own.specs.records.Records.{hasRecord, ownLabels, ownName, ownType, ownClass, ownTtl, srvRdata, ownRdata}
+use Rattle.own.specs.records.Records.{hasRecord, ownLabels, ownName, srvRdata, ownRdata}
 use Rattle.claims.specs.Time.{afterMs, markedAll}
 use Rattle.claims.specs.Claims as claims
-use Rattle.claims.specs.declared.Claim as life
-use Rattle.claims.specs.declared.Claim.the-variants.{Waiting, Probing1, Probing2, Probing3, Deferred, Announced, Held, Lost}
+use Rattle.claims.specs.records.Sets as sets
+use Rattle.claims.specs.declared.ClaimState.{ClaimState}
+use Rattle.claims.specs.declared.ClaimState.the-variants.{Waiting, Probing1, Probing2, Probing3, Deferred, Announced, Held, Lost}
 use Rattle.claims.specs.Refusals.{multicastsKept, kept, wrongTime}
-use Rattle.claims.specs.steps.Steps.{moreDue, stepOf, unsentOf}
+use Rattle.claims.specs.steps.Steps.{moreDue, actionOf, unsentOf}
 use Rattle.claims.specs.steps.Tick as steps
 use Rattle.facts.specs.tiebreak.Later.{compareNumbers, inTurn, compareRecords, insertBy, sortBy, tie}
-use Rattle.facts.specs.probe.Probe.{some as someOf, isProbe}
+use Rattle.wire.specs.Lists.{some as someOf}
+use Rattle.facts.specs.probe.Probe.{isProbe}
 use Rattle.facts.specs.tiebreak.Lists.{listUnder}
 use Rattle.claims.specs.answers.Answers as answers
-use Rattle.facts.specs.Facts.{isAsked, isKnown, conflicted, laterThan, responseFacts, queryFacts, factsOf}
+use Rattle.facts.specs.Facts.{isAsked, isKnown, conflicted, theirsLater, responseFacts, queryFacts, factsOf}
 use Rattle.writer.specs.Items.{putName, dataBytes, dataPlaces, putFields}
 use Rattle.writer.specs.own_packets.Packets.{packetOf}
-use Rattle.writer.specs.own_packets.Own.{ownRecord, picked, responseRecords, probeRecords, responseOf, probeOf, responsePacket, probePacket}
+use Rattle.writer.specs.own_packets.Own.{ownRecord, responseRecords, probeRecords, responseOf, probeOf, responsePacket, probePacket}
 use Rattle.responder.specs.Refusals.{wrongState, startRefusal, receiveRefusal, tickRefusal}
 use Rattle.responder.specs.Calls.{blank, startOf, packetFor, receivedPacket, receiveOf, tickedPacket, tickOf}
 use Rattle.responder.specs.declared.State.{State}
@@ -43,11 +45,11 @@ use Rattle.link.specs.Holding.{isAnd, anyOf, respondsFor, conflictsWith, defeat
 use Rattle.link.specs.Demand3.{Unopposed, holdingTime}
 use Rattle.link.specs.Witness.{every, someBelow, allOf, sameBytes as samePackets, ordered, atOneRate, owed, taken, allDelivered, allOnTime, meets}
 use Rattle.link.proofs.Witness.{met, below}
-use Rattle.uniqueness.specs.Responder.{start, tick, receive, due, responds, conflicts, defeats, responder}
+use Rattle.uniqueness.specs.Responder.{start, tick, receive, dueTimes, due, responds, conflicts, defeats, responder}
 use Rattle.uniqueness.specs.Example.{setupOf, one, other, alone, contest, rivals}
 
 -- the claim is lost; the instance claim of a state is
-abbrev pub isLost : life.Claim → Bool
+abbrev pub isLost : ClaimState → Bool
 isLost (Waiting u) = false
 isLost (Probing1 u) = false
 isLost (Probing2 u) = false
@@ -58,7 +60,7 @@ isLost Held = false
 isLost Lost = true
 
 abbrev pub lostBy : State → Bool
-lostBy x = isLost (x .life .instance)
+lostBy x = isLost (x .progress .instance)
 
 -- of responder d with the set-up s, for a claim: among the first n entries it hears nothing that contradicts it, and it holds the name after them
 abbrev Holds : List (Entry responder) → ℕ → Setup → Claim → ℕ → Type 0
@@ -100,7 +102,7 @@ Seen =
     × (acceptedAt responder rivals 35 ≡ false)
 
 seen : Seen
-unfolding setupOf alone contest rivals holds writes hears anyOf respondsFor conflictsWith defeatsOf responds conflicts defeats meets ordered atOneRate owed taken allDelivered allOnTime every someBelow allOf samePackets entry clockOf ownerOf setupIn reply returned called after isAccepted packetsOf heardIn start tick receive due blank startOf packetFor receivedPacket receiveOf tickedPacket tickOf wrongState startRefusal receiveRefusal tickRefusal ownRecord picked responseRecords probeRecords responseOf probeOf responsePacket probePacket putName dataBytes dataPlaces putFields packetOf isAsked isKnown conflicted laterThan responseFacts queryFacts factsOf answers.heardOf answers.dueOf answers.omittedOf answers.without answers.wantedOf answers.receiveOf listUnder someOf isProbe compareNumbers inTurn compareRecords insertBy sortBy tie steps.sends steps.stepTurn steps.claimTurn steps.ptrReply steps.replyTurn steps.orHost steps.orReply steps.endedOf steps.tickOf moreDue stepOf unsentOf multicastsKept kept wrongTime claims.startOf afterMs markedAll hasRecord ownLabels ownName ownType ownClass ownTtl srvRdata ownRdata labelFits isLetter isNameByte lettersOnly someLetter hyphensApart serviceRule serviceFits protocolFits domainFits txtFits validSetup serviceLabels instanceLabels hostLabels standsAt placeOf cutFrom nameBytes starts namePlaces questionRead recordRead questionAt recordAt listFrom messageAt sameBytes stringsFill nameAt fromRun readFrom pieceAt sameName rdataAt rdataIn
+unfolding setupOf alone contest rivals holds writes hears anyOf respondsFor conflictsWith defeatsOf responds conflicts defeats meets ordered atOneRate owed taken allDelivered allOnTime every someBelow allOf samePackets entry clockOf ownerOf setupIn reply returned called after isAccepted packetsOf heardIn start tick receive dueTimes due blank startOf packetFor receivedPacket receiveOf tickedPacket tickOf wrongState startRefusal receiveRefusal tickRefusal ownRecord responseRecords probeRecords responseOf probeOf responsePacket probePacket putName dataBytes dataPlaces putFields packetOf isAsked isKnown conflicted theirsLater responseFacts queryFacts factsOf answers.heardOf answers.wantedOf answers.receiveOf listUnder someOf isProbe compareNumbers inTurn compareRecords insertBy sortBy tie steps.sends steps.actionTurn steps.claimTurn steps.ptrReply steps.replyTurn steps.stepTurn steps.walked steps.endedOf steps.tickOf moreDue actionOf unsentOf sets.someOf sets.everyOf sets.picked sets.only sets.anyOf sets.atOnce sets.recordsOf multicastsKept kept wrongTime claims.startOf afterMs markedAll hasRecord ownLabels ownName srvRdata ownRdata labelFits isLetter isNameByte lettersOnly someLetter hyphensApart serviceRule serviceFits protocolFits domainFits txtFits validSetup serviceLabels instanceLabels hostLabels standsAt placeOf cutFrom nameBytes starts namePlaces questionRead recordRead questionAt recordAt listFrom messageAt andThen sameBytes stringsFill nameAt fromRun readFrom pieceAt sameName rdataAt rdataIn
 seen =
     (refl, (refl, refl, refl, refl, refl), (refl, refl, refl), (refl, refl, refl), refl, refl, refl, refl, refl, refl, (refl, refl, refl, refl, refl), (refl, refl, refl), (refl, refl, refl), refl, refl, refl, refl, refl, refl)
 

@@ -6,31 +6,33 @@ use Prim.Native.Nat.{ℕ}
 use Rattle.wire.specs.message.Message.{Message, isResponse}
 use Rattle.own.specs.declared.records.Setup.{Setup}
 use Rattle.own.specs.records.Records.{hasRecord}
-use Rattle.claims.specs.Time.{afterMs, marked, markedAll}
+use Rattle.claims.specs.Time.{afterMs, sentOf, marked, markedAll}
 use Rattle.claims.specs.Claims.{heldNow}
-use Rattle.claims.specs.Records.{Own, PTR, SRV, TXT, A, AAAA, has, sentOf, claimFor}
-use Rattle.claims.specs.declared.Claim as life
-use Rattle.claims.specs.declared.Claim.the-variants.{Waiting, Probing1, Probing2, Probing3, Deferred, Announced, Held, Lost}
-use Rattle.claims.specs.declared.Kind.{Kind}
+use Rattle.claims.specs.records.Own.{has}
+use Rattle.claims.specs.records.Sets.{someOf, recordsOf, under}
+use Rattle.claims.proofs.records.Sets.{sent-each}
+use Rattle.claims.specs.declared.records.Claim as own
+use Rattle.claims.specs.declared.records.Own.{Own}
+use Rattle.claims.specs.declared.records.Own.the-variants.{Srv, Txt, A, Aaaa}
+use Rattle.claims.specs.declared.ClaimState.{ClaimState}
+use Rattle.claims.specs.declared.ClaimState.the-variants.{Waiting, Probing1, Probing2, Probing3, Deferred, Announced, Held, Lost}
 use Rattle.claims.specs.declared.Multicasts.{Multicasts}
-use Rattle.claims.specs.declared.Records.{Records}
-use Rattle.claims.specs.steps.Steps.{takenStep, recordsOf}
-use Rattle.claims.specs.steps.Tick.{under}
-use Rattle.claims.specs.declared.steps.Step.the-variants as step
+use Rattle.claims.specs.declared.records.Set.{Set}
+use Rattle.claims.specs.steps.Steps.{takenAction}
+use Rattle.claims.specs.declared.steps.Action.the-variants as action
 use Rattle.claims.proofs.steps.Moves.{announces, repeats}
 use Rattle.facts.specs.Facts.{inConflict, responseFacts, queryFacts, factsOf}
 use Rattle.writer.specs.own_packets.Own.{probeOf}
-use Rattle.responder.specs.Calls as calls
 use Rattle.link.specs.Responder.{Claim, instance, host}
 use Rattle.link.specs.Premises.{Among}
 use Rattle.link.specs.Laws as law
-use Rattle.uniqueness.specs.Responder.{kindOf, ownClaim, indexOf, name, conflicts}
+use Rattle.uniqueness.specs.Responder.{ownClaim, name, conflicts}
 use Rattle.uniqueness.specs.Rules.{unlessEmpty, stageOf}
 use Rattle.uniqueness.proofs.Lists.{clash, never, and-left}
 use Rattle.uniqueness.proofs.Owned.{Owned, srv, txt, a, aaaa, is-present}
 use Rattle.uniqueness.proofs.Messages.{only-one}
 
-pub stage-held : (c : life.Claim) → heldNow c ≡ true → stageOf c ≡ law.held
+pub stage-held : (c : ClaimState) → heldNow c ≡ true → stageOf c ≡ law.held
 stage-held (Waiting u) h = never h
 stage-held (Probing1 u) h = never h
 stage-held (Probing2 u) h = never h
@@ -40,7 +42,7 @@ stage-held (Announced u) h = refl
 stage-held Held h = refl
 stage-held Lost h = never h
 
-pub held-stage : (c : life.Claim) → stageOf c ≡ law.held → heldNow c ≡ true
+pub held-stage : (c : ClaimState) → stageOf c ≡ law.held → heldNow c ≡ true
 held-stage (Waiting u) h = clash (cc)
 held-stage (Probing1 u) h = clash (cc)
 held-stage (Probing2 u) h = clash (cc)
@@ -51,7 +53,7 @@ held-stage Held h = refl
 held-stage Lost h = clash (cc)
 
 -- a claim that announces or repeats is held then
-pub announce-held : (c d : life.Claim) (now : ℕ) → takenStep c now ≡ step.Announce d → stageOf d ≡ law.held
+pub announce-held : (c d : ClaimState) (now : ℕ) → takenAction c now ≡ action.Announce d → stageOf d ≡ law.held
 announce-held (Waiting u) d now e = clash (cc)
 announce-held (Probing1 u) d now e = clash (cc)
 announce-held (Probing2 u) d now e = clash (cc)
@@ -61,7 +63,7 @@ announce-held (Announced u) d now e = clash (cc)
 announce-held Held d now e = clash (cc)
 announce-held Lost d now e = clash (cc)
 
-pub repeat-held : (c d : life.Claim) (now : ℕ) → takenStep c now ≡ step.Repeat d → (stageOf c ≡ law.held) × (stageOf d ≡ law.held)
+pub repeat-held : (c d : ClaimState) (now : ℕ) → takenAction c now ≡ action.Repeat d → (stageOf c ≡ law.held) × (stageOf d ≡ law.held)
 repeat-held (Waiting u) d now e = clash (cc)
 repeat-held (Probing1 u) d now e = clash (cc)
 repeat-held (Probing2 u) d now e = clash (cc)
@@ -72,44 +74,44 @@ repeat-held Held d now e = clash (cc)
 repeat-held Lost d now e = clash (cc)
 
 -- what is multicast, of one record
-pub marks : (r : Own) (set : Records) (sent : Multicasts) (now : ℕ) → sentOf r (markedAll set sent now) ≡ marked (has r set) (sentOf r sent) now
+pub marks : (r : Own) (set : Set) (sent : Multicasts) (now : ℕ) → sentOf r (markedAll set sent now) ≡ marked (has r set) (sentOf r sent) now
 unfolding markedAll
-marks PTR set sent now = refl
-marks SRV set sent now = refl
-marks TXT set sent now = refl
-marks A set sent now = refl
-marks AAAA set sent now = refl
+marks r set sent now = sent-each (λ o. marked (has o set) (sentOf o sent) now) r
 
 -- a response under a claim's name has a record of the claim
-pub record OneOf (k : Claim) (set : Records) : Type 0 where
+pub record OneOf (k : Claim) (set : Set) : Type 0 where
   pub type : ℕ
   pub own : Own
   pub is : Owned k type own
   pub there : has own set ≡ true
 
-pub one-of : (k : Claim) (set : Records) → under (kindOf k) set ≡ true → OneOf k set
-one-of instance set h = go (set .srv) refl h
+pub one-of : (k : Claim) (set : Set) → under (ownClaim k) set ≡ true → OneOf k set
+unfolding someOf
+one-of instance set h = go (set .txt) (set .srv) refl refl h
   where
-    go : (b : Bool) → set .srv ≡ b → (b || set .txt) ≡ true → OneOf instance set
-    go true e h = record { type = 33; own = SRV; is = srv refl; there = e }
-    go false e h = record { type = 16; own = TXT; is = txt refl; there = h }
-one-of host set h = go (set .a) refl h
+    go : (b c : Bool) → set .txt ≡ b → set .srv ≡ c → (b || (c || false)) ≡ true → OneOf instance set
+    go true c e f h = record { type = 16; own = Txt; is = txt refl; there = e }
+    go false true e f h = record { type = 33; own = Srv; is = srv refl; there = f }
+    go false false e f h = never h
+one-of host set h = go (set .a) (set .aaaa) refl refl h
   where
-    go : (b : Bool) → set .a ≡ b → (b || set .aaaa) ≡ true → OneOf host set
-    go true e h = record { type = 1; own = A; is = a refl; there = e }
-    go false e h = record { type = 28; own = AAAA; is = aaaa refl; there = h }
+    go : (b c : Bool) → set .a ≡ b → set .aaaa ≡ c → (b || (c || false)) ≡ true → OneOf host set
+    go true c e f h = record { type = 1; own = A; is = a refl; there = e }
+    go false true e f h = record { type = 28; own = Aaaa; is = aaaa refl; there = f }
+    go false false e f h = never h
 
 -- the first announcement has all records that there are
-pub all-announced : (s : Setup) (k : Claim) (type : ℕ) (r : Own) → Owned k type r → hasRecord s (indexOf r) ≡ true → has r (recordsOf (kindOf k) (s .hasaaaa)) ≡ true
+pub all-announced : (s : Setup) (k : Claim) (type : ℕ) (r : Own) → Owned k type r → hasRecord s r ≡ true → has r (recordsOf (ownClaim k) (s .hasaaaa)) ≡ true
+unfolding recordsOf
 all-announced s k type r (srv e) h = refl
 all-announced s k type r (txt e) h = refl
 all-announced s k type r (a e) h = refl
-all-announced s k type r (aaaa e) h = sym (is-present s AAAA) ∙ h
+all-announced s k type r (aaaa e) h = sym (is-present s Aaaa) ∙ h
 
 -- every claim has a record
-pub first-of : (s : Setup) (k : Claim) → (type : ℕ) × (r : Own) × Owned k type r × (hasRecord s (indexOf r) ≡ true)
+pub first-of : (s : Setup) (k : Claim) → (type : ℕ) × (r : Own) × Owned k type r × (hasRecord s r ≡ true)
 unfolding hasRecord
-first-of s instance = (33, SRV, srv refl, refl)
+first-of s instance = (33, Srv, srv refl, refl)
 first-of s host = (1, A, a refl, refl)
 
 pub facts-response : (s : Setup) (m : Message) → factsOf s m .response ≡ isResponse (m .flags)
@@ -124,10 +126,10 @@ pub is-response : (s : Setup) (m : Message) (k : Claim) → conflicts m s k ≡ 
 unfolding conflicts
 is-response s m k c = and-left (isResponse (m .flags)) (inConflict s (ownClaim k) m) c
 
-pub query-flag : (s : Setup) (j : Kind) → isResponse (probeOf s (calls.claimFor j) .flags) ≡ false
+pub query-flag : (s : Setup) (j : own.Claim) → isResponse (probeOf s j .flags) ≡ false
 unfolding probeOf
 query-flag s j = refl
 
-pub unless-out : (is : List ℕ) (m n : Message) → Among n (unlessEmpty is m) → n ≡ m
+pub unless-out : (os : List Own) (m n : Message) → Among n (unlessEmpty os m) → n ≡ m
 unless-out [] m n h = absurd h
-unless-out (i ∷ is) m n h = only-one n m h
+unless-out (o ∷ os) m n h = only-one n m h

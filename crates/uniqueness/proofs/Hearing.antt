@@ -7,25 +7,23 @@ use mathlib.Core.List.{List, [], _∷_}
 use Prim.Native.Nat.{ℕ}
 use Rattle.wire.specs.message.Message.{Message, isResponse}
 use Rattle.own.specs.declared.records.Setup.{Setup}
-use Rattle.own.specs.declared.records.Claim as own
 use Rattle.claims.specs.Time.{afterMs}
 use Rattle.claims.specs.Claims.{claimOf, heldNow, afterConflict, afterProbe}
-use Rattle.claims.specs.declared.Claim as life
-use Rattle.claims.specs.declared.Claim.the-variants.{Waiting, Probing1, Probing2, Probing3, Deferred, Announced, Held, Lost}
-use Rattle.claims.specs.declared.Kind.{Kind}
-use Rattle.claims.specs.declared.Kind.the-variants.{Instance, Host}
-use Rattle.facts.specs.probe.Probe.{some as someOf, asksAll, under, isProbe}
-use Rattle.claims.specs.answers.Answers.{heardOf}
+use Rattle.claims.specs.declared.ClaimState.{ClaimState}
+use Rattle.claims.specs.declared.ClaimState.the-variants.{Waiting, Probing1, Probing2, Probing3, Deferred, Announced, Held, Lost}
+use Rattle.claims.specs.declared.records.Claim as own
+use Rattle.claims.specs.declared.records.Claim.the-variants.{Instance, Host}
+use Rattle.wire.specs.Lists.{some as someOf}
+use Rattle.facts.specs.probe.Probe.{asksAll, under, isProbe}
+use Rattle.claims.specs.answers.Answers.{heardFor, heardOf}
 use Rattle.claims.specs.declared.answers.Heard.{Heard}
 use Rattle.claims.specs.declared.answers.Facts.{Facts}
-use Rattle.claims.proofs.answers.Causes.{heardFor}
 use Rattle.claims.proofs.answers.Receives.{receive-claim}
 use Rattle.facts.specs.Facts.{inConflict, theirsLater, responseTo, queryTo, responseFacts, queryFacts, factsOf}
-use Rattle.responder.specs.Calls.{claimFor}
 use Rattle.responder.specs.declared.State.{State}
 use Rattle.link.specs.Responder.{Claim, instance, host}
 use Rattle.link.specs.Laws.{Unclaimed, probing, held}
-use Rattle.uniqueness.specs.Responder.{kindOf, ownClaim, name, conflicts, defeats}
+use Rattle.uniqueness.specs.Responder.{ownClaim, name, conflicts, defeats}
 use Rattle.uniqueness.specs.Rules.{with, told, stageOf, claimAt}
 use Rattle.uniqueness.proofs.Lists.{clash, never, and-left, and-right}
 
@@ -39,12 +37,12 @@ pub query-facts : (s : Setup) (m : Message) → isResponse (m .flags) ≡ false 
 unfolding factsOf
 query-facts s m e = rw e
 
-response-heard : (k : Kind) (s : Setup) (m : Message) → (responseFacts s m .response ≡ true) × (heardFor k (responseFacts s m) ≡ responseTo s (claimFor k) m)
+response-heard : (k : own.Claim) (s : Setup) (m : Message) → (responseFacts s m .response ≡ true) × (heardFor k (responseFacts s m) ≡ responseTo s k m)
 unfolding responseFacts
 response-heard Instance s m = (refl, refl)
 response-heard Host s m = (refl, refl)
 
-pub query-heard : (k : Kind) (s : Setup) (m : Message) → (queryFacts s m .response ≡ false) × (heardFor k (queryFacts s m) ≡ queryTo s (claimFor k) m)
+pub query-heard : (k : own.Claim) (s : Setup) (m : Message) → (queryFacts s m .response ≡ false) × (heardFor k (queryFacts s m) ≡ queryTo s k m)
 unfolding queryFacts
 query-heard Instance s m = (refl, refl)
 query-heard Host s m = (refl, refl)
@@ -55,30 +53,30 @@ module _ (x : State) (now draw : ℕ) (m : Message) (k : Claim) where
   abbrev f : Facts
   f = factsOf (x .setup) m
 
-  abbrev pub after : life.Claim
-  after = claimAt (with x (told x now draw m .life)) k
+  abbrev pub after : ClaimState
+  after = claimAt (with x (told x now draw m .progress)) k
 
   abbrev again : ℕ
-  again = afterMs now (x .life .draw)
+  again = afterMs now (x .progress .draw)
 
-  heard-is : after ≡ heardOf (claimAt x k) (f .response) (heardFor (kindOf k) f) again (afterMs now 1000)
-  heard-is = receive-claim now draw f (x .setup .hasaaaa) (kindOf k) (x .life)
+  heard-is : after ≡ heardOf (claimAt x k) (f .response) (heardFor (ownClaim k) f) again (afterMs now 1000)
+  heard-is = receive-claim now draw f (x .setup .hasaaaa) (ownClaim k) (x .progress)
 
   by-response : isResponse (m .flags) ≡ true → after ≡ cond (inConflict (x .setup) (ownClaim k) m) (afterConflict (claimAt x k) again) (claimAt x k)
   unfolding heardOf
   by-response e =
       heard-is
-      ∙ ap (λ (g : Facts). heardOf (claimAt x k) (g .response) (heardFor (kindOf k) g) again (afterMs now 1000)) (response-facts (x .setup) m e)
-      ∙ ap (λ (b : Bool). heardOf (claimAt x k) b (heardFor (kindOf k) (responseFacts (x .setup) m)) again (afterMs now 1000)) (response-heard (kindOf k) (x .setup) m .0)
-      ∙ ap (λ (h : Heard). heardOf (claimAt x k) true h again (afterMs now 1000)) (response-heard (kindOf k) (x .setup) m .1)
+      ∙ ap (λ (g : Facts). heardOf (claimAt x k) (g .response) (heardFor (ownClaim k) g) again (afterMs now 1000)) (response-facts (x .setup) m e)
+      ∙ ap (λ (b : Bool). heardOf (claimAt x k) b (heardFor (ownClaim k) (responseFacts (x .setup) m)) again (afterMs now 1000)) (response-heard (ownClaim k) (x .setup) m .0)
+      ∙ ap (λ (h : Heard). heardOf (claimAt x k) true h again (afterMs now 1000)) (response-heard (ownClaim k) (x .setup) m .1)
 
   by-query : isResponse (m .flags) ≡ false → after ≡ cond (defeats m (x .setup) k) (afterProbe (claimAt x k) (afterMs now 1000)) (claimAt x k)
   unfolding heardOf defeats
   by-query e =
       heard-is
-      ∙ ap (λ (g : Facts). heardOf (claimAt x k) (g .response) (heardFor (kindOf k) g) again (afterMs now 1000)) (query-facts (x .setup) m e)
-      ∙ ap (λ (b : Bool). heardOf (claimAt x k) b (heardFor (kindOf k) (queryFacts (x .setup) m)) again (afterMs now 1000)) (query-heard (kindOf k) (x .setup) m .0)
-      ∙ ap (λ (h : Heard). heardOf (claimAt x k) false h again (afterMs now 1000)) (query-heard (kindOf k) (x .setup) m .1)
+      ∙ ap (λ (g : Facts). heardOf (claimAt x k) (g .response) (heardFor (ownClaim k) g) again (afterMs now 1000)) (query-facts (x .setup) m e)
+      ∙ ap (λ (b : Bool). heardOf (claimAt x k) b (heardFor (ownClaim k) (queryFacts (x .setup) m)) again (afterMs now 1000)) (query-heard (ownClaim k) (x .setup) m .0)
+      ∙ ap (λ (h : Heard). heardOf (claimAt x k) false h again (afterMs now 1000)) (query-heard (ownClaim k) (x .setup) m .1)
 
   -- what it does, as a case
   pub data Hears : Type 0 where
@@ -90,17 +88,17 @@ module _ (x : State) (now draw : ℕ) (m : Message) (k : Claim) where
   unfolding conflicts
   is-conflict e = rw e
 
-  put-off : (c : life.Claim) → claimAt x k ≡ c → defeats m (x .setup) k ≡ true → after ≡ afterProbe c (afterMs now 1000) → Hears
+  put-off : (c : ClaimState) → claimAt x k ≡ c → defeats m (x .setup) k ≡ true → after ≡ afterProbe c (afterMs now 1000) → Hears
   put-off (Waiting u) e d a = same (ap stageOf (a ∙ sym e)) (ap heldNow (a ∙ sym e))
-  put-off (Probing1 u) e d a = defers 1 u d (ap stageOf e) (subst (λ (c : life.Claim). Unclaimed (stageOf c)) (sym a) tt)
-  put-off (Probing2 u) e d a = defers 2 u d (ap stageOf e) (subst (λ (c : life.Claim). Unclaimed (stageOf c)) (sym a) tt)
-  put-off (Probing3 u) e d a = defers 3 u d (ap stageOf e) (subst (λ (c : life.Claim). Unclaimed (stageOf c)) (sym a) tt)
+  put-off (Probing1 u) e d a = defers 1 u d (ap stageOf e) (subst (λ (c : ClaimState). Unclaimed (stageOf c)) (sym a) tt)
+  put-off (Probing2 u) e d a = defers 2 u d (ap stageOf e) (subst (λ (c : ClaimState). Unclaimed (stageOf c)) (sym a) tt)
+  put-off (Probing3 u) e d a = defers 3 u d (ap stageOf e) (subst (λ (c : ClaimState). Unclaimed (stageOf c)) (sym a) tt)
   put-off (Deferred u) e d a = same (ap stageOf (a ∙ sym e)) (ap heldNow (a ∙ sym e))
   put-off (Announced u) e d a = same (ap stageOf (a ∙ sym e)) (ap heldNow (a ∙ sym e))
   put-off Held e d a = same (ap stageOf (a ∙ sym e)) (ap heldNow (a ∙ sym e))
   put-off Lost e d a = same (ap stageOf (a ∙ sym e)) (ap heldNow (a ∙ sym e))
 
-  given-up : (c : life.Claim) (u : ℕ) → Unclaimed (stageOf (afterConflict c u))
+  given-up : (c : ClaimState) (u : ℕ) → Unclaimed (stageOf (afterConflict c u))
   given-up (Waiting v) u = tt
   given-up (Probing1 v) u = tt
   given-up (Probing2 v) u = tt
@@ -114,7 +112,7 @@ module _ (x : State) (now draw : ℕ) (m : Message) (k : Claim) where
   heard = go (isResponse (m .flags)) refl
     where
       response : isResponse (m .flags) ≡ true → (b : Bool) → inConflict (x .setup) (ownClaim k) m ≡ b → after ≡ cond b (afterConflict (claimAt x k) again) (claimAt x k) → Hears
-      response e true c a = yields (is-conflict e ∙ c) (subst (λ (d : life.Claim). Unclaimed (stageOf d)) (sym a) (given-up (claimAt x k) again))
+      response e true c a = yields (is-conflict e ∙ c) (subst (λ (d : ClaimState). Unclaimed (stageOf d)) (sym a) (given-up (claimAt x k) again))
       response e false c a = same (ap stageOf a) (ap heldNow a)
 
       query : (b : Bool) → defeats m (x .setup) k ≡ b → after ≡ cond b (afterProbe (claimAt x k) (afterMs now 1000)) (claimAt x k) → Hears
@@ -132,7 +130,7 @@ module _ (x : State) (now draw : ℕ) (m : Message) (k : Claim) where
   yields-to h =
       let e = and-left (isResponse (m .flags)) (inConflict (x .setup) (ownClaim k) m) h in
       let c = and-right (isResponse (m .flags)) (inConflict (x .setup) (ownClaim k) m) h in
-      subst (λ (d : life.Claim). Unclaimed (stageOf d))
+      subst (λ (d : ClaimState). Unclaimed (stageOf d))
       (sym (by-response e ∙ ap (λ (b : Bool). cond b (afterConflict (claimAt x k) again) (claimAt x k)) c))
       (given-up (claimAt x k) again)
 
@@ -145,7 +143,7 @@ module _ (x : State) (now draw : ℕ) (m : Message) (k : Claim) where
       go true e = never e
       go false e = refl
 
-  deferred : (c : life.Claim) (i u v : ℕ) → stageOf c ≡ probing i u → Unclaimed (stageOf (afterProbe c v))
+  deferred : (c : ClaimState) (i u v : ℕ) → stageOf c ≡ probing i u → Unclaimed (stageOf (afterProbe c v))
   deferred (Waiting w) i u v e = tt
   deferred (Probing1 w) i u v e = tt
   deferred (Probing2 w) i u v e = tt
@@ -162,6 +160,6 @@ module _ (x : State) (now draw : ℕ) (m : Message) (k : Claim) where
   -- "While probing, if theirs is later, the claim is deferred"
   pub defers-to : defeats m (x .setup) k ≡ true → (i u : ℕ) → stageOf (claimAt x k) ≡ probing i u → Unclaimed (stageOf after)
   defers-to h i u p =
-      subst (λ (d : life.Claim). Unclaimed (stageOf d))
+      subst (λ (d : ClaimState). Unclaimed (stageOf d))
       (sym (by-query (defeated-is h) ∙ ap (λ (b : Bool). cond b (afterProbe (claimAt x k) (afterMs now 1000)) (claimAt x k)) h))
       (deferred (claimAt x k) i u (afterMs now 1000) p)

@@ -1,6 +1,6 @@
 -- Our responder meets the laws of `link`, so demand 3 holds of it. Assumes nothing.
 use mathlib.Core.Path.{_≡_, refl, sym, ap, subst, _∙_}
-use mathlib.Core.Logic.{_⊎_, inl}
+use mathlib.Core.Logic.{_⊎_, inl, inr}
 use mathlib.Core.Bool.{Bool, true, false}
 use mathlib.Core.Option.{Option, none, some}
 use mathlib.Core.List.{List, [], _∷_, _++_}
@@ -11,15 +11,21 @@ use Rattle.wire.specs.message.Message.{Message}
 use Rattle.own.specs.declared.records.Setup.{Setup}
 use Rattle.own.specs.records.Setups.{validSetup}
 use Rattle.claims.specs.Time.{lastTime}
-use Rattle.claims.specs.Claims.{dueOf, replyDueOf}
-use Rattle.claims.specs.declared.Claim as life
-use Rattle.claims.specs.declared.Claim.the-variants.{Waiting, Probing1, Probing2, Probing3, Deferred, Announced, Held, Lost}
+use Rattle.claims.specs.Claims.{dueOf}
+use Rattle.claims.specs.declared.When.{When}
+use Rattle.claims.specs.declared.When.the-variants.{Never, At}
+use Rattle.claims.specs.declared.Progress.{Progress}
+use Rattle.claims.specs.steps.Steps.{steps, stepDue}
+use Rattle.claims.specs.declared.steps.Step.{Step}
+use Rattle.claims.specs.declared.steps.Step.the-variants.{OfClaim}
+use Rattle.claims.specs.declared.ClaimState.{ClaimState}
+use Rattle.claims.specs.declared.ClaimState.the-variants.{Waiting, Probing1, Probing2, Probing3, Deferred, Announced, Held, Lost}
 use Rattle.responder.specs.declared.State.{State}
 use Rattle.link.specs.Responder.{Claim, instance, host}
 use Rattle.link.specs.Premises.{Among}
 use Rattle.link.specs.Laws as law
 use Rattle.link.proofs.Demand3 as link
-use Rattle.uniqueness.specs.Responder.{listed, due, rdata, name, conflicts, defeats, responder}
+use Rattle.uniqueness.specs.Responder.{ownClaim, listed, dueTimes, due, rdata, name, conflicts, defeats, responder}
 use Rattle.uniqueness.specs.Statement.{Theorem}
 use Rattle.uniqueness.specs.Rules.{with, hears, stageOf, claimAt, Of, Ready, rules}
 use Rattle.uniqueness.proofs.Lists.{clash, in-append, in-tail}
@@ -32,18 +38,23 @@ use Rattle.uniqueness.proofs.Defence.{defends}
 
 -- ---- the due steps
 
-listed-in : (o : Option ℕ) (u : ℕ) → o ≡ some u → Among u (listed o)
-listed-in none u e = clash (cc)
-listed-in (some v) u e = subst (λ (o : Option ℕ). Among u (listed o)) (sym e) (inl refl)
+due-among : (s : Step) (ss : List Step) (progress : Progress) (u : ℕ) → Among s ss → stepDue s progress ≡ At u → Among u (dueTimes ss progress)
+unfolding dueTimes
+due-among s [] progress u h e = absurd h
+due-among s (i ∷ is) progress u (inl q) e =
+    in-append u (listed (stepDue i progress)) (dueTimes is progress)
+    (subst (λ (w : When). Among u (listed w)) (sym (ap (λ (j : Step). stepDue j progress) (sym q) ∙ e)) (inl refl))
+due-among s (i ∷ is) progress u (inr h) e = in-tail u (listed (stepDue i progress)) (dueTimes is progress) (due-among s is progress u h e)
 
-due-in : (x : State) (k : Claim) (u : ℕ) → dueOf (claimAt x k) ≡ some u → Among u (due x)
+among-steps : (k : Claim) → Among (OfClaim (ownClaim k)) steps
+among-steps instance = inl refl
+among-steps host = inr (inl refl)
+
+due-in : (x : State) (k : Claim) (u : ℕ) → dueOf (claimAt x k) ≡ At u → Among u (due x)
 unfolding due
-due-in x instance u e = in-append u (listed (dueOf (x .life .instance))) _ (listed-in (dueOf (x .life .instance)) u e)
-due-in x host u e =
-    in-tail u (listed (dueOf (x .life .instance))) (listed (dueOf (x .life .host)) ++ listed (replyDueOf (x .life .reply)))
-    (in-append u (listed (dueOf (x .life .host))) (listed (replyDueOf (x .life .reply))) (listed-in (dueOf (x .life .host)) u e))
+due-in x k u e = due-among (OfClaim (ownClaim k)) steps (x .progress) u (among-steps k) e
 
-waiting-due : (c : life.Claim) (u : ℕ) → stageOf c ≡ law.waiting u → dueOf c ≡ some u
+waiting-due : (c : ClaimState) (u : ℕ) → stageOf c ≡ law.waiting u → dueOf c ≡ At u
 waiting-due (Waiting v) u e = cc
 waiting-due (Probing1 v) u e = clash (cc)
 waiting-due (Probing2 v) u e = clash (cc)
@@ -53,7 +64,7 @@ waiting-due (Announced v) u e = clash (cc)
 waiting-due Held u e = clash (cc)
 waiting-due Lost u e = clash (cc)
 
-probing-due : (c : life.Claim) (i u : ℕ) → stageOf c ≡ law.probing i u → dueOf c ≡ some u
+probing-due : (c : ClaimState) (i u : ℕ) → stageOf c ≡ law.probing i u → dueOf c ≡ At u
 probing-due (Waiting v) i u e = clash (cc)
 probing-due (Probing1 v) i u e = cc
 probing-due (Probing2 v) i u e = cc

@@ -5,8 +5,8 @@ use mathlib.Core.Bool.{Bool, true, false, cond, not, _&&_, _||_}
 use mathlib.Core.List.{List, [], _∷_, _++_, map}
 use Prim.Native.Nat.{ℕ}
 use native.Mathlib.Omega.{arith}
-use Rattle.facts.specs.probe.Probe.{some}
-use Rattle.writer.specs.own_packets.Own.{picked}
+use Rattle.wire.specs.Lists.{some}
+use Rattle.claims.specs.records.Sets.{picked}
 use Rattle.link.specs.Premises.{Among}
 
 pub clash : {A : Type 0} → _≡_ {A = ℕ} 0 1 → A
@@ -86,8 +86,8 @@ module _ {A B : Type 0} (f : A → B) where
   out-map y (x ∷ xs) (inl e) = (x, inl refl, e)
   out-map y (x ∷ xs) (inr h) = let r = out-map y xs h in (r .0, inr (r .1), r .2)
 
-module _ (test : ℕ → Bool) where
-  pub in-picked : (i : ℕ) (is : List ℕ) → Among i is → test i ≡ true → Among i (picked test is)
+module _ {A : Type 0} (test : A → Bool) where
+  pub in-picked : (i : A) (is : List A) → Among i is → test i ≡ true → Among i (picked test is)
   unfolding picked
   in-picked i [] h t = absurd h
   in-picked i (j ∷ js) (inl e) t = subst (λ (b : Bool). Among i (cond b (j ∷ picked test js) (picked test js))) (sym (ap test (sym e) ∙ t)) (inl e)
@@ -97,7 +97,7 @@ module _ (test : ℕ → Bool) where
       go k true = inr k
       go k false = k
 
-  pub out-picked : (i : ℕ) (is : List ℕ) → Among i (picked test is) → Among i is × (test i ≡ true)
+  pub out-picked : (i : A) (is : List A) → Among i (picked test is) → Among i is × (test i ≡ true)
   unfolding picked
   out-picked i [] h = absurd h
   out-picked i (j ∷ js) h = go (out-picked i js) (test j) refl h

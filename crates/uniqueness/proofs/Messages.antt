@@ -6,7 +6,6 @@ use mathlib.Core.Option.{Option, none, some}
 use mathlib.Core.List.{List, [], _∷_, _++_, map}
 use Prim.Native.Nat.{ℕ}
 use native.Mathlib.Omega.{arith}
-use lib.ListN.{getD}
 use Rattle.wire.specs.case_folding.Fold.{sameName}
 use Rattle.wire.proofs.case_folding.Equal.{same-refl}
 use Rattle.wire.specs.message.Message.{Record, Message, isResponse, allRecords}
@@ -15,119 +14,109 @@ use Rattle.own.specs.declared.records.Setup.{Setup}
 use Rattle.own.specs.records.Setups.{validSetup}
 use Rattle.own.specs.records.Records.{hasRecord, ownLabels, ownName}
 use Rattle.own.proofs.records.Valid.{valid, instance-not-host, host-not-instance, service-not-instance, service-not-host}
-use Rattle.claims.specs.Records.{Own, PTR, SRV, TXT, A, AAAA, has}
-use Rattle.claims.specs.declared.Records.{Records}
+use Rattle.claims.specs.records.Own.{all, has}
+use Rattle.claims.specs.records.Sets as sets
+use Rattle.claims.specs.declared.records.Own.{Own}
+use Rattle.claims.specs.declared.records.Own.the-variants.{Ptr, Srv, Txt, A, Aaaa}
+use Rattle.claims.specs.declared.records.Set.{Set}
 use Rattle.claims.specs.declared.steps.Output.{Output}
 use Rattle.claims.specs.declared.steps.Output.the-variants.{Nothing, Probe, Response}
-use Rattle.claims.specs.steps.Tick as steps
-use Rattle.facts.specs.probe.Probe.{some as someOf, under}
+use Rattle.wire.specs.Lists.{some as someOf}
+use Rattle.facts.specs.probe.Probe.{under}
 use Rattle.writer.specs.own_packets.Own.{ownRecord, responseRecords, responseOf, noneIfEmpty, responsePacket, probePacket, probeOf}
 use Rattle.roundtrip.proofs.OwnPackets.{response-back, probe-back}
-use Rattle.responder.specs.Calls.{claimFor, listed, packets, packetFor}
+use Rattle.responder.specs.Calls.{packets, packetFor}
 use Rattle.link.specs.Responder.{Claim, instance, host}
 use Rattle.link.specs.Premises.{Among}
 use Rattle.link.specs.Laws.{ReadAs}
-use Rattle.uniqueness.specs.Responder.{kindOf, ownClaim, indexOf, recordOf, name, messageOf, readAs, responds}
+use Rattle.uniqueness.specs.Responder.{ownClaim, recordOf, name, messageOf, readAs, responds}
 use Rattle.uniqueness.specs.Rules.{unlessEmpty, messagesFor, Carried}
 use Rattle.uniqueness.proofs.Lists.{clash, never, and-left, and-right, and-both, or-left, or-right, some-in, some-out, in-append, out-append, in-map, out-map, in-picked, out-picked}
 use Rattle.uniqueness.proofs.Owned.{Owned, srv, txt, a, aaaa, owned, own-owner}
 
-abbrev five : List ℕ
-five = 0 ∷ 1 ∷ 2 ∷ 3 ∷ 4 ∷ []
-
-among-five : (r : Own) → Among (indexOf r) five
-among-five PTR = inl refl
-among-five SRV = inr (inl refl)
-among-five TXT = inr (inr (inl refl))
-among-five A = inr (inr (inr (inl refl)))
-among-five AAAA = inr (inr (inr (inr (inl refl))))
-
-chosen : (r : Own) (set : Records) → getD (listed set) (indexOf r) false ≡ has r set
-chosen PTR set = refl
-chosen SRV set = refl
-chosen TXT set = refl
-chosen A set = refl
-chosen AAAA set = refl
+among-all : (r : Own) → Among r all
+among-all Ptr = inl refl
+among-all Srv = inr (inl refl)
+among-all Txt = inr (inr (inl refl))
+among-all A = inr (inr (inr (inl refl)))
+among-all Aaaa = inr (inr (inr (inr (inl refl))))
 
 pub only-one : {A : Type 0} (x y : A) → Among x (y ∷ []) → x ≡ y
 only-one x y (inl e) = e
 only-one x y (inr h) = absurd h
 
-module _ (s : Setup) (set : Records) where
-  pub response-flag : isResponse (responseOf s (listed set) .flags) ≡ true
+module _ (s : Setup) (set : Set) where
+  pub response-flag : isResponse (responseOf s set .flags) ≡ true
   unfolding responseOf
   response-flag = refl
 
-  in-response : (r : Own) → has r set ≡ true → hasRecord s (indexOf r) ≡ true → Among (indexOf r) (responseRecords s (listed set))
+  in-response : (r : Own) → has r set ≡ true → hasRecord s r ≡ true → Among r (responseRecords s set)
   unfolding responseRecords
   in-response r h t =
-      in-picked (λ i. getD (listed set) i false && hasRecord s i) (indexOf r) five (among-five r)
-      (and-both (getD (listed set) (indexOf r) false) (hasRecord s (indexOf r)) (chosen r set ∙ h) t)
+      in-picked (λ (o : Own). has o set && hasRecord s o) r all (among-all r) (and-both (has r set) (hasRecord s r) h t)
 
-  not-empty : (i : ℕ) (is : List ℕ) (m : Message) → Among i is → Among m (unlessEmpty is m)
-  not-empty i [] m h = absurd h
-  not-empty i (j ∷ js) m h = inl refl
+  not-empty : (o : Own) (os : List Own) (m : Message) → Among o os → Among m (unlessEmpty os m)
+  not-empty o [] m h = absurd h
+  not-empty o (p ∷ ps) m h = inl refl
 
   -- it goes out where it has some record
-  pub goes-out : (r : Own) → has r set ≡ true → hasRecord s (indexOf r) ≡ true → Among (responseOf s (listed set)) (messagesFor s (Response set))
+  pub goes-out : (r : Own) → has r set ≡ true → hasRecord s r ≡ true → Among (responseOf s set) (messagesFor s (Response set))
   unfolding messagesFor
-  goes-out r h t = not-empty (indexOf r) (responseRecords s (listed set)) (responseOf s (listed set)) (in-response r h t)
+  goes-out r h t = not-empty r (responseRecords s set) (responseOf s set) (in-response r h t)
 
-  member : (r : Own) → has r set ≡ true → hasRecord s (indexOf r) ≡ true → Among (ownRecord s false (indexOf r)) (responseOf s (listed set) .answers)
+  member : (r : Own) → has r set ≡ true → hasRecord s r ≡ true → Among (ownRecord s false r) (responseOf s set .answers)
   unfolding responseOf
-  member r h t = in-map (ownRecord s false) (indexOf r) (responseRecords s (listed set)) (in-response r h t)
+  member r h t = in-map (ownRecord s false) r (responseRecords s set) (in-response r h t)
 
   -- and it carries each
-  pub carries : (k : Claim) (type : ℕ) (r : Own) → recordOf k type ≡ some r → has r set ≡ true → hasRecord s (indexOf r) ≡ true
-      → Carried (responseOf s (listed set)) s k type
+  pub carries : (k : Claim) (type : ℕ) (r : Own) → recordOf k type ≡ some r → has r set ≡ true → hasRecord s r ≡ true
+      → Carried (responseOf s set) s k type
   carries k type r e h t = record { own = r; owned = e; response = response-flag; member = member r h t }
 
   -- a record of the claim stands under its name
-  pub says-name : (k : Claim) (type : ℕ) (r : Own) → Owned k type r → has r set ≡ true → hasRecord s (indexOf r) ≡ true
-      → responds (responseOf s (listed set)) (name s k) ≡ true
+  pub says-name : (k : Claim) (type : ℕ) (r : Own) → Owned k type r → has r set ≡ true → hasRecord s r ≡ true
+      → responds (responseOf s set) (name s k) ≡ true
   unfolding responds ownRecord
   says-name k type r o h t =
-      and-both (isResponse (responseOf s (listed set) .flags)) (someOf (under (name s k)) (allRecords (responseOf s (listed set)))) response-flag
-      (some-in (under (name s k)) (ownRecord s false (indexOf r)) (allRecords (responseOf s (listed set)))
-      (in-append (ownRecord s false (indexOf r)) (responseOf s (listed set) .answers)
-      (responseOf s (listed set) .authorities ++ responseOf s (listed set) .additionals) (member r h t))
+      and-both (isResponse (responseOf s set .flags)) (someOf (under (name s k)) (allRecords (responseOf s set))) response-flag
+      (some-in (under (name s k)) (ownRecord s false r) (allRecords (responseOf s set))
+      (in-append (ownRecord s false r) (responseOf s set .answers)
+      (responseOf s set .authorities ++ responseOf s set .additionals) (member r h t))
       (rw (own-owner s k type r o) (same-refl (name s k))))
 
 -- ---- which record stands under a claim's name
 
-module _ (s : Setup) (ok : validSetup s ≡ true) (set : Records) where
-  by-index : (k : Claim) (i : ℕ) → Among i five → getD (listed set) i false ≡ true → sameName (ownName s i) (name s k) ≡ true → steps.under (kindOf k) set ≡ true
-  unfolding ownName ownLabels
-  by-index instance i (inl e) g n = absurd (service-not-instance s s (valid s ok) (valid s ok) (rw e at n))
-  by-index instance i (inr (inl e)) g n = or-left (set .srv) (set .txt) (rw e at g)
-  by-index instance i (inr (inr (inl e))) g n = or-right (set .srv) (set .txt) (rw e at g)
-  by-index instance i (inr (inr (inr (inl e)))) g n = absurd (host-not-instance s s (valid s ok) (valid s ok) (rw e at n))
-  by-index instance i (inr (inr (inr (inr (inl e))))) g n = absurd (host-not-instance s s (valid s ok) (valid s ok) (rw e at n))
-  by-index instance i (inr (inr (inr (inr (inr h))))) g n = absurd h
-  by-index host i (inl e) g n = absurd (service-not-host s s (valid s ok) (valid s ok) (rw e at n))
-  by-index host i (inr (inl e)) g n = absurd (instance-not-host s s (valid s ok) (valid s ok) (rw e at n))
-  by-index host i (inr (inr (inl e))) g n = absurd (instance-not-host s s (valid s ok) (valid s ok) (rw e at n))
-  by-index host i (inr (inr (inr (inl e)))) g n = or-left (set .a) (set .aaaa) (rw e at g)
-  by-index host i (inr (inr (inr (inr (inl e))))) g n = or-right (set .a) (set .aaaa) (rw e at g)
-  by-index host i (inr (inr (inr (inr (inr h))))) g n = absurd h
+module _ (s : Setup) (ok : validSetup s ≡ true) (set : Set) where
+  by-name : (k : Claim) (o : Own) → has o set ≡ true → sameName (ownName s o) (name s k) ≡ true → sets.under (ownClaim k) set ≡ true
+  unfolding ownName ownLabels sets.someOf
+  by-name instance Ptr g n = absurd (service-not-instance s s (valid s ok) (valid s ok) n)
+  by-name instance Srv g n = or-right (set .txt) (set .srv || false) (or-left (set .srv) false g)
+  by-name instance Txt g n = or-left (set .txt) (set .srv || false) g
+  by-name instance A g n = absurd (host-not-instance s s (valid s ok) (valid s ok) n)
+  by-name instance Aaaa g n = absurd (host-not-instance s s (valid s ok) (valid s ok) n)
+  by-name host Ptr g n = absurd (service-not-host s s (valid s ok) (valid s ok) n)
+  by-name host Srv g n = absurd (instance-not-host s s (valid s ok) (valid s ok) n)
+  by-name host Txt g n = absurd (instance-not-host s s (valid s ok) (valid s ok) n)
+  by-name host A g n = or-left (set .a) (set .aaaa || false) g
+  by-name host Aaaa g n = or-right (set .a) (set .aaaa || false) (or-left (set .aaaa) false g)
 
-  answers-only : (r : Record) → Among r (allRecords (responseOf s (listed set))) → Among r (map (ownRecord s false) (responseRecords s (listed set)))
+  answers-only : (r : Record) → Among r (allRecords (responseOf s set)) → Among r (map (ownRecord s false) (responseRecords s set))
   unfolding responseOf
-  answers-only r h = go (out-append r (map (ownRecord s false) (responseRecords s (listed set))) [] h)
+  answers-only r h = go (out-append r (map (ownRecord s false) (responseRecords s set)) [] h)
     where
-      go : Among r (map (ownRecord s false) (responseRecords s (listed set))) ⊎ Among r [] → Among r (map (ownRecord s false) (responseRecords s (listed set)))
+      go : Among r (map (ownRecord s false) (responseRecords s set)) ⊎ Among r [] → Among r (map (ownRecord s false) (responseRecords s set))
       go (inl k) = k
       go (inr k) = absurd k
 
   -- a response under the claim's name has a record of the claim
-  pub name-said : (k : Claim) → responds (responseOf s (listed set)) (name s k) ≡ true → steps.under (kindOf k) set ≡ true
+  pub name-said : (k : Claim) → responds (responseOf s set) (name s k) ≡ true → sets.under (ownClaim k) set ≡ true
   unfolding responds responseRecords ownRecord
   name-said k h =
-      let found = some-out (under (name s k)) (allRecords (responseOf s (listed set)))
-      (and-right (isResponse (responseOf s (listed set) .flags)) (someOf (under (name s k)) (allRecords (responseOf s (listed set)))) h) in
-      let made = out-map (ownRecord s false) (found .0) (responseRecords s (listed set)) (answers-only (found .0) (found .1)) in
-      let taken = out-picked (λ i. getD (listed set) i false && hasRecord s i) (made .0) five (made .1) in
-      by-index k (made .0) (taken .0) (and-left (getD (listed set) (made .0) false) (hasRecord s (made .0)) (taken .1))
+      let found = some-out (under (name s k)) (allRecords (responseOf s set))
+      (and-right (isResponse (responseOf s set .flags)) (someOf (under (name s k)) (allRecords (responseOf s set))) h) in
+      let made = out-map (ownRecord s false) (found .0) (responseRecords s set) (answers-only (found .0) (found .1)) in
+      let taken = out-picked (λ (o : Own). has o set && hasRecord s o) (made .0) all (made .1) in
+      by-name k (made .0) (and-left (has (made .0) set) (hasRecord s (made .0)) (taken .1))
       (subst (λ (r : Record). sameName (r .owner) (name s k) ≡ true) (made .2) (found .2))
 
 -- ---- what is written reads back
@@ -139,24 +128,24 @@ reads [] m e = clash (cc)
 reads (b ∷ bs) m e = (e, tt)
 
 module _ (s : Setup) (ok : validSetup s ≡ true) where
-  response-reads : (chosen : List Bool) (is : List ℕ) → responseRecords s chosen ≡ is
-      → ReadAs readAs (packets (noneIfEmpty is (responsePacket s chosen))) (unlessEmpty is (responseOf s chosen))
-  response-reads chosen [] e = tt
-  response-reads chosen (i ∷ is) e = reads (responsePacket s chosen) (responseOf s chosen) (ap messageOf (response-back s ok chosen (λ z. clash (cc))))
+  response-reads : (set : Set) (os : List Own) → responseRecords s set ≡ os
+      → ReadAs readAs (packets (noneIfEmpty os (responsePacket s set))) (unlessEmpty os (responseOf s set))
+  response-reads set [] e = tt
+  response-reads set (o ∷ os) e = reads (responsePacket s set) (responseOf s set) (ap messageOf (response-back s ok set (λ z. clash (cc))))
 
-  none-twice : (is p : List ℕ) → noneIfEmpty is (noneIfEmpty is p) ≡ noneIfEmpty is p
+  none-twice : (os : List Own) (p : List ℕ) → noneIfEmpty os (noneIfEmpty os p) ≡ noneIfEmpty os p
   none-twice [] p = refl
-  none-twice (i ∷ is) p = refl
+  none-twice (o ∷ os) p = refl
 
-  response-none : (chosen : List Bool) → noneIfEmpty (responseRecords s chosen) (responsePacket s chosen) ≡ responsePacket s chosen
+  response-none : (set : Set) → noneIfEmpty (responseRecords s set) (responsePacket s set) ≡ responsePacket s set
   unfolding responsePacket
-  response-none chosen = none-twice (responseRecords s chosen) _
+  response-none set = none-twice (responseRecords s set) _
 
   -- the packet of an output is read as its message
   pub output-reads : (o : Output) → ReadAs readAs (packets (packetFor s o)) (messagesFor s o)
   unfolding packetFor messagesFor
   output-reads Nothing = tt
-  output-reads (Probe k) = reads (probePacket s (claimFor k)) (probeOf s (claimFor k)) (ap messageOf (probe-back s ok (claimFor k)))
+  output-reads (Probe k) = reads (probePacket s k) (probeOf s k) (ap messageOf (probe-back s ok k))
   output-reads (Response set) =
-      subst (λ (p : List ℕ). ReadAs readAs (packets p) (unlessEmpty (responseRecords s (listed set)) (responseOf s (listed set)))) (response-none (listed set))
-      (response-reads (listed set) (responseRecords s (listed set)) refl)
+      subst (λ (p : List ℕ). ReadAs readAs (packets p) (unlessEmpty (responseRecords s set) (responseOf s set))) (response-none set)
+      (response-reads set (responseRecords s set) refl)

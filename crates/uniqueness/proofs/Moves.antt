@@ -10,20 +10,22 @@ use borrow.Author.Tests.{leb-true}
 use Rattle.wire.specs.message.Message.{Message, isResponse}
 use Rattle.own.specs.records.Setups.{validSetup}
 use Rattle.own.specs.records.Records.{hasRecord}
-use Rattle.claims.specs.Time.{lastTime, afterMs, marked}
+use Rattle.claims.specs.Time.{lastTime, afterMs, sentOf, marked}
 use Rattle.claims.specs.Claims.{claimOf, heldNow}
-use Rattle.claims.specs.Records.{Own, has, sentOf, claimFor}
+use Rattle.claims.specs.records.Own.{has}
+use Rattle.claims.specs.records.Sets.{recordsOf, under}
+use Rattle.claims.specs.declared.records.Claim as own
+use Rattle.claims.specs.declared.records.Own.{Own}
 use Rattle.claims.proofs.Times.{after-exact}
-use Rattle.claims.specs.declared.Claim as life
-use Rattle.claims.specs.declared.Claim.the-variants.{Waiting, Probing1, Probing2, Probing3, Deferred, Announced, Held, Lost}
-use Rattle.claims.specs.declared.Kind.{Kind}
-use Rattle.claims.specs.declared.Sent.{Sent}
+use Rattle.claims.specs.declared.ClaimState.{ClaimState}
+use Rattle.claims.specs.declared.ClaimState.the-variants.{Waiting, Probing1, Probing2, Probing3, Deferred, Announced, Held, Lost}
+use Rattle.claims.specs.declared.When.{When}
 use Rattle.claims.specs.declared.Multicasts.{Multicasts}
-use Rattle.claims.specs.declared.Records.{Records}
-use Rattle.claims.specs.declared.Life.{Life}
-use Rattle.claims.specs.steps.Steps.{claimDue, takenStep, recordsOf}
-use Rattle.claims.specs.steps.Tick.{under, concerns}
-use Rattle.claims.specs.declared.steps.Step.the-variants as step
+use Rattle.claims.specs.declared.records.Set.{Set}
+use Rattle.claims.specs.declared.Progress.{Progress}
+use Rattle.claims.specs.steps.Steps.{claimDue, takenAction}
+use Rattle.claims.specs.steps.Tick.{concerns}
+use Rattle.claims.specs.declared.steps.Action.the-variants as action
 use Rattle.claims.specs.declared.steps.Output.{Output}
 use Rattle.claims.specs.declared.steps.Output.the-variants.{Nothing, Probe, Response}
 use Rattle.claims.proofs.steps.Ticks.{sentBy, tick-sent}
@@ -33,16 +35,15 @@ use Rattle.claims.specs.declared.answers.Facts.{Facts}
 use Rattle.claims.proofs.answers.Causes.{IsDue, only-due, at-once}
 use Rattle.facts.specs.Facts.{factsOf}
 use Rattle.writer.specs.own_packets.Own.{responseRecords, responseOf, probeOf}
-use Rattle.responder.specs.Calls as calls
-use Rattle.responder.specs.Calls.{listed, walkedOf}
+use Rattle.responder.specs.Calls.{walkedOf}
 use Rattle.responder.specs.declared.State.{State}
 use Rattle.link.specs.Responder.{Claim}
 use Rattle.link.specs.Premises.{Among}
 use Rattle.link.specs.Laws as law
-use Rattle.uniqueness.specs.Responder.{kindOf, ownClaim, indexOf, recordOf, rdata, name, responds, responder}
+use Rattle.uniqueness.specs.Responder.{ownClaim, recordOf, rdata, name, responds, responder}
 use Rattle.uniqueness.specs.Rules.{messagesFor, with, told, ticks, hears, stageOf, claimAt, timeOf, timeIn, rules}
 use Rattle.uniqueness.proofs.Lists.{clash, never, and-left}
-use Rattle.uniqueness.proofs.Owned.{a, owned, Has, has-data, own-kind, not-ptr}
+use Rattle.uniqueness.proofs.Owned.{a, owned, Has, has-data, own-claim, own-at-once}
 use Rattle.uniqueness.proofs.Messages.{only-one, goes-out, carries, says-name, name-said}
 use Rattle.uniqueness.proofs.Hearing.{Hears, same, yields, defers, heard}
 use Rattle.uniqueness.proofs.Facts.{stage-held, announce-held, repeat-held, marks, OneOf, one-of, all-announced, first-of, facts-response, is-response, query-flag, unless-out}
@@ -55,11 +56,11 @@ module _ (x : State) (ok : validSetup (x .setup) ≡ true) (now : ℕ) (time : n
   outputOf law.ticks = walkedOf x now .output
   outputOf (law.hears draw m) = Response (told x now draw m .answers)
 
-  abbrev lifeOf : law.Step Message → Life
-  lifeOf law.ticks = walkedOf x now .life
-  lifeOf (law.hears draw m) = told x now draw m .life
+  abbrev progressOf : law.Step Message → Progress
+  progressOf law.ticks = walkedOf x now .progress
+  progressOf (law.hears draw m) = told x now draw m .progress
 
-  pub next-is : (c : law.Step Message) → law.next responder rules x now c ≡ with x (lifeOf c)
+  pub next-is : (c : law.Step Message) → law.next responder rules x now c ≡ with x (progressOf c)
   unfolding law.step ticks hears
   next-is law.ticks = refl
   next-is (law.hears draw m) = refl
@@ -69,25 +70,25 @@ module _ (x : State) (ok : validSetup (x .setup) ≡ true) (now : ℕ) (time : n
   out-is law.ticks = refl
   out-is (law.hears draw m) = refl
 
-  sent-is : (c : law.Step Message) → lifeOf c .sent ≡ sentBy (outputOf c) (x .life .sent) now
+  sent-is : (c : law.Step Message) → progressOf c .sent ≡ sentBy (outputOf c) (x .progress .sent) now
   unfolding receiveOf
-  sent-is law.ticks = tick-sent now aaaa′ (x .life)
+  sent-is law.ticks = tick-sent now aaaa′ (x .progress)
   sent-is (law.hears draw m) = refl
 
   in-out : (c : law.Step Message) (o : Output) (m : Message) → outputOf c ≡ o → Among m (messagesFor (x .setup) o) → Among m (law.out responder rules x now c)
   in-out c o m e h = subst (λ (l : List Message). Among m l) (sym (out-is c ∙ ap (messagesFor (x .setup)) e)) h
 
-  stage-next : (c : law.Step Message) (k : Claim) → rules .stage (law.next responder rules x now c) k ≡ stageOf (claimOf (kindOf k) (lifeOf c))
+  stage-next : (c : law.Step Message) (k : Claim) → rules .stage (law.next responder rules x now c) k ≡ stageOf (claimOf (ownClaim k) (progressOf c))
   stage-next c k = ap (λ (y : State). stageOf (claimAt y k)) (next-is c)
 
   -- ---- what is multicast
 
-  pub multicast : (c : law.Step Message) (set : Records) → outputOf c ≡ Response set → (k : Claim) (type : ℕ) (r : Own) → recordOf k type ≡ some r → has r set ≡ true
-      → hasRecord (x .setup) (indexOf r) ≡ true → law.Multicasts responder rules (x .setup) x now c k type
+  pub multicast : (c : law.Step Message) (set : Set) → outputOf c ≡ Response set → (k : Claim) (type : ℕ) (r : Own) → recordOf k type ≡ some r → has r set ≡ true
+      → hasRecord (x .setup) r ≡ true → law.Multicasts responder rules (x .setup) x now c k type
   multicast c set e k type r i h t =
       record {
-        message = responseOf (x .setup) (listed set);
-        sent = in-out c (Response set) (responseOf (x .setup) (listed set)) e (goes-out (x .setup) set r h t);
+        message = responseOf (x .setup) set;
+        sent = in-out c (Response set) (responseOf (x .setup) set) e (goes-out (x .setup) set r h t);
         carries = carries (x .setup) set k type r i h t;
       }
 
@@ -96,23 +97,23 @@ module _ (x : State) (ok : validSetup (x .setup) ≡ true) (now : ℕ) (time : n
       (rules .multicast (law.next responder rules x now c) k type ≡ rules .multicast x k type)
       ⊎ ((rules .multicast (law.next responder rules x now c) k type ≡ some now) × law.Multicasts responder rules (x .setup) x now c k type)
 
-  noted-as : (c : law.Step Message) (k : Claim) (type : ℕ) (r : Own) → recordOf k type ≡ some r → (v : Sent) → sentOf r (lifeOf c .sent) ≡ v
+  noted-as : (c : law.Step Message) (k : Claim) (type : ℕ) (r : Own) → recordOf k type ≡ some r → (v : When) → sentOf r (progressOf c .sent) ≡ v
       → rules .multicast (law.next responder rules x now c) k type ≡ timeOf v
   noted-as c k type r i v e =
-      ap (λ (y : State). timeIn (y .life .sent) (recordOf k type)) (next-is c) ∙ ap (timeIn (lifeOf c .sent)) i ∙ ap timeOf e
+      ap (λ (y : State). timeIn (y .progress .sent) (recordOf k type)) (next-is c) ∙ ap (timeIn (progressOf c .sent)) i ∙ ap timeOf e
 
-  kept-as : (c : law.Step Message) (k : Claim) (type : ℕ) (r : Own) → recordOf k type ≡ some r → sentOf r (lifeOf c .sent) ≡ sentOf r (x .life .sent) → Noted c k type
-  kept-as c k type r i e = inl (noted-as c k type r i (sentOf r (x .life .sent)) e ∙ sym (ap (timeIn (x .life .sent)) i))
+  kept-as : (c : law.Step Message) (k : Claim) (type : ℕ) (r : Own) → recordOf k type ≡ some r → sentOf r (progressOf c .sent) ≡ sentOf r (x .progress .sent) → Noted c k type
+  kept-as c k type r i e = inl (noted-as c k type r i (sentOf r (x .progress .sent)) e ∙ sym (ap (timeIn (x .progress .sent)) i))
 
-  noted-by : (c : law.Step Message) (k : Claim) (type : ℕ) (r : Own) → recordOf k type ≡ some r → hasRecord (x .setup) (indexOf r) ≡ true
-      → (o : Output) → outputOf c ≡ o → lifeOf c .sent ≡ sentBy o (x .life .sent) now → Noted c k type
+  noted-by : (c : law.Step Message) (k : Claim) (type : ℕ) (r : Own) → recordOf k type ≡ some r → hasRecord (x .setup) r ≡ true
+      → (o : Output) → outputOf c ≡ o → progressOf c .sent ≡ sentBy o (x .progress .sent) now → Noted c k type
   noted-by c k type r i t Nothing e s = kept-as c k type r i (ap (sentOf r) s)
   noted-by c k type r i t (Probe j) e s = kept-as c k type r i (ap (sentOf r) s)
-  noted-by c k type r i t (Response set) e s = go (has r set) refl (ap (sentOf r) s ∙ marks r set (x .life .sent) now)
+  noted-by c k type r i t (Response set) e s = go (has r set) refl (ap (sentOf r) s ∙ marks r set (x .progress .sent) now)
     where
-      go : (b : Bool) → has r set ≡ b → sentOf r (lifeOf c .sent) ≡ marked (has r set) (sentOf r (x .life .sent)) now → Noted c k type
-      go true h g = inr (noted-as c k type r i _ (g ∙ ap (λ (b : Bool). marked b (sentOf r (x .life .sent)) now) h), multicast c set e k type r i h t)
-      go false h g = kept-as c k type r i (g ∙ ap (λ (b : Bool). marked b (sentOf r (x .life .sent)) now) h)
+      go : (b : Bool) → has r set ≡ b → sentOf r (progressOf c .sent) ≡ marked (has r set) (sentOf r (x .progress .sent)) now → Noted c k type
+      go true h g = inr (noted-as c k type r i _ (g ∙ ap (λ (b : Bool). marked b (sentOf r (x .progress .sent)) now) h), multicast c set e k type r i h t)
+      go false h g = kept-as c k type r i (g ∙ ap (λ (b : Bool). marked b (sentOf r (x .progress .sent)) now) h)
 
   pub noted : (c : law.Step Message) (k : Claim) (type : ℕ) (d : List ℕ) → rdata (x .setup) k type ≡ some d → Noted c k type
   noted c k type d e =
@@ -122,18 +123,18 @@ module _ (x : State) (ok : validSetup (x .setup) ≡ true) (now : ℕ) (time : n
   -- ---- what is said
 
   abbrev HeldThen : law.Step Message → Claim → Type 0
-  HeldThen c k = stageOf (claimOf (kindOf k) (lifeOf c)) ≡ law.held
+  HeldThen c k = stageOf (claimOf (ownClaim k) (progressOf c)) ≡ law.held
 
-  tick-said : (k : Claim) (set : Records) → walkedOf x now .output ≡ Response set → under (kindOf k) set ≡ true → HeldThen law.ticks k
-  tick-said k set e u = go (tick-move (kindOf k) aaaa′ now (x .life))
+  tick-said : (k : Claim) (set : Set) → walkedOf x now .output ≡ Response set → under (ownClaim k) set ≡ true → HeldThen law.ticks k
+  tick-said k set e u = go (tick-move (ownClaim k) aaaa′ now (x .progress))
     where
-      go : Move (kindOf k) aaaa′ now (claimAt x k) (claimOf (kindOf k) (walkedOf x now .life)) (walkedOf x now .output) → HeldThen law.ticks k
-      go (stays f n) = let z : concerns (kindOf k) (walkedOf x now .output) ≡ true = ap (concerns (kindOf k)) e ∙ u in never (sym n ∙ z)
-      go (probes d t f) = let z : Response set ≡ Probe (kindOf k) = sym e ∙ f in clash (cc)
-      go (announces d t f) = announce-held (claimAt x k) (claimOf (kindOf k) (walkedOf x now .life)) now t
-      go (repeats d t f) = repeat-held (claimAt x k) (claimOf (kindOf k) (walkedOf x now .life)) now t .1
+      go : Move (ownClaim k) aaaa′ now (claimAt x k) (claimOf (ownClaim k) (walkedOf x now .progress)) (walkedOf x now .output) → HeldThen law.ticks k
+      go (stays f n) = let z : concerns (ownClaim k) (walkedOf x now .output) ≡ true = ap (concerns (ownClaim k)) e ∙ u in never (sym n ∙ z)
+      go (probes d t f) = let z : Response set ≡ Probe (ownClaim k) = sym e ∙ f in clash (cc)
+      go (announces d t f) = announce-held (claimAt x k) (claimOf (ownClaim k) (walkedOf x now .progress)) now t
+      go (repeats d t f) = repeat-held (claimAt x k) (claimOf (ownClaim k) (walkedOf x now .progress)) now t .1
 
-  hear-said : (draw : ℕ) (m : Message) (k : Claim) → under (kindOf k) (told x now draw m .answers) ≡ true → HeldThen (law.hears draw m) k
+  hear-said : (draw : ℕ) (m : Message) (k : Claim) → under (ownClaim k) (told x now draw m .answers) ≡ true → HeldThen (law.hears draw m) k
   hear-said draw m k u = go (heard x now draw m k)
     where
       f : Facts
@@ -142,13 +143,13 @@ module _ (x : State) (ok : validSetup (x .setup) ≡ true) (now : ℕ) (time : n
       one : OneOf k (told x now draw m .answers)
       one = one-of k (told x now draw m .answers) u
 
-      is-due : IsDue (x .life) now f aaaa′ (one .own)
+      is-due : IsDue (x .progress) now f aaaa′ (one .own)
       is-due =
-          only-due (x .life) now f aaaa′ (one .own)
-          (sym (at-once (x .life) now f aaaa′ draw (one .own) (not-ptr k (one .type) (one .own) (one .is))) ∙ one .there)
+          only-due (x .progress) now f aaaa′ (one .own)
+          (sym (at-once (x .progress) now f aaaa′ draw (one .own) (own-at-once k (one .type) (one .own) (one .is))) ∙ one .there)
 
       was-held : heldNow (claimAt x k) ≡ true
-      was-held = subst (λ (j : Kind). heldNow (claimOf j (x .life)) ≡ true) (own-kind k (one .type) (one .own) (one .is)) (is-due .held)
+      was-held = subst (λ (j : own.Claim). heldNow (claimOf j (x .progress)) ≡ true) (own-claim k (one .type) (one .own) (one .is)) (is-due .held)
 
       is-query : isResponse (m .flags) ≡ false
       is-query = sym (facts-response (x .setup) m) ∙ is-due .query
@@ -158,11 +159,11 @@ module _ (x : State) (ok : validSetup (x .setup) ≡ true) (now : ℕ) (time : n
       go (yields c g) = never (sym is-query ∙ is-response (x .setup) m k c)
       go (defers i v c p g) = let z = stage-held (claimAt x k) was-held in clash (cc)
 
-  said-by : (c : law.Step Message) (k : Claim) (set : Records) → outputOf c ≡ Response set → under (kindOf k) set ≡ true → HeldThen c k
+  said-by : (c : law.Step Message) (k : Claim) (set : Set) → outputOf c ≡ Response set → under (ownClaim k) set ≡ true → HeldThen c k
   said-by law.ticks k set e u = tick-said k set e u
   said-by (law.hears draw m) k set e u =
       let z : told x now draw m .answers ≡ set = cc in
-      hear-said draw m k (subst (λ (r : Records). under (kindOf k) r ≡ true) (sym z) u)
+      hear-said draw m k (subst (λ (r : Set). under (ownClaim k) r ≡ true) (sym z) u)
 
   says-not : (m : Message) (n : List ℕ) → isResponse (m .flags) ≡ false → responds m n ≡ true → ⊥
   unfolding responds
@@ -174,12 +175,12 @@ module _ (x : State) (ok : validSetup (x .setup) ≡ true) (now : ℕ) (time : n
   said-as c k m (Probe j) e h s =
       absurd
       (says-not m (name (x .setup) k)
-      (ap (λ (n : Message). isResponse (n .flags)) (only-one m (probeOf (x .setup) (calls.claimFor j)) h) ∙ query-flag (x .setup) j) s)
+      (ap (λ (n : Message). isResponse (n .flags)) (only-one m (probeOf (x .setup) j) h) ∙ query-flag (x .setup) j) s)
   said-as c k m (Response set) e h s =
       said-by c k set e
       (name-said (x .setup) ok set k
       (subst (λ (n : Message). responds n (name (x .setup) k) ≡ true)
-      (unless-out (responseRecords (x .setup) (listed set)) (responseOf (x .setup) (listed set)) m h) s))
+      (unless-out (responseRecords (x .setup) set) (responseOf (x .setup) set) m h) s))
 
   pub said : (c : law.Step Message) (k : Claim) (m : Message) → Among m (law.out responder rules x now c) → responds m (name (x .setup) k) ≡ true
       → rules .stage (law.next responder rules x now c) k ≡ law.held
@@ -190,14 +191,14 @@ module _ (x : State) (ok : validSetup (x .setup) ≡ true) (now : ℕ) (time : n
   abbrev Moved : law.Step Message → Claim → Type 0
   Moved c k = law.Move responder rules (x .setup) x now c k
 
-  announcement : (k : Claim) → walkedOf x now .output ≡ Response (recordsOf (kindOf k) aaaa′) → law.Announces responder rules (x .setup) x now law.ticks k
+  announcement : (k : Claim) → walkedOf x now .output ≡ Response (recordsOf (ownClaim k) aaaa′) → law.Announces responder rules (x .setup) x now law.ticks k
   announcement k e =
       let f = first-of (x .setup) k in
-      let set : Records = recordsOf (kindOf k) aaaa′ in
+      let set : Set = recordsOf (ownClaim k) aaaa′ in
       let h : has (f .1) set ≡ true = all-announced (x .setup) k (f .0) (f .1) (f .2) (f .3) in
       record {
-        message = responseOf (x .setup) (listed set);
-        sent = in-out law.ticks (Response set) (responseOf (x .setup) (listed set)) e (goes-out (x .setup) set (f .1) h (f .3));
+        message = responseOf (x .setup) set;
+        sent = in-out law.ticks (Response set) (responseOf (x .setup) set) e (goes-out (x .setup) set (f .1) h (f .3));
         all = λ type d g.
             let w : Has (x .setup) k type d = has-data (x .setup) k type d g in
             carries (x .setup) set k type (w .own) (w .is) (all-announced (x .setup) k type (w .own) (owned k type (w .own) (w .is)) (w .there)) (w .there);
@@ -206,22 +207,22 @@ module _ (x : State) (ok : validSetup (x .setup) ≡ true) (now : ℕ) (time : n
 
   module _ (k : Claim) where
     -- the claim before and after the tick
-    abbrev after : life.Claim
-    after = claimOf (kindOf k) (walkedOf x now .life)
+    abbrev after : ClaimState
+    after = claimOf (ownClaim k) (walkedOf x now .progress)
 
     soon : (i : ℕ) → law.probing i (afterMs now 250) ≡ law.probing i (now + 250)
     soon i = ap (law.probing i) (after-exact now 250 time (omega arith))
 
-    sent-probe : walkedOf x now .output ≡ Probe (kindOf k) → Among (probeOf (x .setup) (ownClaim k)) (law.out responder rules x now law.ticks)
+    sent-probe : walkedOf x now .output ≡ Probe (ownClaim k) → Among (probeOf (x .setup) (ownClaim k)) (law.out responder rules x now law.ticks)
     unfolding messagesFor
-    sent-probe e = in-out law.ticks (Probe (kindOf k)) (probeOf (x .setup) (ownClaim k)) e (inl refl)
+    sent-probe e = in-out law.ticks (Probe (ownClaim k)) (probeOf (x .setup) (ownClaim k)) e (inl refl)
 
-    first-probe : (c : life.Claim) → claimAt x k ≡ c → law.Unclaimed (stageOf c) → Probing1 (afterMs now 250) ≡ after → walkedOf x now .output ≡ Probe (kindOf k) → Moved law.ticks k
+    first-probe : (c : ClaimState) → claimAt x k ≡ c → law.Unclaimed (stageOf c) → Probing1 (afterMs now 250) ≡ after → walkedOf x now .output ≡ Probe (ownClaim k) → Moved law.ticks k
     first-probe c e w t o =
-        law.probesFirst (subst (λ (d : life.Claim). law.Unclaimed (stageOf d)) (sym e) w) (sent-probe o)
+        law.probesFirst (subst (λ (d : ClaimState). law.Unclaimed (stageOf d)) (sym e) w) (sent-probe o)
         (stage-next law.ticks k ∙ sym (ap stageOf t) ∙ soon 1)
 
-    probed : (c : life.Claim) → claimAt x k ≡ c → claimDue c now ≡ true → takenStep c now ≡ step.Probe after → walkedOf x now .output ≡ Probe (kindOf k) → Moved law.ticks k
+    probed : (c : ClaimState) → claimAt x k ≡ c → claimDue c now ≡ true → takenAction c now ≡ action.Probe after → walkedOf x now .output ≡ Probe (ownClaim k) → Moved law.ticks k
     probed (Waiting u) e d t o = first-probe (Waiting u) e tt (cc) o
     probed (Probing1 u) e d t o =
         let z : Probing2 (afterMs now 250) ≡ after = cc in
@@ -235,7 +236,7 @@ module _ (x : State) (ok : validSetup (x .setup) ≡ true) (now : ℕ) (time : n
     probed Held e d t o = clash (cc)
     probed Lost e d t o = clash (cc)
 
-    announced : (c : life.Claim) → claimAt x k ≡ c → claimDue c now ≡ true → takenStep c now ≡ step.Announce after → walkedOf x now .output ≡ Response (recordsOf (kindOf k) aaaa′)
+    announced : (c : ClaimState) → claimAt x k ≡ c → claimDue c now ≡ true → takenAction c now ≡ action.Announce after → walkedOf x now .output ≡ Response (recordsOf (ownClaim k) aaaa′)
         → Moved law.ticks k
     announced (Waiting u) e d t o = clash (cc)
     announced (Probing1 u) e d t o = clash (cc)
@@ -247,7 +248,7 @@ module _ (x : State) (ok : validSetup (x .setup) ≡ true) (now : ℕ) (time : n
     announced Held e d t o = clash (cc)
     announced Lost e d t o = clash (cc)
 
-    ticked : Move (kindOf k) aaaa′ now (claimAt x k) after (walkedOf x now .output) → Moved law.ticks k
+    ticked : Move (ownClaim k) aaaa′ now (claimAt x k) after (walkedOf x now .output) → Moved law.ticks k
     ticked (stays e n) = law.stays (stage-next law.ticks k ∙ ap stageOf e)
     ticked (probes d t o) = probed (claimAt x k) refl d t o
     ticked (announces d t o) = announced (claimAt x k) refl d t o
@@ -261,5 +262,5 @@ module _ (x : State) (ok : validSetup (x .setup) ≡ true) (now : ℕ) (time : n
     told-by draw m (defers i u c p g) = law.hearsLater draw m i u refl c p
 
     pub move : (c : law.Step Message) → Moved c k
-    move law.ticks = ticked (tick-move (kindOf k) aaaa′ now (x .life))
+    move law.ticks = ticked (tick-move (ownClaim k) aaaa′ now (x .progress))
     move (law.hears draw m) = told-by draw m (heard x now draw m k)

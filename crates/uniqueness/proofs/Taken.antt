@@ -32,7 +32,7 @@ no-refusal (refused n) m e = clash (cc)
 read-taken : (p : List ℕ) (m : Message) → readAs p ≡ some m → Taken p
 unfolding receiveRefusal
 read-taken p m e z now draw room n h lo hi =
-    go (wrongTime (z .life) now) (wrongReplyDraw draw) (smallBuffer room) (wrongState z) (rw (no-refusal (messageAt p) m e) at h)
+    go (wrongTime (z .progress) now) (wrongReplyDraw draw) (smallBuffer room) (wrongState z) (rw (no-refusal (messageAt p) m e) at h)
   where
     go : (t d b w : Bool) → cond t 1 (cond d 2 (cond b 3 (cond w 7 0))) ≡ n → ⊥
     go true d b w f = omega (arith, f)

@@ -5,7 +5,10 @@ use mathlib.Core.List.{List, [], _∷_}
 use lib.ListN.{replicate}
 use Prim.Native.Nat.{ℕ, _+_}
 use Rattle.own.specs.declared.records.Setup.{Setup}
-use Rattle.own.specs.declared.records.Claim.the-variants.{Instance, Host}
+use Rattle.claims.specs.records.Sets.{only, atOnce, recordsOf}
+use Rattle.claims.specs.declared.records.Claim.the-variants.{Instance, Host}
+use Rattle.claims.specs.declared.records.Own.the-variants.{Ptr}
+use Rattle.claims.specs.declared.records.Set.{Set}
 use Rattle.writer.specs.own_packets.Own.{responsePacket, probePacket}
 use Rattle.link.specs.Entries.{Call, starts, ticks, receives, cut, Entry}
 use Rattle.uniqueness.specs.Responder.{responder}
@@ -31,6 +34,10 @@ one = setupOf 0x68 515
 
 abbrev pub other : Setup
 other = setupOf 0x69 516
+
+-- what answers a probe for the instance name; its first announcement has PTR too
+abbrev pub srvAndTxt : Set
+srvAndTxt = atOnce (recordsOf Instance false)
 
 abbrev pub at : ℕ → Call responder → Entry responder
 at t c = record { time = t; call = c }
@@ -75,7 +82,7 @@ contest =
     ∷ tickAt 9 5000 1000
     ∷ hearAt 0 0 1080 (probePacket other Instance)
     ∷ hearAt 0 0 1100 (probePacket other Host)
-    ∷ hearAt 9 5000 1150 (responsePacket one (false ∷ true ∷ true ∷ false ∷ false ∷ []))
+    ∷ hearAt 9 5000 1150 (responsePacket one srvAndTxt)
     ∷ tickAt 9 5000 1300
     ∷ hearAt 0 0 1310 (probePacket other Host)
     ∷ tickAt 9 5000 1560
@@ -83,8 +90,8 @@ contest =
     ∷ tickAt 9 5000 1840
     ∷ tickAt 0 0 1850
     ∷ tickAt 0 0 1850
-    ∷ hearAt 0 0 1870 (responsePacket other (false ∷ false ∷ false ∷ true ∷ false ∷ []))
-    ∷ hearAt 9 5000 1900 (responsePacket one (true ∷ false ∷ false ∷ false ∷ false ∷ []))
+    ∷ hearAt 0 0 1870 (responsePacket other (recordsOf Host false))
+    ∷ hearAt 9 5000 1900 (responsePacket one (only Ptr))
     ∷ []
 
 -- Both start in one millisecond. The first hears the second's probe, whose records are later, and is deferred; then its announcement, and loses the
@@ -117,10 +124,10 @@ rivals =
     ∷ hearAt 1 5000 600 (probePacket one Host)
     ∷ tickAt 1 5000 750
     ∷ tickAt 1 5000 750
-    ∷ hearAt 0 0 790 (responsePacket other (true ∷ true ∷ true ∷ false ∷ false ∷ []))
-    ∷ hearAt 0 0 790 (responsePacket other (false ∷ false ∷ false ∷ true ∷ false ∷ []))
+    ∷ hearAt 0 0 790 (responsePacket other (recordsOf Instance false))
+    ∷ hearAt 0 0 790 (responsePacket other (recordsOf Host false))
     ∷ tickAt 0 0 820
-    ∷ hearAt 1 5000 850 (responsePacket one (false ∷ false ∷ false ∷ true ∷ false ∷ []))
+    ∷ hearAt 1 5000 850 (responsePacket one (recordsOf Host false))
     ∷ at 900 (cut 0)
     ∷ at 950 (starts one 950 0)
     ∷ tickAt 30 0 950
@@ -128,7 +135,7 @@ rivals =
     ∷ hearAt 1 5000 1010 (probePacket one Instance)
     ∷ hearAt 1 5000 1010 (probePacket one Host)
     ∷ hearAt 1 5000 1020 (0 ∷ [])
-    ∷ hearAt 30 0 1050 (responsePacket other (false ∷ true ∷ true ∷ false ∷ false ∷ []))
+    ∷ hearAt 30 0 1050 (responsePacket other srvAndTxt)
     ∷ tickAt 30 0 1200
     ∷ hearAt 1 5000 1230 (probePacket one Host)
     ∷ tickAt 1 5000 1260

@@ -9,28 +9,30 @@ use Rattle.wire.specs.case_folding.Fold.{sameName}
 use Rattle.wire.specs.message.Message.{Record, Message, isResponse, allRecords}
 use Rattle.wire.specs.message.Layout.{Reads, read, refused, messageAt}
 use Rattle.own.specs.declared.records.Setup.{Setup}
-use Rattle.own.specs.declared.records.Claim as own
 use Rattle.own.specs.records.Records.{hasRecord, ownRdata}
-use Rattle.claims.specs.Claims.{dueOf, replyDueOf}
-use Rattle.claims.specs.declared.Kind.{Kind}
-use Rattle.claims.specs.declared.Kind.the-variants.{Instance, Host}
-use Rattle.claims.specs.Records.{Own, PTR, SRV, TXT, A, AAAA}
-use Rattle.facts.specs.probe.Probe.{some as someOf, isProbe, under}
+use Rattle.claims.specs.records.Own.{ownType, claimed}
+use Rattle.claims.specs.declared.records.Claim as own
+use Rattle.claims.specs.declared.records.Claim.the-variants.{Instance, Host}
+use Rattle.claims.specs.declared.records.Own.{Own}
+use Rattle.claims.specs.declared.When.{When}
+use Rattle.claims.specs.declared.When.the-variants.{Never, At}
+use Rattle.claims.specs.declared.Progress.{Progress}
+use Rattle.claims.specs.steps.Steps.{steps, stepDue}
+use Rattle.claims.specs.declared.steps.Step.{Step}
+use Rattle.wire.specs.Lists.{some as someOf}
+use Rattle.facts.specs.probe.Probe.{isProbe, under}
 use Rattle.facts.specs.Facts.{inConflict, claimName, theirsLater}
-use Rattle.responder.specs.Calls.{claimFor, startOf, receivedPacket, receiveOf, tickedPacket, tickOf}
+use Rattle.responder.specs.Calls.{startOf, receivedPacket, receiveOf, tickedPacket, tickOf}
 use Rattle.responder.specs.declared.State.{State}
 use Rattle.responder.specs.declared.Answer.{Answer}
 use Rattle.responder.specs.declared.Answer.the-variants.{Refused, Quiet, Sent}
 use Rattle.link.specs.Responder as link
 use Rattle.link.specs.Responder.{Responder, Claim, instance, host}
 
--- the two claims by the names that the claims' crate and the own records' have for them
-abbrev pub kindOf : Claim → Kind
-kindOf instance = Instance
-kindOf host = Host
-
+-- the two claims by the names that the own records' crate has for them
 abbrev pub ownClaim : Claim → own.Claim
-ownClaim k = claimFor (kindOf k)
+ownClaim instance = Instance
+ownClaim host = Host
 
 -- ---- the calls
 
@@ -57,34 +59,35 @@ receive x now port draw p room =
     answeredBy (receiveOf x now port draw p room .answer) (receiveOf x now port draw p room .state) (receivedPacket x now port draw p room)
 
 -- a time, where there is one
-abbrev pub listed : Option ℕ → List ℕ
-listed none = []
-listed (some u) = u ∷ []
+abbrev pub listed : When → List ℕ
+listed Never = []
+listed (At u) = u ∷ []
+
+-- the times at which steps are due
+unfoldable pub dueTimes : List Step → Progress → List ℕ
+dueTimes [] progress = []
+dueTimes (s ∷ ss) progress = listed (stepDue s progress) ++ dueTimes ss progress
 
 -- the due steps: "instance, host, then PTR reply"
 unfoldable pub due : State → List ℕ
-due x = listed (dueOf (x .life .instance)) ++ (listed (dueOf (x .life .host)) ++ listed (replyDueOf (x .life .reply)))
+due x = dueTimes steps (x .progress)
 
 -- ---- names and data
 
--- the index of an own record: PTR, SRV, TXT, A, AAAA
-abbrev pub indexOf : Own → ℕ
-indexOf PTR = 0
-indexOf SRV = 1
-indexOf TXT = 2
-indexOf A = 3
-indexOf AAAA = 4
+-- of some records the one of a type
+unfoldable pub ofType : ℕ → List Own → Option Own
+ofType type [] = none
+ofType type (o ∷ os) = cond (eqb type (ownType o)) (some o) (ofType type os)
 
 -- "Claims: the instance name with SRV and TXT, the host name with A and AAAA": the claim's record of a type (SRV 33, TXT 16, A 1, AAAA 28).
--- These are the records `firstOf` and `secondOf` by which a message is tested below.
+-- `claimed` has the records by which a message is tested below.
 unfoldable pub recordOf : Claim → ℕ → Option Own
-recordOf instance type = cond (eqb type 33) (some SRV) (cond (eqb type 16) (some TXT) none)
-recordOf host type = cond (eqb type 1) (some A) (cond (eqb type 28) (some AAAA) none)
+recordOf k type = ofType type (claimed (ownClaim k))
 
 -- its rdata, names expanded, if the set-up has the record (AAAA "may be missing")
 abbrev pub dataOf : Setup → Option Own → Option (List ℕ)
 dataOf s none = none
-dataOf s (some r) = cond (hasRecord s (indexOf r)) (some (ownRdata s (indexOf r))) none
+dataOf s (some r) = cond (hasRecord s r) (some (ownRdata s r)) none
 
 abbrev pub rdata : Setup → Claim → ℕ → Option (List ℕ)
 rdata s k type = dataOf s (recordOf k type)

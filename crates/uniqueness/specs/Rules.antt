@@ -9,54 +9,54 @@ use Rattle.wire.specs.message.Message.{Message, isResponse}
 use Rattle.own.specs.declared.records.Setup.{Setup}
 use Rattle.own.specs.records.Setups.{validSetup}
 use Rattle.own.specs.records.Records.{hasRecord}
-use Rattle.claims.specs.Time.{lastTime}
+use Rattle.claims.specs.Time.{lastTime, sentOf}
 use Rattle.claims.specs.Claims as claims
-use Rattle.claims.specs.Records.{Own, sentOf}
-use Rattle.claims.specs.declared.Claim as life
-use Rattle.claims.specs.declared.Claim.the-variants.{Waiting, Probing1, Probing2, Probing3, Deferred, Announced, Held, Lost}
-use Rattle.claims.specs.declared.Sent.{Sent}
-use Rattle.claims.specs.declared.Sent.the-variants.{Never, At}
+use Rattle.claims.specs.declared.records.Own.{Own}
+use Rattle.claims.specs.declared.ClaimState.{ClaimState}
+use Rattle.claims.specs.declared.ClaimState.the-variants.{Waiting, Probing1, Probing2, Probing3, Deferred, Announced, Held, Lost}
+use Rattle.claims.specs.declared.When.{When}
+use Rattle.claims.specs.declared.When.the-variants.{Never, At}
 use Rattle.claims.specs.declared.Multicasts.{Multicasts}
-use Rattle.claims.specs.declared.Life.{Life}
+use Rattle.claims.specs.declared.Progress.{Progress}
 use Rattle.claims.specs.declared.steps.Output.{Output}
 use Rattle.claims.specs.declared.steps.Output.the-variants.{Nothing, Probe, Response}
 use Rattle.claims.specs.answers.Answers as answers
 use Rattle.claims.specs.declared.answers.Received as heard
 use Rattle.facts.specs.Facts.{factsOf}
 use Rattle.writer.specs.own_packets.Own.{ownRecord, responseRecords, responseOf, probeOf}
-use Rattle.responder.specs.Calls.{claimFor, listed, walkedOf}
+use Rattle.responder.specs.Calls.{walkedOf}
 use Rattle.responder.specs.declared.State.{State}
 use Rattle.link.specs.Responder.{Claim}
 use Rattle.link.specs.Laws.{Rules, Stage, waiting, probing, held, apart}
 use Rattle.link.specs.Premises.{Among}
-use Rattle.uniqueness.specs.Responder.{kindOf, ownClaim, indexOf, recordOf, responder}
+use Rattle.uniqueness.specs.Responder.{ownClaim, recordOf, responder}
 
 -- the messages of an output, at most one; none where it has no record
-abbrev pub unlessEmpty : List ℕ → Message → List Message
+abbrev pub unlessEmpty : List Own → Message → List Message
 unlessEmpty [] m = []
-unlessEmpty (i ∷ is) m = m ∷ []
+unlessEmpty (o ∷ os) m = m ∷ []
 
 unfoldable pub messagesFor : Setup → Output → List Message
 messagesFor s Nothing = []
-messagesFor s (Probe k) = probeOf s (claimFor k) ∷ []
-messagesFor s (Response set) = unlessEmpty (responseRecords s (listed set)) (responseOf s (listed set))
+messagesFor s (Probe k) = probeOf s k ∷ []
+messagesFor s (Response set) = unlessEmpty (responseRecords s set) (responseOf s set)
 
--- the state with the life that a call leaves
-abbrev pub with : State → Life → State
-with x life = record { setup = x .setup; life = life }
+-- the state with the progress that a call leaves
+abbrev pub with : State → Progress → State
+with x progress = record { setup = x .setup; progress = progress }
 
 -- what a message does to a state
 abbrev pub told : State → ℕ → ℕ → Message → heard.Received
-told x now draw m = answers.receiveOf (x .life) now draw (factsOf (x .setup) m) (x .setup .hasaaaa)
+told x now draw m = answers.receiveOf (x .progress) now draw (factsOf (x .setup) m) (x .setup .hasaaaa)
 
 unfoldable pub ticks : State → ℕ → State × List Message
-ticks x now = (with x (walkedOf x now .life), messagesFor (x .setup) (walkedOf x now .output))
+ticks x now = (with x (walkedOf x now .progress), messagesFor (x .setup) (walkedOf x now .output))
 
 unfoldable pub hears : State → ℕ → ℕ → Message → State × List Message
-hears x now draw m = (with x (told x now draw m .life), messagesFor (x .setup) (Response (told x now draw m .answers)))
+hears x now draw m = (with x (told x now draw m .progress), messagesFor (x .setup) (Response (told x now draw m .answers)))
 
 -- a claim's stage
-abbrev pub stageOf : life.Claim → Stage
+abbrev pub stageOf : ClaimState → Stage
 stageOf (Waiting due) = waiting due
 stageOf (Probing1 due) = probing 1 due
 stageOf (Probing2 due) = probing 2 due
@@ -66,11 +66,11 @@ stageOf (Announced due) = held
 stageOf Held = held
 stageOf Lost = apart
 
-abbrev pub claimAt : State → Claim → life.Claim
-claimAt x k = claims.claimOf (kindOf k) (x .life)
+abbrev pub claimAt : State → Claim → ClaimState
+claimAt x k = claims.claimOf (ownClaim k) (x .progress)
 
 -- when a record was last multicast
-abbrev pub timeOf : Sent → Option ℕ
+abbrev pub timeOf : When → Option ℕ
 timeOf Never = none
 timeOf (At time) = some time
 
@@ -83,7 +83,7 @@ pub record Carried (m : Message) (s : Setup) (k : Claim) (type : ℕ) : Type 0 w
   pub own : Own
   pub owned : recordOf k type ≡ some own
   pub response : isResponse (m .flags) ≡ true
-  pub member : Among (ownRecord s false (indexOf own)) (m .answers)
+  pub member : Among (ownRecord s false own) (m .answers)
 
 -- x is a state with the set-up s, which keeps the rules
 pub record Of (x : State) (s : Setup) : Type 0 where
@@ -103,7 +103,7 @@ rules = record {
   Ready = Ready;
   Valid = λ s. validSetup s ≡ true;
   stage = λ x k. stageOf (claimAt x k);
-  multicast = λ x k type. timeIn (x .life .sent) (recordOf k type);
+  multicast = λ x k type. timeIn (x .progress .sent) (recordOf k type);
   probe = λ s k. probeOf s (ownClaim k);
   Carries = Carried;
 }

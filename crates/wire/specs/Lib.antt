@@ -1,3 +1,5 @@
+pub mod Lists
+pub mod refusals
 pub mod octets
 pub mod case_folding
 pub mod name_pieces

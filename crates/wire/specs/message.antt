@@ -1,3 +1,5 @@
 pub mod Message
 pub mod Layout
 pub mod Places
+pub mod Readable
+pub mod Refusals

@@ -4,11 +4,11 @@ ghost use mathlib.Core.Path.{_≡_};
 ghost use denote.Ref.{ptr};
 ghost use Prim.Native.Nat.{_+_, _≤_};
 ghost use lib.ListN.{length, take, drop};
-ghost use lib.Seq.{sets};
 ghost use Rattle.wire.specs.names.Names.{nameAt};
 ghost use Rattle.wire.specs.rdata.Rdata.{rdataAt};
 ghost use Rattle.wire.specs.expansion.Equal.{sameBytes, rdataIs, rdataSame};
 ghost use Rattle.wire.specs.expansion.Opened.{openedName, openedAt, viewOf, viewStart};
+use crate::message::RecordAt;
 
 // Rdata with its name expanded: 6 bytes and a name of 255 at the most, zeros after them.
 pub struct Opened {
@@ -33,18 +33,6 @@ pub fn same_bytes(a: &[u8], b: &[u8]) -> bool
     true
 }
 
-// Writes `s` into `out` from index `at` on.
-fn put(out: &mut [u8; 261], at: usize, s: &[u8])
-    requires { ⌜ at + length (now s) ≤ 261 ⌝ }
-    ensures { λ _. ⌜ now (out .exit) ≡ sets (now (out .entry)) at (now (s .entry)) ⌝ }
-{
-    let mut i = 0;
-    while i < s.len() {
-        out[at + i] = s[i];
-        i += 1;
-    }
-}
-
 // Rdata at `at` that is `head` bytes and a name, the name expanded.
 fn open_name(p: &[u8], at: usize, head: usize) -> Opened
     requires { ⌜ (head ≤ 6) × (at + head ≤ length (now p)) ⌝ }
@@ -58,8 +46,8 @@ fn open_name(p: &[u8], at: usize, head: usize) -> Opened
     match name {
         crate::names::Name::Found(span) => {
             let len = span.len;
-            put(&mut out, 0, &p[at..from]);
-            put(&mut out, head, &b[..len]);
+            crate::buffer::put(&mut out, 0, &p[at..from]);
+            crate::buffer::put(&mut out, head, &b[..len]);
             Opened {
                 len: head + len,
                 bytes: out,
@@ -73,20 +61,18 @@ fn open_name(p: &[u8], at: usize, head: usize) -> Opened
 }
 
 // Rdata that holds a name, the name expanded from a buffer of zeros. Other rdata is not copied: it lies in the packet as it is.
-pub fn open(p: &[u8], rtype: u16, at: usize, len: usize) -> Opened
-    ensures { λ r. ⌜ r ≡ openedAt (now (p .entry)) rtype at len ⌝ }
+pub fn open(p: &[u8], f: RecordAt) -> Opened
+    ensures { λ r. ⌜ r ≡ openedAt (now (p .entry)) f ⌝ }
 {
-    if !crate::rdata::rdata_fits(p, rtype, at, len) {
+    if !crate::rdata::rdata_fits(p, f) {
         return Opened {
             len: 0,
             bytes: [0u8; 261],
         };
     }
-    if rtype == crate::rdata::PTR {
-        return open_name(p, at, 0);
-    }
-    if rtype == crate::rdata::SRV {
-        return open_name(p, at, 6);
+    let held = crate::rdata::form_of(f.rtype);
+    if held.named {
+        return open_name(p, f.rdata, held.before);
     }
     Opened {
         len: 0,
@@ -95,56 +81,39 @@ pub fn open(p: &[u8], rtype: u16, at: usize, len: usize) -> Opened
 }
 
 // The bytes of rdata, names expanded: a part of what `open` gave where it holds a name, else the part of the packet itself.
-pub fn view<'a>(
-    p: &'a [u8],
-    opened: &'a [u8],
-    n: usize,
-    rtype: u16,
-    at: usize,
-    len: usize,
-) -> &'a [u8]
-    ensures bytes { λ r. ⌜ now r ≡ viewOf (now (p .entry)) (now (opened .entry)) n rtype at len ⌝ }
-    ensures start { λ r. ⌜ ptr r ≡ viewStart (now (p .entry)) (ptr (p .entry)) (now (opened .entry)) (ptr (opened .entry)) rtype at ⌝ }
+pub fn view<'a>(p: &'a [u8], opened: &'a [u8], n: usize, f: RecordAt) -> &'a [u8]
+    ensures bytes { λ r. ⌜ now r ≡ viewOf (now (p .entry)) (now (opened .entry)) n f ⌝ }
+    ensures start { λ r. ⌜ ptr r ≡ viewStart (now (p .entry)) (ptr (p .entry)) (now (opened .entry)) (ptr (opened .entry)) f ⌝ }
 {
-    if rtype == crate::rdata::PTR {
+    let held = crate::rdata::form_of(f.rtype);
+    if held.named {
         return crate::rdata::part(opened, 0, n);
     }
-    if rtype == crate::rdata::SRV {
-        return crate::rdata::part(opened, 0, n);
-    }
-    crate::rdata::part(p, at, len)
+    crate::rdata::part(p, f.rdata, f.rdlength)
 }
 
 // Whether the rdata of a record equals expanded bytes. Rdata that is not as its type asks equals nothing.
-pub fn rdata_is(p: &[u8], rtype: u16, at: usize, len: usize, other: &[u8]) -> bool
-    ensures { λ r. ⌜ r ≡ rdataIs (rdataAt (now (p .entry)) rtype at len) (now (other .entry)) ⌝ }
+pub fn rdata_is(p: &[u8], f: RecordAt, other: &[u8]) -> bool
+    ensures { λ r. ⌜ r ≡ rdataIs (rdataAt (now (p .entry)) f) (now (other .entry)) ⌝ }
 {
-    if !crate::rdata::rdata_fits(p, rtype, at, len) {
+    if !crate::rdata::rdata_fits(p, f) {
         return false;
     }
-    let o = open(p, rtype, at, len);
+    let o = open(p, f);
     let b = o.bytes;
     let n = o.len;
-    same_bytes(view(p, &b, n, rtype, at, len), other)
+    same_bytes(view(p, &b, n, f), other)
 }
 
 // Whether the rdata of two records of one type are equal, the first in the packet `p` and the second in the packet `q`.
-pub fn same_rdata(
-    rtype: u16,
-    p: &[u8],
-    at: usize,
-    len: usize,
-    q: &[u8],
-    from: usize,
-    size: usize,
-) -> bool
-    ensures { λ r. ⌜ r ≡ rdataSame (rdataAt (now (p .entry)) rtype at len) (rdataAt (now (q .entry)) rtype from size) ⌝ }
+pub fn same_rdata(p: &[u8], f: RecordAt, q: &[u8], g: RecordAt) -> bool
+    ensures { λ r. ⌜ r ≡ rdataSame (rdataAt (now (p .entry)) f) (rdataAt (now (q .entry)) g) ⌝ }
 {
-    if !crate::rdata::rdata_fits(q, rtype, from, size) {
+    if !crate::rdata::rdata_fits(q, g) {
         return false;
     }
-    let o = open(q, rtype, from, size);
+    let o = open(q, g);
     let b = o.bytes;
     let n = o.len;
-    rdata_is(p, rtype, at, len, view(q, &b, n, rtype, from, size))
+    rdata_is(p, f, view(q, &b, n, g))
 }

@@ -8,3 +8,4 @@ pub mod name_pieces;
 pub mod names;
 pub mod octets;
 pub mod rdata;
+pub mod refusals;

@@ -1,10 +1,10 @@
 // Reads a message (specification, 'Reading a message'; RFC 1035, 4): a header, then questions and records by their counts. A caller checks the whole
 // message once, and then walks a section with a cursor.
 ghost use mathlib.Core.Path.{_≡_};
-ghost use Rattle.wire.specs.octets.Octets.{word16};
 ghost use Rattle.wire.specs.message.Message.{ttlOf};
-ghost use Rattle.wire.specs.message.Layout.{questionRead, recordRead, questionAt, recordAt, listFrom, questionsOf, plainHeader, messageAt, readOf};
+ghost use Rattle.wire.specs.message.Layout.{questionRead, recordRead, questionAt, recordAt, listFrom, sectionsOf, plainHeader, messageAt, readOf};
 ghost use Rattle.wire.specs.message.Places.{pastItem, pastList};
+ghost use Rattle.wire.specs.message.Readable.{wholeRead};
 
 pub const LEAST_MESSAGE: usize = 12;
 
@@ -139,6 +139,21 @@ pub fn record_at(p: &[u8], at: usize) -> RecordRead
     }
 }
 
+// The record at an offset, if its rdata is as its type asks.
+pub fn whole_record(p: &[u8], at: usize) -> RecordRead
+    ensures { λ r. ⌜ r ≡ wholeRead (now (p .entry)) at ⌝ }
+{
+    match record_at(p, at) {
+        RecordRead::Found(f) => {
+            if crate::rdata::rdata_fits(p, f) {
+                return RecordRead::Found(f);
+            }
+            RecordRead::Malformed
+        }
+        RecordRead::Malformed => RecordRead::Malformed,
+    }
+}
+
 // Past the question at an offset.
 fn past_question(p: &[u8], at: usize) -> Place
     ensures { λ r. ⌜ r ≡ pastItem (questionAt (now (p .entry)) at) ⌝ }
@@ -155,7 +170,7 @@ fn past_record(p: &[u8], at: usize) -> Place
 {
     match record_at(p, at) {
         RecordRead::Found(r) => {
-            if crate::rdata::rdata_fits(p, r.rtype, r.rdata, r.rdlength) {
+            if crate::rdata::rdata_fits(p, r) {
                 Place::At(r.next)
             } else {
                 Place::Malformed
@@ -217,23 +232,23 @@ fn plain_header(flags: u16) -> bool
 
 // The sections of a packet that is long enough for a header.
 fn read_sections(p: &[u8]) -> MessageRead
-    ensures { λ r. ⌜ r ≡ readOf (questionsOf (now (p .entry)) (listFrom (questionAt (now (p .entry))) (word16 (now (p .entry)) 4) 12)) ⌝ }
+    ensures { λ r. ⌜ r ≡ readOf (sectionsOf (now (p .entry))) ⌝ }
 {
     let questions = crate::octets::be16(p, 4);
     let answers = crate::octets::be16(p, 6);
     let authorities = crate::octets::be16(p, 8);
     let additionals = crate::octets::be16(p, 10);
     let Place::At(a) = questions_end(p, LEAST_MESSAGE, questions) else {
-        return MessageRead::Refused(6);
+        return MessageRead::Refused(crate::refusals::MALFORMED);
     };
     let Place::At(b) = records_end(p, a, answers) else {
-        return MessageRead::Refused(6);
+        return MessageRead::Refused(crate::refusals::MALFORMED);
     };
     let Place::At(c) = records_end(p, b, authorities) else {
-        return MessageRead::Refused(6);
+        return MessageRead::Refused(crate::refusals::MALFORMED);
     };
     let Place::At(end) = records_end(p, c, additionals) else {
-        return MessageRead::Refused(6);
+        return MessageRead::Refused(crate::refusals::MALFORMED);
     };
     MessageRead::Read(Layout {
         id: crate::octets::be16(p, 0),
@@ -263,13 +278,13 @@ pub fn read_message(p: &[u8]) -> MessageRead
     ensures { λ r. ⌜ r ≡ readOf (messageAt (now (p .entry))) ⌝ }
 {
     if p.len() < LEAST_MESSAGE {
-        return MessageRead::Refused(4);
+        return MessageRead::Refused(crate::refusals::LENGTH);
     }
     if MOST_MESSAGE < p.len() {
-        return MessageRead::Refused(4);
+        return MessageRead::Refused(crate::refusals::LENGTH);
     }
     if !plain_header(crate::octets::be16(p, 2)) {
-        return MessageRead::Refused(5);
+        return MessageRead::Refused(crate::refusals::HEADER);
     }
     read_sections(p)
 }

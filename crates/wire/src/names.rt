@@ -1,9 +1,8 @@
 // Names in a packet (specification, 'Reading a message'; RFC 1035, 3.1 and 4.1.4): labels of 1..63 bytes and a zero byte, at most 255 bytes
 // uncompressed; a byte of 0xC0 or more starts a pointer, whose target is at least 12 and lies before the run of labels that led to it.
 ghost use mathlib.Core.Path.{_≡_};
-ghost use Prim.Native.Nat.{_+_, _≤_, _<_};
+ghost use Prim.Native.Nat.{_+_, _<_};
 ghost use lib.ListN.{length};
-ghost use lib.Seq.{sets};
 ghost use Rattle.wire.specs.names.Names.{nameAt, fromRun, ending, isName};
 ghost use Rattle.wire.specs.names.Answers.{Wrote, Chased, expanded, foundOf, nameIs};
 use crate::name_pieces::Piece;
@@ -24,18 +23,6 @@ pub enum Name {
 pub struct Expanded {
     pub name: Name,
     pub bytes: [u8; 255],
-}
-
-// Writes `s` into `out` from index `at` on.
-fn put(out: &mut [u8; 255], at: usize, s: &[u8])
-    requires { ⌜ at + length (now s) ≤ 255 ⌝ }
-    ensures { λ _. ⌜ now (out .exit) ≡ sets (now (out .entry)) at (now (s .entry)) ⌝ }
-{
-    let mut i = 0;
-    while i < s.len() {
-        out[at + i] = s[i];
-        i += 1;
-    }
 }
 
 // The end of a chain of pointers: the first place, from `target` on, at which no pointer stands. A loop, so that a long chain takes no stack.
@@ -77,7 +64,7 @@ fn walk(p: &[u8], start: usize, at: usize, out: &mut [u8; 255], used: usize) -> 
         }
         Piece::Label(n) => {
             let next = at + 1 + n;
-            put(out, used, &p[at..next]);
+            crate::buffer::put(out, used, &p[at..next]);
             walk(p, start, next, out, used + 1 + n)
         }
         Piece::Pointer(target) => follow(p, at, target, out, used),

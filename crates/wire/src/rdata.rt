@@ -7,8 +7,9 @@ ghost use lib.ListN.{length, take, drop};
 ghost use mathlib.Core.List.{[]};
 ghost use Rattle.wire.specs.names.Names.{nameAt};
 ghost use Rattle.wire.specs.names.Answers.{expanded};
-ghost use Rattle.wire.specs.rdata.Rdata.{stringsFill, rdataIn, rdataAt, endingName};
-ghost use Rattle.wire.specs.rdata.Answers.{fits, srvOf, targetIn, startIn};
+ghost use Rattle.wire.specs.rdata.Rdata.{stringsFill, formOf, rdataIn, rdataAt, endingName};
+ghost use Rattle.wire.specs.rdata.Answers.{fits, srvOf, startIn};
+use crate::message::RecordAt;
 
 // The five types (RFC 1035, RFC 2782, RFC 3596).
 pub const A: u16 = 1;
@@ -20,6 +21,12 @@ pub const TXT: u16 = 16;
 pub const AAAA: u16 = 28;
 
 pub const SRV: u16 = 33;
+
+// The form of rdata: whether it holds a name, and how many bytes stand before it. Behind the name there is none.
+pub struct Form {
+    pub named: bool,
+    pub before: usize,
+}
 
 // The numbers in front of an SRV's target.
 pub struct SrvNumbers {
@@ -54,40 +61,67 @@ fn name_ends(p: &[u8], at: usize, end: usize) -> bool
     }
 }
 
-// Whether `d`, the part of `p` that starts at `at`, is as its type asks: A 4 bytes, PTR one name, TXT strings, AAAA 16 bytes, SRV 6 bytes and one
-// name; of other types nothing is asked.
-fn part_fits(p: &[u8], d: &[u8], at: usize, rtype: u16) -> bool
-    requires { ⌜ at + length (now d) ≤ length (now p) ⌝ }
-    ensures { λ r. ⌜ r ≡ fits (rdataIn (now (p .entry)) rtype (now (d .entry)) at) ⌝ }
+// The form of a type's rdata.
+pub fn form_of(rtype: u16) -> Form
+    ensures { λ r. ⌜ r ≡ formOf rtype ⌝ }
 {
-    let n = d.len();
-    match rtype {
-        1 => n == 4,
-        12 => name_ends(p, at, at + n),
-        16 => strings_fill(d),
-        28 => n == 16,
-        33 => {
-            if n < 6 {
-                return false;
-            }
-            name_ends(p, at + 6, at + n)
-        }
-        _ => true,
+    if rtype == PTR {
+        return Form {
+            named: true,
+            before: 0,
+        };
+    }
+    if rtype == SRV {
+        return Form {
+            named: true,
+            before: 6,
+        };
+    }
+    Form {
+        named: false,
+        before: 0,
     }
 }
 
-// Whether the `len` bytes at an offset of a packet are rdata as the type asks.
-pub fn rdata_fits(p: &[u8], rtype: u16, at: usize, len: usize) -> bool
-    ensures { λ r. ⌜ r ≡ fits (rdataAt (now (p .entry)) rtype at len) ⌝ }
+// Whether `d`, the part of `p` that is a record's rdata, is as its type asks: A 4 bytes, PTR one name, TXT strings, AAAA 16 bytes, SRV 6 bytes and one
+// name; of other types nothing is asked.
+fn part_fits(p: &[u8], d: &[u8], f: RecordAt) -> bool
+    requires { ⌜ f .rdata + length (now d) ≤ length (now p) ⌝ }
+    ensures { λ r. ⌜ r ≡ fits (rdataIn (now (p .entry)) f (now (d .entry))) ⌝ }
 {
+    let n = d.len();
+    if f.rtype == A {
+        return n == 4;
+    }
+    if f.rtype == TXT {
+        return strings_fill(d);
+    }
+    if f.rtype == AAAA {
+        return n == 16;
+    }
+    let held = form_of(f.rtype);
+    if !held.named {
+        return true;
+    }
+    if n < held.before {
+        return false;
+    }
+    name_ends(p, f.rdata + held.before, f.rdata + n)
+}
+
+// Whether the rdata of a record as it lies is as its type asks.
+pub fn rdata_fits(p: &[u8], f: RecordAt) -> bool
+    ensures { λ r. ⌜ r ≡ fits (rdataAt (now (p .entry)) f) ⌝ }
+{
+    let at = f.rdata;
     if p.len() < at {
         return false;
     }
-    if p.len() - at < len {
+    if p.len() - at < f.rdlength {
         return false;
     }
-    let end = at + len;
-    part_fits(p, &p[at..end], at, rtype)
+    let end = at + f.rdlength;
+    part_fits(p, &p[at..end], f)
 }
 
 // The numbers of an SRV, from the part that is its rdata.
@@ -117,18 +151,16 @@ pub fn part<'a>(p: &'a [u8], at: usize, len: usize) -> &'a [u8]
     &p[at..end]
 }
 
-// The target of a PTR or an SRV whose rdata starts at an offset, expanded.
-pub fn target(p: &[u8], rtype: u16, at: usize) -> crate::names::Expanded
-    ensures { λ r. ⌜ r ≡ expanded (nameAt (now (p .entry)) (at + targetIn rtype)) ⌝ }
+// The target of a PTR or an SRV, expanded.
+pub fn target(p: &[u8], f: RecordAt) -> crate::names::Expanded
+    ensures { λ r. ⌜ r ≡ expanded (nameAt (now (p .entry)) (f .rdata + formOf (f .rtype) .before)) ⌝ }
 {
-    if rtype != SRV {
-        return crate::names::expand(p, at);
-    }
-    if p.len() <= at {
-        return crate::names::expand(p, at);
-    }
-    if p.len() - at < 6 {
+    let held = form_of(f.rtype);
+    if p.len() < f.rdata {
         return crate::names::expand(p, p.len());
     }
-    crate::names::expand(p, at + 6)
+    if p.len() - f.rdata < held.before {
+        return crate::names::expand(p, p.len());
+    }
+    crate::names::expand(p, f.rdata + held.before)
 }

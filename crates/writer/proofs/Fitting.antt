@@ -9,8 +9,8 @@ use lib.ListN.{length, take, drop, length-drop, drop-of-length-le}
 use lib.Seq.{take-all}
 use lib.Dec.{leb}
 use Rattle.wire.specs.names.Names.{isName}
-use Rattle.wire.specs.rdata.Answers.{targetIn}
-use Rattle.wire.specs.expansion.Opened.{namesIn}
+use Rattle.wire.specs.rdata.Rdata.{formOf}
+use Rattle.wire.specs.declared.rdata.Form.{Form}
 use Rattle.writer.specs.compression.Compression.{labelsIn, starts}
 use Rattle.writer.specs.declared.Spot.{Spot}
 use Rattle.writer.specs.declared.Placed.{Placed}
@@ -55,30 +55,39 @@ module _ (at count : ℕ) (name : List ℕ) (more also room slots : ℕ) where
       sym (simp (sym is ∙ t, le-leb _ _ h, le-leb _ _ k) (ap (λ (m : ℕ). leb (count + m + also) slots) (sym e) ∙ sym (moved also (count + n) slots l) ∙ ap (leb also) (sym d)))
 
 -- the name in rdata
-module _ (rtype : ℕ) (d : List ℕ) (v : Bool) (is : v ≡ namesIn rtype) where
-  pub no-name : v ≡ false → true ≡ namesFit rtype d
+module _ (rtype : ℕ) (d : List ℕ) (g : Form) (same : g ≡ formOf rtype) where
+  is : g .named ≡ formOf rtype .named
+  is = ap (λ (y : Form). y .named) same
+
+  abbrev n : ℕ
+  n = g .before
+
+  hd : n ≡ formOf rtype .before
+  hd = ap (λ (y : Form). y .before) same
+
+  pub no-name : g .named ≡ false → true ≡ namesFit rtype d
   unfolding namesFit
   no-name t = sym (simp (sym is ∙ t))
 
-  pub no-labels : v ≡ false → 0 ≡ labelsFor rtype d
+  pub no-labels : g .named ≡ false → 0 ≡ labelsFor rtype d
   unfolding labelsFor
   no-labels t = sym (simp (sym is ∙ t))
 
-  module _ (t : v ≡ true) (n : ℕ) (hd : n ≡ targetIn rtype) where
+  module _ (t : g .named ≡ true) where
     pub too-short : length d < n → false ≡ namesFit rtype d
     unfolding namesFit
-    too-short h = let k : length d < targetIn rtype = omega arith in sym (simp (sym is ∙ t, lt-leb (targetIn rtype) (length d) k))
+    too-short h = let k : length d < formOf rtype .before = omega (arith, hd) in sym (simp (sym is ∙ t, lt-leb (formOf rtype .before) (length d) k))
 
-    rest : take (length d - n) (drop n d) ≡ drop (targetIn rtype) d
+    rest : take (length d - n) (drop n d) ≡ drop (formOf rtype .before) d
     rest = take-all (length d - n) (drop n d) (omega (arith, length-drop n d)) ∙ ap (λ (k : ℕ). drop k d) hd
 
     pub by-name : n ≤ length d → (w : Bool) → w ≡ isName (take (length d - n) (drop n d)) → w ≡ namesFit rtype d
     unfolding namesFit
-    by-name h w e = let k : targetIn rtype ≤ length d = omega arith in sym (simp (sym is ∙ t, le-leb (targetIn rtype) (length d) k) (sym (e ∙ ap isName rest)))
+    by-name h w e = let k : formOf rtype .before ≤ length d = omega (arith, hd) in sym (simp (sym is ∙ t, le-leb (formOf rtype .before) (length d) k) (sym (e ∙ ap isName rest)))
 
     pub none-there : length d < n → 0 ≡ labelsFor rtype d
     unfolding labelsFor starts
-    none-there h = let k : length d ≤ targetIn rtype = omega arith in sym (simp (sym is ∙ t, drop-of-length-le d k))
+    none-there h = let k : length d ≤ formOf rtype .before = omega (arith, hd) in sym (simp (sym is ∙ t, drop-of-length-le d k))
 
     pub by-labels : (m : ℕ) → m ≡ labelsIn (take (length d - n) (drop n d)) → m ≡ labelsFor rtype d
     unfolding labelsFor

@@ -15,7 +15,8 @@ use Rattle.writer.specs.compression.Compression.{nameBytes, namePlaces, 
 use Rattle.writer.proofs.compression.Written.{name-short, places-few}
 use Rattle.writer.specs.declared.Spot.{Spot}
 use Rattle.writer.specs.Items.{u16, fields, dataBytes, dataPlaces, putName, putFields, putRecord, putQuestion}
-use Rattle.writer.specs.Writer.{heldIn, spotOf, questionOf, recordOf, namesFit, labelsFor, nameFits, recordFits, Wrote, Grown, NameReady, DataReady}
+use Rattle.wire.specs.message.Message.{recordOf}
+use Rattle.writer.specs.Writer.{heldIn, spotOf, questionOf, namesFit, labelsFor, nameFits, recordFits, Wrote, Grown, NameReady, DataReady}
 use Rattle.writer.proofs.Runs.{sets-swap, take-run, run-rest}
 use Rattle.writer.proofs.Rdata.{data-short, data-few}
 

@@ -11,8 +11,8 @@ use lib.Dec.{leb}
 use mathlib.Mathlib.Data.Bool.Basic.{and-eq-true-eq-eq-true-and-eq-true as both}
 use Rattle.wire.proofs.octets.Sets.{sets-append}
 use Rattle.wire.specs.names.Names.{isName}
-use Rattle.wire.specs.rdata.Answers.{targetIn}
-use Rattle.wire.specs.expansion.Opened.{namesIn}
+use Rattle.wire.specs.rdata.Rdata.{formOf}
+use Rattle.wire.specs.declared.rdata.Form.{Form}
 use Rattle.writer.specs.compression.Compression.{nameBytes, namePlaces, labelsIn}
 use Rattle.writer.proofs.compression.Written.{name-short, places-few}
 use Rattle.writer.specs.declared.Spot.{Spot}
@@ -22,25 +22,25 @@ use Rattle.writer.proofs.Runs.{take-sets}
 
 -- rdata that ends in a name
 module _ (rtype : ℕ) (d : List ℕ) where
-  module _ (t : namesIn rtype ≡ true) where
-    target-fits : namesFit rtype d ≡ true → (targetIn rtype ≤ length d) × (isName (drop (targetIn rtype) d) ≡ true)
+  module _ (t : formOf rtype .named ≡ true) where
+    target-fits : namesFit rtype d ≡ true → (formOf rtype .before ≤ length d) × (isName (drop (formOf rtype .before) d) ≡ true)
     unfolding namesFit
     target-fits h =
-        let f = both (leb (targetIn rtype) (length d)) (isName (drop (targetIn rtype) d)) .0 (simp t at h) in (leb-true _ _ (f .0), f .1)
+        let f = both (leb (formOf rtype .before) (length d)) (isName (drop (formOf rtype .before) d)) .0 (simp t at h) in (leb-true _ _ (f .0), f .1)
 
-    target-labels : labelsFor rtype d ≡ labelsIn (drop (targetIn rtype) d)
+    target-labels : labelsFor rtype d ≡ labelsIn (drop (formOf rtype .before) d)
     unfolding labelsFor
     target-labels = simp t
 
-    target-bytes : (p os : List ℕ) → dataBytes p os rtype d ≡ take (targetIn rtype) d ++ nameBytes p os (drop (targetIn rtype) d)
+    target-bytes : (p os : List ℕ) → dataBytes p os rtype d ≡ take (formOf rtype .before) d ++ nameBytes p os (drop (formOf rtype .before) d)
     unfolding dataBytes
     target-bytes p os = simp t
 
-    target-places : (p os : List ℕ) (at : ℕ) → dataPlaces p os at rtype d ≡ namePlaces p os (at + targetIn rtype) (drop (targetIn rtype) d)
+    target-places : (p os : List ℕ) (at : ℕ) → dataPlaces p os at rtype d ≡ namePlaces p os (at + formOf rtype .before) (drop (formOf rtype .before) d)
     unfolding dataPlaces
     target-places p os at = simp t
 
-  module _ (t : namesIn rtype ≡ false) where
+  module _ (t : formOf rtype .named ≡ false) where
     plain-bytes : (p os : List ℕ) → dataBytes p os rtype d ≡ d
     unfolding dataBytes
     plain-bytes p os = simp t
@@ -52,32 +52,38 @@ module _ (rtype : ℕ) (d : List ℕ) where
   -- no more bytes than the rdata whole, and no more places than labels
   module _ (h : namesFit rtype d ≡ true) (p os : List ℕ) where
     pub data-short : length (dataBytes p os rtype d) ≤ length d
-    data-short = go (namesIn rtype) refl
+    data-short = go (formOf rtype .named) refl
       where
-        go : (b : Bool) → namesIn rtype ≡ b → length (dataBytes p os rtype d) ≤ length d
+        go : (b : Bool) → formOf rtype .named ≡ b → length (dataBytes p os rtype d) ≤ length d
         go true t =
             let f = target-fits t h in
             omega
-            (arith, f .0, ap length (target-bytes t p os), length-append (take (targetIn rtype) d) (nameBytes p os (drop (targetIn rtype) d)), name-short p os (drop (targetIn rtype) d) (f .1), length-drop (targetIn rtype) d, length-take-le (targetIn rtype) d (f .0))
+            (arith, f .0, ap length (target-bytes t p os), length-append (take (formOf rtype .before) d) (nameBytes p os (drop (formOf rtype .before) d)), name-short p os (drop (formOf rtype .before) d) (f .1), length-drop (formOf rtype .before) d, length-take-le (formOf rtype .before) d (f .0))
         go false t = omega (arith, ap length (plain-bytes t p os))
 
     pub data-few : (at : ℕ) → length (dataPlaces p os at rtype d) ≤ labelsFor rtype d
-    data-few at = go (namesIn rtype) refl
+    data-few at = go (formOf rtype .named) refl
       where
-        go : (b : Bool) → namesIn rtype ≡ b → length (dataPlaces p os at rtype d) ≤ labelsFor rtype d
-        go true t = omega (arith, ap length (target-places t p os at), target-labels t, places-few p os (drop (targetIn rtype) d) (at + targetIn rtype))
+        go : (b : Bool) → formOf rtype .named ≡ b → length (dataPlaces p os at rtype d) ≤ labelsFor rtype d
+        go true t = omega (arith, ap length (target-places t p os at), target-labels t, places-few p os (drop (formOf rtype .before) d) (at + formOf rtype .before))
         go false t = omega (arith, ap length (plain-places t p os at))
 
 -- the two ways in which rdata is written
 module _ (known at count rtype : ℕ) (d o pl : List ℕ) (ready : DataReady known at count rtype d o pl) where
-  module _ (b : Bool) (is : b ≡ namesIn rtype) (t : b ≡ true) (n : ℕ) (hd : n ≡ targetIn rtype) where
-    has : namesIn rtype ≡ true
-    has = sym is ∙ t
+  module _ (g : Form) (is : g ≡ formOf rtype) (t : g .named ≡ true) where
+    has : formOf rtype .named ≡ true
+    has = sym (ap (λ (y : Form). y .named) is) ∙ t
+
+    abbrev n : ℕ
+    n = g .before
+
+    hd : n ≡ formOf rtype .before
+    hd = ap (λ (y : Form). y .before) is
 
     pub head-fits : n ≤ length d
-    head-fits = omega (arith, target-fits rtype d has (ready .named) .0)
+    head-fits = omega (arith, hd, target-fits rtype d has (ready .named) .0)
 
-    rest : take (length d - n) (drop n d) ≡ drop (targetIn rtype) d
+    rest : take (length d - n) (drop n d) ≡ drop (formOf rtype .before) d
     rest = take-all (length d - n) (drop n d) (omega (arith, length-drop n d)) ∙ ap (λ (k : ℕ). drop k d) hd
 
     module _ (o₁ : List ℕ) (w₁ : o₁ ≡ sets o at (take n d)) where
@@ -86,7 +92,7 @@ module _ (known at count rtype : ℕ) (d o pl : List ℕ) (ready : DataReady kno
         named = ap isName rest ∙ target-fits rtype d has (ready .named) .1;
         known-before = omega (arith, ready .known-before);
         known-small = ready .known-small;
-        room = omega (arith, ready .room, head-fits, ap length rest, length-drop (targetIn rtype) d, ap length w₁, length-sets o at (take n d));
+        room = omega (arith, hd, ready .room, head-fits, ap length rest, length-drop (formOf rtype .before) d, ap length w₁, length-sets o at (take n d));
         slots = omega (arith, ready .slots, target-labels rtype d has, ap labelsIn rest);
       }
 
@@ -95,10 +101,10 @@ module _ (known at count rtype : ℕ) (d o pl : List ℕ) (ready : DataReady kno
           → Wrote (dataBytes (take known o) (take count pl) rtype d) (dataPlaces (take known o) (take count pl) at rtype d) at count o pl r o₂ pl₂
       wrote-target r o₂ pl₂ w =
           let same : take known o₁ ≡ take known o = ap (take known) w₁ ∙ take-sets known o at (take n d) (ready .known-before) in
-          let nb : nameBytes (take known o₁) (take count pl) (take (length d - n) (drop n d)) ≡ nameBytes (take known o) (take count pl) (drop (targetIn rtype) d) =
+          let nb : nameBytes (take known o₁) (take count pl) (take (length d - n) (drop n d)) ≡ nameBytes (take known o) (take count pl) (drop (formOf rtype .before) d) =
           ap₂ (λ (p : List ℕ) (l : List ℕ). nameBytes p (take count pl) l) same rest in
           let np : namePlaces (take known o₁) (take count pl) (at + n) (take (length d - n) (drop n d)) ≡ dataPlaces (take known o) (take count pl) at rtype d =
-          ap₂ (λ (p : List ℕ) (l : List ℕ). namePlaces p (take count pl) (at + n) l) same rest ∙ ap (λ (k : ℕ). namePlaces (take known o) (take count pl) (at + k) (drop (targetIn rtype) d)) hd
+          ap₂ (λ (p : List ℕ) (l : List ℕ). namePlaces p (take count pl) (at + n) l) same rest ∙ ap (λ (k : ℕ). namePlaces (take known o) (take count pl) (at + k) (drop (formOf rtype .before) d)) hd
           ∙ sym (target-places rtype d has (take known o) (take count pl) at) in
           let all : take n d ++ nameBytes (take known o₁) (take count pl) (take (length d - n) (drop n d)) ≡ dataBytes (take known o) (take count pl) rtype d =
           ap₂ (λ (k : ℕ) (l : List ℕ). take k d ++ l) hd nb ∙ sym (target-bytes rtype d has (take known o) (take count pl)) in
@@ -111,10 +117,10 @@ module _ (known at count rtype : ℕ) (d o pl : List ℕ) (ready : DataReady kno
             counted = w .counted ∙ ap (λ (l : List ℕ). count + length l) np;
           }
 
-  pub wrote-plain : (b : Bool) → b ≡ namesIn rtype → b ≡ false → (o₁ : List ℕ) → o₁ ≡ sets o at d
+  pub wrote-plain : (g : Form) → g ≡ formOf rtype → g .named ≡ false → (o₁ : List ℕ) → o₁ ≡ sets o at d
       → Wrote (dataBytes (take known o) (take count pl) rtype d) (dataPlaces (take known o) (take count pl) at rtype d) at count o pl (spotOf (at + length d) count) o₁ pl
-  wrote-plain b is t o₁ w =
-      let f : namesIn rtype ≡ false = sym is ∙ t in
+  wrote-plain g is t o₁ w =
+      let f : formOf rtype .named ≡ false = sym (ap (λ (y : Form). y .named) is) ∙ t in
       record {
         bytes = w ∙ ap (sets o at) (sym (plain-bytes rtype d f (take known o) (take count pl)));
         places = ap (sets pl count) (sym (plain-places rtype d f (take known o) (take count pl) at));

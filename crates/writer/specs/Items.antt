@@ -5,8 +5,7 @@ use Prim.Native.Nat.{ℕ, _+_, _/_, _%_}
 use mathlib.Core.List.{List, [], _∷_, _++_}
 use mathlib.Core.Bool.{cond}
 use lib.ListN.{length, take, drop}
-use Rattle.wire.specs.rdata.Answers.{targetIn}
-use Rattle.wire.specs.expansion.Opened.{namesIn}
+use Rattle.wire.specs.rdata.Rdata.{formOf}
 use Rattle.writer.specs.compression.Compression.{nameBytes, namePlaces}
 use Rattle.wire.specs.message.Message.{Question, Record}
 
@@ -31,10 +30,10 @@ putName w name = record {
 
 -- "Every name, SRV and PTR rdata too": rdata in a packet `p` whose names have labels at the offsets `os`; in TXT and other data no name stands
 unfoldable pub dataBytes : List ℕ → List ℕ → ℕ → List ℕ → List ℕ
-dataBytes p os rtype d = cond (namesIn rtype) (take (targetIn rtype) d ++ nameBytes p os (drop (targetIn rtype) d)) d
+dataBytes p os rtype d = cond (formOf rtype .named) (take (formOf rtype .before) d ++ nameBytes p os (drop (formOf rtype .before) d)) d
 
 unfoldable pub dataPlaces : List ℕ → List ℕ → ℕ → ℕ → List ℕ → List ℕ
-dataPlaces p os at rtype d = cond (namesIn rtype) (namePlaces p os (at + targetIn rtype) (drop (targetIn rtype) d)) []
+dataPlaces p os at rtype d = cond (formOf rtype .named) (namePlaces p os (at + formOf rtype .before) (drop (formOf rtype .before) d)) []
 
 -- type, class, TTL and the length of the rdata
 abbrev pub fields : ℕ → ℕ → ℕ → ℕ → List ℕ

@@ -8,10 +8,9 @@ use lib.ListN.{length, take, drop}
 use lib.Seq.{sets}
 use lib.Dec.{leb}
 use Rattle.wire.specs.names.Names.{isName}
-use Rattle.wire.specs.rdata.Answers.{targetIn}
-use Rattle.wire.specs.expansion.Opened.{namesIn}
+use Rattle.wire.specs.rdata.Rdata.{formOf}
 use Rattle.writer.specs.compression.Compression.{labelsIn}
-use Rattle.wire.specs.message.Message.{Question, Record}
+use Rattle.wire.specs.message.Message.{Question}
 use Rattle.writer.specs.Items.{Writing}
 use Rattle.writer.specs.declared.Spot.{Spot}
 use Rattle.writer.specs.declared.Placed.{Placed}
@@ -27,16 +26,13 @@ spotOf e c = record { end = e; count = c }
 abbrev pub questionOf : List ℕ → ℕ → ℕ → Question
 questionOf name rtype class = record { name = name; rtype = rtype; class = class }
 
-abbrev pub recordOf : List ℕ → ℕ → ℕ → ℕ → List ℕ → Record
-recordOf owner rtype class ttl d = record { owner = owner; rtype = rtype; class = class; ttl = ttl; rdata = d }
-
 -- the rdata of PTR and SRV ends in one name
 unfoldable pub namesFit : ℕ → List ℕ → Bool
-namesFit rtype d = cond (namesIn rtype) (leb (targetIn rtype) (length d) && isName (drop (targetIn rtype) d)) true
+namesFit rtype d = cond (formOf rtype .named) (leb (formOf rtype .before) (length d) && isName (drop (formOf rtype .before) d)) true
 
 -- the labels of that name
 unfoldable pub labelsFor : ℕ → List ℕ → ℕ
-labelsFor rtype d = cond (namesIn rtype) (labelsIn (drop (targetIn rtype) d)) 0
+labelsFor rtype d = cond (formOf rtype .named) (labelsIn (drop (formOf rtype .before) d)) 0
 
 -- A name is one; in a buffer of `room` bytes there is room at `at` for it whole, with `more` bytes behind it, and in a table of `slots` offsets, of
 -- which `count` are noted, for its labels and `also` others; and a pointer, of 14 bits, can name every offset up to its end.

@@ -9,11 +9,10 @@ ghost use mathlib.Core.Bool.{true};
 ghost use Prim.Native.Nat.{_+_, _≤_, _<_};
 ghost use lib.ListN.{length, take};
 ghost use lib.Seq.{sets};
-ghost use Rattle.wire.specs.rdata.Answers.{targetIn};
-ghost use Rattle.wire.specs.expansion.Opened.{namesIn};
 ghost use Rattle.writer.specs.compression.Compression.{nameBytes, namePlaces, starts, labelsIn};
 ghost use Rattle.writer.specs.Items.{u16, fields, dataBytes, dataPlaces, putQuestion, putRecord};
-ghost use Rattle.writer.specs.Writer.{heldIn, questionOf, recordOf, namesFit, labelsFor, nameFits, questionFits, recordFits, Placing, Wrote, Grown, NameReady, DataReady};
+ghost use Rattle.wire.specs.message.Message.{Record, recordOf};
+ghost use Rattle.writer.specs.Writer.{heldIn, questionOf, namesFit, labelsFor, nameFits, questionFits, recordFits, Placing, Wrote, Grown, NameReady, DataReady};
 
 // A pointer has 14 bits: no name is written that would end behind this offset.
 pub const MOST_POINTED: usize = 16384;
@@ -114,26 +113,6 @@ fn put_name(
     }
 }
 
-// Whether the rdata of a type ends in a name.
-fn names_in(rtype: u16) -> bool
-    ensures { λ r. ⌜ r ≡ namesIn rtype ⌝ }
-{
-    if rtype == wire::rdata::PTR {
-        return true;
-    }
-    rtype == wire::rdata::SRV
-}
-
-// Where the name in the rdata of a type starts.
-fn target_in(rtype: u16) -> usize
-    ensures { λ r. ⌜ r ≡ targetIn rtype ⌝ }
-{
-    if rtype == wire::rdata::SRV {
-        return 6;
-    }
-    0
-}
-
 // Writes rdata at `at`, the name in it cut by what stands in the packet `out[..known]`.
 fn put_data(
     out: &mut [u8],
@@ -149,8 +128,9 @@ fn put_data(
         (dataPlaces (take known (now (out .entry))) (take count (now (places .entry))) at rtype (now (d .entry)))
         at count (now (out .entry)) (now (places .entry)) r (now (out .exit)) (now (places .exit)) ⌝ }
 {
-    if names_in(rtype) {
-        let head = target_in(rtype);
+    let held = wire::rdata::form_of(rtype);
+    if held.named {
+        let head = held.before;
         wire::buffer::put(out, at, &d[..head]);
         return put_name(out, known, at + head, places, count, &d[head..]);
     }
@@ -186,8 +166,8 @@ fn write_record(
     d: &[u8],
 ) -> Spot
     requires { ⌜ recordFits at count (now owner) rtype (now d) (length (now out)) (length (now places)) ≡ true ⌝ }
-    ensures { λ r. ⌜ Grown (putRecord (heldIn (now (out .entry)) (now (places .entry)) at count) (recordOf (now (owner .entry)) rtype class ttl (now (d .entry))))
-        (now (out .entry)) (now (places .entry)) r (now (out .exit)) (now (places .exit)) ⌝ }
+    ensures { λ r. ⌜ (let x : Record = recordOf (now (owner .entry)) rtype class ttl (now (d .entry)) in
+        Grown (putRecord (heldIn (now (out .entry)) (now (places .entry)) at count) x) (now (out .entry)) (now (places .entry)) r (now (out .exit)) (now (places .exit))) ⌝ }
 {
     let a = put_name(out, at, at, places, count, owner);
     let e = a.end;
@@ -268,10 +248,11 @@ fn name_fits(
 fn names_fit(rtype: u16, d: &[u8]) -> bool
     ensures { λ r. ⌜ r ≡ namesFit rtype (now (d .entry)) ⌝ }
 {
-    if !names_in(rtype) {
+    let held = wire::rdata::form_of(rtype);
+    if !held.named {
         return true;
     }
-    let head = target_in(rtype);
+    let head = held.before;
     if d.len() < head {
         return false;
     }
@@ -282,10 +263,11 @@ fn names_fit(rtype: u16, d: &[u8]) -> bool
 fn labels_for(rtype: u16, d: &[u8]) -> usize
     ensures { λ r. ⌜ r ≡ labelsFor rtype (now (d .entry)) ⌝ }
 {
-    if !names_in(rtype) {
+    let held = wire::rdata::form_of(rtype);
+    if !held.named {
         return 0;
     }
-    let head = target_in(rtype);
+    let head = held.before;
     if d.len() < head {
         return 0;
     }

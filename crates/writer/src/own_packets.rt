@@ -2,25 +2,29 @@
 // any of the own records, and a claim's probe. Questions and records are put by `writer`.
 use crate::Placed;
 use crate::Spot;
-use own::records::Claim;
+use claims::records::Claim;
+use claims::records::Own;
+use claims::records::RECORDS;
+use claims::records::Set;
 use own::records::Setup;
 ghost use mathlib.Core.Path.{_≡_};
 ghost use mathlib.Core.List.{map};
 ghost use Prim.Native.Nat.{_+_, _≤_, _<_};
-ghost use lib.ListN.{length, take};
+ghost use lib.ListN.{length};
+ghost use Rattle.claims.specs.records.Own.{records};
 ghost use lib.Seq.{sets};
 ghost use Rattle.writer.specs.Items.{u16, putRecord};
 ghost use Rattle.writer.specs.Writer.{heldIn, Grown};
 ghost use Rattle.writer.specs.own_packets.Packets.{putAll, headerBytes};
-ghost use Rattle.writer.specs.own_packets.Ready.{HeaderReady, spotAfter, OwnReady, Picks, ListReady};
-ghost use Rattle.writer.specs.own_packets.Own.{refusalOf, lengthOf, classIn, ownRecord, responseRecords, probeRecords, claimIndex, responsePacket, probePacket, refusal, unlessRefused, writtenOf, laidOver};
+ghost use Rattle.writer.specs.own_packets.Ready.{HeaderReady, spotAfter, OwnReady, Picks, listed, ListReady};
+ghost use Rattle.writer.specs.own_packets.Own.{refusalOf, lengthOf, classIn, ownRecord, responseRecords, probeRecords, responsePacket, probePacket, refusal, unlessRefused, writtenOf, laidOver};
 
 // The least buffer that a packet is written into.
 pub const LEAST_OUT: usize = 1452;
 
-// Own records to write, in this order: the first `n` indices.
+// Own records to write, in this order: those of the first `n` indices.
 pub struct Picked {
-    pub order: [usize; 5],
+    pub order: [usize; RECORDS],
     pub n: usize,
 }
 
@@ -71,63 +75,64 @@ fn spot_after(placed: Placed, at: usize, count: usize) -> Spot
 }
 
 // The class of an own record: 1 in a probe.
-fn class_in(probing: bool, i: usize) -> u16
-    ensures { λ r. ⌜ r ≡ classIn probing i ⌝ }
+fn class_in(probing: bool, o: Own) -> u16
+    ensures { λ r. ⌜ r ≡ classIn probing o ⌝ }
 {
     if probing {
         return 1;
     }
-    own::fields::own_class(i)
+    claims::records::own_class(o)
 }
 
-// Writes the own record of an index behind the packet `out[..at]`.
+// Writes an own record behind the packet `out[..at]`.
 fn write_own(
     s: Setup,
-    i: usize,
+    o: Own,
     probing: bool,
     out: &mut [u8],
     at: usize,
     places: &mut [usize],
     count: usize,
 ) -> Spot
-    requires { ⌜ OwnReady s i at count (now out) (now places) ⌝ }
-    ensures { λ r. ⌜ Grown (putRecord (heldIn (now (out .entry)) (now (places .entry)) at count) (ownRecord s probing i))
+    requires { ⌜ OwnReady s o at count (now out) (now places) ⌝ }
+    ensures { λ r. ⌜ Grown (putRecord (heldIn (now (out .entry)) (now (places .entry)) at count) (ownRecord s probing o))
         (now (out .entry)) (now (places .entry)) r (now (out .exit)) (now (places .exit)) ⌝ }
 {
-    let owner = own::records::own_name(s, i);
+    let owner = own::records::own_name(s, o);
     let name = owner.bytes;
     let len = owner.len;
-    let own = own::records::own_rdata(s, i);
+    let own = own::records::own_rdata(s, o);
     let d = own.bytes;
     let n = own.len;
-    let class = class_in(probing, i);
+    let class = class_in(probing, o);
     let placed = crate::put_record(
         out,
         at,
         places,
         count,
         &name[..len],
-        own::fields::own_type(i),
+        claims::records::own_type(o),
         class,
-        own::fields::own_ttl(i),
+        claims::records::own_ttl(o),
         &d[..n],
     );
     spot_after(placed, at, count)
 }
 
-// The indices of the records that are chosen and that the set-up has.
-fn pick(s: Setup, chosen: [bool; 5]) -> Picked
+// The records that are chosen and that the set-up has.
+fn pick(s: Setup, chosen: Set) -> Picked
     ensures { λ r. ⌜ Picks (responseRecords s chosen) r ⌝ }
 {
-    let mut order = [0usize; 5];
+    let mut order = [0usize; RECORDS];
     let mut n = 0;
     let mut i = 0;
-    while i < 5 {
-        if !chosen[i] {
+    while i < RECORDS {
+        let o = claims::records::record_at(i);
+        if !claims::records::is_in(o, chosen) {
             i += 1;
             continue;
         }
-        if !own::fields::has_record(s, i) {
+        if !own::records::has_record(s, o) {
             i += 1;
             continue;
         }
@@ -138,38 +143,21 @@ fn pick(s: Setup, chosen: [bool; 5]) -> Picked
     Picked { order, n }
 }
 
-// The indices of a claim's records, by rising type.
+// A claim's records, by rising type.
 fn pick_claim(s: Setup, claim: Claim) -> Picked
     ensures { λ r. ⌜ Picks (probeRecords s claim) r ⌝ }
 {
-    match claim {
-        Claim::Instance => Picked {
-            order: [2, 1, 0, 0, 0],
-            n: 2,
-        },
-        Claim::Host => {
-            if s.hasaaaa {
-                return Picked {
-                    order: [3, 4, 0, 0, 0],
-                    n: 2,
-                };
-            }
-            Picked {
-                order: [3, 0, 0, 0, 0],
-                n: 1,
-            }
-        }
+    let first = claims::records::first_of(claim);
+    let second = claims::records::second_of(claim);
+    let i = claims::records::index_of(first);
+    let j = claims::records::index_of(second);
+    let mut order = [0usize; RECORDS];
+    order[0] = i;
+    if own::records::has_record(s, second) {
+        order[1] = j;
+        return Picked { order, n: 2 };
     }
-}
-
-// An index whose owner is the claim's name.
-fn claim_index(claim: Claim) -> usize
-    ensures { λ r. ⌜ r ≡ claimIndex claim ⌝ }
-{
-    match claim {
-        Claim::Instance => 1,
-        Claim::Host => 3,
-    }
+    Picked { order, n: 1 }
 }
 
 // Writes own records one after the other behind the packet `out[..at]`.
@@ -182,9 +170,9 @@ fn write_list(
     places: &mut [usize],
     count: usize,
 ) -> Spot
-    requires { ⌜ ListReady s (take (list .n) (list .order)) at count (now out) (now places) ⌝ }
-    requires { ⌜ (list .n ≤ 5) × (length (list .order) ≡ 5) ⌝ }
-    ensures { λ r. ⌜ Grown (putAll putRecord (heldIn (now (out .entry)) (now (places .entry)) at count) (map (ownRecord s probing) (take (list .n) (list .order))))
+    requires { ⌜ ListReady s (listed list) at count (now out) (now places) ⌝ }
+    requires { ⌜ (list .n ≤ records) × (length (list .order) ≡ records) ⌝ }
+    ensures { λ r. ⌜ Grown (putAll putRecord (heldIn (now (out .entry)) (now (places .entry)) at count) (map (ownRecord s probing) (listed list)))
         (now (out .entry)) (now (places .entry)) r (now (out .exit)) (now (places .exit)) ⌝ }
 {
     let order = list.order;
@@ -193,7 +181,8 @@ fn write_list(
     let mut noted = count;
     let mut j = 0;
     while j < n {
-        let r = write_own(s, order[j], probing, out, end, places, noted);
+        let o = claims::records::record_at(order[j]);
+        let r = write_own(s, o, probing, out, end, places, noted);
         end = r.end;
         noted = r.count;
         j += 1;
@@ -202,7 +191,7 @@ fn write_list(
 }
 
 // Writes a response of the chosen ones of the own records that the set-up has: PTR, SRV, TXT, A, AAAA.
-pub fn respond(s: Setup, chosen: [bool; 5], out: &mut [u8]) -> Written
+pub fn respond(s: Setup, chosen: Set, out: &mut [u8]) -> Written
     ensures answer { λ r. ⌜ r ≡ writtenOf (refusal s (now (out .entry))) (responsePacket s chosen) ⌝ }
     ensures out { λ _. ⌜ now (out .exit) ≡ laidOver (unlessRefused (refusal s (now (out .entry))) (responsePacket s chosen)) (now (out .entry)) ⌝ }
     ensures number { λ r. ⌜ refusalOf r ≡ refusal s (now (out .entry)) ⌝ }
@@ -240,7 +229,7 @@ pub fn probe(s: Setup, claim: Claim, out: &mut [u8]) -> Written
     }
     let list = pick_claim(s, claim);
     let n = list.n;
-    let owner = own::records::own_name(s, claim_index(claim));
+    let owner = own::records::own_name(s, claims::records::first_of(claim));
     let name = owner.bytes;
     let len = owner.len;
     let mut places = [0usize; 32];

@@ -10,7 +10,8 @@ use lib.ListN.{length, getD, set, take, drop, drop-of-length-le}
 use lib.Seq.{drop-cons, take-all, take-suc-set, drop-set-lt}
 use Rattle.cache.specs.entries.Entries.{blank, matches}
 use Rattle.cache.proofs.entries.Single.{match-before}
-use Rattle.cache.specs.entries.Tables.{lowest, each, some}
+use Rattle.wire.specs.Lists.{some}
+use Rattle.cache.specs.entries.Tables.{lowest, each}
 use Rattle.cache.specs.declared.entries.Entry.{Entry}
 use Rattle.cache.specs.declared.entries.Slot.the-variants.{At, Nowhere}
 

@@ -13,7 +13,7 @@ use Rattle.wire.specs.case_folding.Fold.{sameName}
 use Rattle.wire.proofs.case_folding.Equal.{same-refl}
 use Rattle.wire.specs.expansion.Equal.{sameBytes}
 use Rattle.wire.specs.message.Message.{Record}
-use Rattle.cache.specs.entries.Entries.{blank, rdataIn, isLive, isOf, liveOf, matches, holds, refreshed}
+use Rattle.cache.specs.entries.Entries.{blank, rdataHeld, isLive, isOf, liveOf, matches, holds, refreshed}
 use Rattle.cache.specs.entries.Cache.{Cache, rule1, entryFor, slotFor, taken, renewed, equalSlot, freeSlot, rule23, afterRule1, lookIn}
 use Rattle.cache.specs.declared.entries.Entry.{Entry}
 use Rattle.cache.specs.declared.entries.Slot.{Slot}
@@ -48,7 +48,7 @@ of-again now ttl store name rtype i e = refl
 
 holds-of : (now : ℕ) (store name : List ℕ) (rtype : ℕ) (d : List ℕ) (i : ℕ) (e : Entry) → holds now store name rtype d i e ≡ true → isOf store name rtype i e ≡ true
 unfolding holds
-holds-of now store name rtype d i e h = live-first now store name rtype i e (both (liveOf now store name rtype i e) (eqb (e .rdata) (length d) && sameBytes (rdataIn store i e) d) .0 h .0) .1
+holds-of now store name rtype d i e h = live-first now store name rtype i e (both (liveOf now store name rtype i e) (eqb (e .rdata) (length d) && sameBytes (rdataHeld store i e) d) .0 h .0) .1
 
 module _ (now : ℕ) (x : Record) (c : Cache) (i : ℕ) (owner : length (x .owner) ≤ 255) (rdata : length (x .rdata) ≤ 768) (slots : 1024 * length (c .entries) ≤ length (c .store)) where
   of-entry : (d : Cache) (e : Entry) → i < length (d .entries) → entryAt d i ≡ e → e .received ≡ now → e .expiry ≡ now + 1000 * x .ttl → isOf (d .store) (x .owner) (x .rtype) i e ≡ true → Entered now x i d

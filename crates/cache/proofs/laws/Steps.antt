@@ -11,7 +11,7 @@ use borrow.Author.Tests.{lt-ltb, leb-true, leb-false}
 use Rattle.wire.specs.case_folding.Fold.{sameName}
 use Rattle.wire.specs.expansion.Equal.{sameBytes}
 use Rattle.wire.specs.message.Message.{Record, topBit}
-use Rattle.cache.specs.entries.Entries.{blank, ownerIn, rdataIn, isLive, isFree, isOf, liveOf, holds, soon, isOld, flushed}
+use Rattle.cache.specs.entries.Entries.{blank, ownerHeld, rdataHeld, isLive, isFree, isOf, liveOf, holds, soon, isOld, flushed}
 use Rattle.cache.specs.entries.Tables.{each}
 use Rattle.cache.specs.entries.Cache.{Cache, withEntries, rule1, equalSlot, freeSlot}
 use Rattle.cache.specs.declared.entries.Entry.{Entry}
@@ -47,11 +47,11 @@ module _ (now : ℕ) (store name : List ℕ) (rtype i : ℕ) (e : Entry) where
 
   pub live-of-soon : liveOf now store name rtype i (soon now e) ≡ liveOf now store name rtype i e
   unfolding liveOf isOf soon
-  live-of-soon = ap (λ (b : Bool). b && (eqb (e .rtype) rtype && (eqb (e .owner) (length name) && sameName (ownerIn store i e) name))) (live-soon now e)
+  live-of-soon = ap (λ (b : Bool). b && (eqb (e .rtype) rtype && (eqb (e .owner) (length name) && sameName (ownerHeld store i e) name))) (live-soon now e)
 
   pub holds-soon : (d : List ℕ) → holds now store name rtype d i (soon now e) ≡ holds now store name rtype d i e
   unfolding holds soon
-  holds-soon d = ap (λ (b : Bool). b && (eqb (e .rdata) (length d) && sameBytes (rdataIn store i e) d)) live-of-soon
+  holds-soon d = ap (λ (b : Bool). b && (eqb (e .rdata) (length d) && sameBytes (rdataHeld store i e) d)) live-of-soon
 
 module _ (now : ℕ) (store name : List ℕ) (rtype i : ℕ) (e : Entry) where
   pub flushed-cases : (flushed now store name rtype i e ≡ e) ⊎ (flushed now store name rtype i e ≡ soon now e)

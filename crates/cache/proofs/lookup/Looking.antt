@@ -4,38 +4,37 @@ use mathlib.Core.List.{List}
 use mathlib.Core.Bool.{true, false}
 use Prim.Native.Nat.{ℕ}
 use lib.ListN.{length}
-use borrow.Author.Tests.{ne-eqb}
+use borrow.Author.Tests.{eq-eqb, ne-eqb}
 use Rattle.wire.specs.names.Names.{isName}
-use Rattle.cache.specs.entries.Cache.{entriesRefusal, storeRefusal, nameRefusal, firstOf, lookRefusal, lookIn}
+use Rattle.cache.specs.entries.Cache.{lookTests, entriesRefusal, lookRefusal, lookIn}
 use Rattle.cache.specs.declared.entries.Entry.{Entry}
 use Rattle.cache.specs.declared.entries.Slot.{Slot}
 use Rattle.cache.specs.declared.entries.Slot.the-variants as s
 use Rattle.cache.specs.lookup.Answers.{lookedWith, lookedOf, lookedRefusal}
 use Rattle.cache.specs.declared.lookup.Looked.{Looked}
 use Rattle.cache.specs.declared.lookup.Looked.the-variants as l
-use Rattle.cache.proofs.lookup.Refusing.{first-of, next-of, store-good, store-bad}
+use Rattle.cache.proofs.lookup.Refusing.{table-first}
 
 -- the refusals of a lookup
 module _ (n : ℕ) (store name : List ℕ) where
   pub look-entries : (n ≡ 0 → ⊥) → n ≡ lookedRefusal n store name
-  look-entries z = sym (first-of n (firstOf (storeRefusal store) (nameRefusal name)) z)
+  look-entries z = sym (simp (ne-eqb n 0 z))
 
-  pub look-store : n ≡ 0 → (length store ≡ 65536 → ⊥) → 8 ≡ lookedRefusal n store name
-  look-store z h = sym (next-of n (firstOf (storeRefusal store) (nameRefusal name)) z ∙ ap (λ (k : ℕ). firstOf k (nameRefusal name)) (store-bad store h))
+  module _ (z : n ≡ 0) where
+    pub look-store : (length store ≡ 65536 → ⊥) → 8 ≡ lookedRefusal n store name
+    look-store h = sym (simp (eq-eqb n 0 z, ne-eqb _ _ h))
 
-  pub look-name : n ≡ 0 → length store ≡ 65536 → isName name ≡ false → 6 ≡ lookedRefusal n store name
-  unfolding nameRefusal
-  look-name z h k = sym (next-of n (firstOf (storeRefusal store) (nameRefusal name)) z ∙ ap (λ (k : ℕ). firstOf k (nameRefusal name)) (store-good store h) ∙ simp k)
+    pub look-name : length store ≡ 65536 → isName name ≡ false → 6 ≡ lookedRefusal n store name
+    look-name h k = sym (simp (eq-eqb n 0 z, eq-eqb _ _ h, k))
 
-  pub look-passes : n ≡ 0 → length store ≡ 65536 → isName name ≡ true → 0 ≡ lookedRefusal n store name
-  unfolding nameRefusal
-  look-passes z h k = sym (next-of n (firstOf (storeRefusal store) (nameRefusal name)) z ∙ ap (λ (k : ℕ). firstOf k (nameRefusal name)) (store-good store h) ∙ simp k)
+    pub look-passes : length store ≡ 65536 → isName name ≡ true → 0 ≡ lookedRefusal n store name
+    look-passes h k = sym (simp (eq-eqb n 0 z, eq-eqb _ _ h, k))
 
 -- the answer of a lookup
 module _ (now : ℕ) (es : List Entry) (store name : List ℕ) (rtype from m : ℕ) (early : m ≡ entriesRefusal now es) (n : ℕ) (is : n ≡ lookedRefusal m store name) where
   number : n ≡ lookRefusal now es store name
   unfolding lookRefusal
-  number = is ∙ ap (λ (k : ℕ). lookedRefusal k store name) early
+  number = is ∙ ap (λ (k : ℕ). lookedRefusal k store name) early ∙ sym (table-first now es (lookTests store name))
 
   pub look-refused : (n ≡ 0 → ⊥) → l.Refused n ≡ lookedOf now es store name rtype from
   unfolding lookedOf

@@ -1,6 +1,6 @@
--- The refusals that both calls begin with, those of a table and of a byte store, from what the code has tested. Assumes nothing.
+-- The refusals that both calls begin with, those of a table, from what the code has tested. Assumes nothing.
 use mathlib.Core.Path.{_≡_, refl, sym}
-use mathlib.Core.List.{List}
+use mathlib.Core.List.{List, _++_}
 use mathlib.Core.Bool.{Bool, true, false, cond, not, _||_}
 use Prim.Native.Nat.{ℕ, _<_, _≤_, _^_}
 use native.Mathlib.Omega.{arith}
@@ -8,8 +8,9 @@ use lib.ListN.{length}
 use lib.Dec.{ltb, eqb}
 use borrow.Author.Tests.{lt-ltb, le-ltb, eq-eqb, ne-eqb, ltb-false}
 use Rattle.cache.specs.entries.Entries.{heardAhead, tooLong}
-use Rattle.cache.specs.entries.Tables.{some}
-use Rattle.cache.specs.entries.Cache.{entriesRefusal, storeRefusal, firstOf}
+use Rattle.wire.specs.Lists.{some}
+use Rattle.wire.specs.refusals.Numbers.{firstRefusal}
+use Rattle.cache.specs.entries.Cache.{badTime, badTable, tableTests, entriesRefusal}
 use Rattle.cache.specs.declared.entries.Entry.{Entry}
 
 -- the entries of a table
@@ -40,18 +41,13 @@ module _ (now : ℕ) (es : List Entry) where
       go true h k = absurd (omega arith)
       go false h k = ltb-false (2 ^ 62) now h
 
--- the first of two numbers that is not 0
-pub first-of : (a b : ℕ) → (a ≡ 0 → ⊥) → firstOf a b ≡ a
-first-of a b z = simp (ne-eqb a 0 z)
-
-pub next-of : (a b : ℕ) → a ≡ 0 → firstOf a b ≡ b
-next-of a b z = simp (eq-eqb a 0 z)
-
--- the byte store
-pub store-good : (store : List ℕ) → length store ≡ 65536 → storeRefusal store ≡ 0
-unfolding storeRefusal
-store-good store h = simp (eq-eqb _ _ h)
-
-pub store-bad : (store : List ℕ) → (length store ≡ 65536 → ⊥) → storeRefusal store ≡ 8
-unfolding storeRefusal
-store-bad store h = simp (ne-eqb _ _ h)
+-- behind the refusals of a table come those of the call
+pub table-first : (now : ℕ) (es : List Entry) (tests : List (ℕ × Bool))
+    → firstRefusal (tableTests now es ++ tests) ≡ cond (eqb (entriesRefusal now es) 0) (firstRefusal tests) (entriesRefusal now es)
+unfolding entriesRefusal
+table-first now es tests = go (badTime now es) (badTable es)
+  where
+    go : (a b : Bool) → cond a 1 (cond b 8 (firstRefusal tests)) ≡ cond (eqb (cond a 1 (cond b 8 0)) 0) (firstRefusal tests) (cond a 1 (cond b 8 0))
+    go true b = refl
+    go false true = refl
+    go false false = refl

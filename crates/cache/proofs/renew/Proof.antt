@@ -1,7 +1,7 @@
 -- `cache::renew` meets its contract. Assumes nothing.
 use native.Mathlib.Omega.{arith}
-use Rattle.cache.specs.entries.Cache.{freeSlot}
 use Rattle.cache.proofs.Steps.{in-table, renewed-at, renewed-none}
+use Rattle.cache.specs.entries.Cache.{equalSlot}
 use borrow.Author.Needs.{needs}
 use Rattle.cache.proofs.renew.Statement.{statement}
 use Rattle.cache.proofs.renew.Tie as tie
@@ -37,13 +37,14 @@ same-length : tie.Need-same-length
 same-length c = search needs
 
 returns : tie.Need-returns
+unfolding equalSlot
 returns c = renewed-at _ _ _ _ (c .before .before .before .before .before .equal-slot .ensures .0) _ _ (c .before .before .before .i .given .1) _ (c .refresh .ensures)
 
 same-length-2 : tie.Need-same-length-2
 same-length-2 c = search needs
 
 returns-2 : tie.Need-returns-2
-unfolding freeSlot
+unfolding equalSlot
 returns-2 c = renewed-none _ _ _ _ (c .before .before .before .before .before .before .equal-slot .ensures .0) _ (c .before .before .before .before .enum-told .given .1) _ (c .before .before .take-new .ensures)
 
 pub renew-spec : {M : Type 1} → statement M

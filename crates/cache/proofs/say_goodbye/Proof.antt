@@ -1,6 +1,7 @@
 -- `cache::say_goodbye` meets its contract. Assumes nothing.
 use native.Mathlib.Omega.{arith}
 use Rattle.cache.proofs.Steps.{in-table, goodbye-at, goodbye-none}
+use Rattle.cache.specs.entries.Cache.{equalSlot}
 use borrow.Author.Needs.{needs}
 use Rattle.cache.proofs.say_goodbye.Statement.{statement}
 use Rattle.cache.proofs.say_goodbye.Tie as tie
@@ -30,9 +31,11 @@ enum-told : tie.Need-enum-told
 enum-told c = search needs
 
 returns : tie.Need-returns
+unfolding equalSlot
 returns c = goodbye-at _ _ _ _ (c .before .before .before .before .before .equal-slot .ensures .0) _ (c .before .before .before .i .given .1) _ (c .to-expire .ensures)
 
 returns-2 : tie.Need-returns-2
+unfolding equalSlot
 returns-2 c = goodbye-none _ _ _ _ (c .before .before .equal-slot .ensures .0) (c .enum-told .given .1)
 
 pub say-goodbye-spec : {M : Type 1} → statement M

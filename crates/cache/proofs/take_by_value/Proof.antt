@@ -47,7 +47,7 @@ enum-known-l : tie.Need-enum-known-l
 enum-known-l c = search needs
 
 take-message-requires : tie.Need-take-message-requires
-take-message-requires c κs = let m = as-read _ _ _ (c .before .before .before .before .read-message .ensures) (c .before .before .l .given .1) in (has-room _ _ _ (let z : c .before .before .before .before .before .before .before .before .before .before .entries-refusal .result ≡ 0 = omega arith in sym z ∙ c .before .before .before .before .before .before .before .before .before .before .entries-refusal .ensures) (omega arith), record { says = m .0; here = m .1 })
+take-message-requires c κs = has-room _ _ _ (let z : c .before .before .before .before .before .before .before .before .before .before .entries-refusal .result ≡ 0 = omega arith in sym z ∙ c .before .before .before .before .before .before .before .before .before .before .entries-refusal .ensures) (omega arith)
 
 enum-known-n : tie.Need-enum-known-n
 enum-known-n c = search needs
@@ -59,7 +59,7 @@ same-length : tie.Need-same-length
 same-length c = search needs
 
 returns-6 : tie.Need-returns-6
-returns-6 c = let m = as-read _ _ _ (c .before .before .before .before .before .before .before .before .read-message .ensures) (c .before .before .before .before .before .before .l .given .1) in accepts _ _ (c .before .before .before .before .before .before .before .before .before .before .before .before .before .before .before .before .before .args .store .now) (c .before .before .before .before .before .before .before .before .before .before .before .before .before .before .before .before .before .args .port) (c .before .before .before .before .before .before .before .before .before .before .before .before .before .before .before .before .before .args .message .now) (let z : c .before .before .before .before .before .before .before .before .before .before .before .before .before .before .entries-refusal .result ≡ 0 = omega arith in sym z ∙ c .before .before .before .before .before .before .before .before .before .before .before .before .before .before .entries-refusal .ensures) (omega arith) (omega arith) (omega arith) (omega arith) _ (record { says = m .0; here = m .1 }) _ _ (c .before .before .before .take-message .ensures)
+returns-6 c = let m = as-read _ _ _ (c .before .before .before .before .before .before .before .before .read-message .ensures) (c .before .before .before .before .before .before .l .given .1) in accepts _ _ (c .before .before .before .before .before .before .before .before .before .before .before .before .before .before .before .before .before .args .store .now) (c .before .before .before .before .before .before .before .before .before .before .before .before .before .before .before .before .before .args .port) (c .before .before .before .before .before .before .before .before .before .before .before .before .before .before .before .before .before .args .message .now) (let z : c .before .before .before .before .before .before .before .before .before .before .before .before .before .before .entries-refusal .result ≡ 0 = omega arith in sym z ∙ c .before .before .before .before .before .before .before .before .before .before .before .before .before .before .entries-refusal .ensures) (omega arith) (omega arith) (omega arith) (omega arith) _ (m .0) (m .1) _ _ (c .before .before .before .take-message .ensures)
 
 returns-7 : tie.Need-returns-7
 returns-7 c = malformed _ _ (c .before .before .before .before .before .before .before .before .before .before .before .before .before .args .store .now) (c .before .before .before .before .before .before .before .before .before .before .before .before .before .args .port) (c .before .before .before .before .before .before .before .before .before .before .before .before .before .args .message .now) (let z : c .before .before .before .before .before .before .before .before .before .before .entries-refusal .result ≡ 0 = omega arith in sym z ∙ c .before .before .before .before .before .before .before .before .before .before .entries-refusal .ensures) (omega arith) _ (omega arith) (omega arith) (omega arith) _ (as-refused _ _ _ (c .before .before .before .before .read-message .ensures) (c .before .before .n .given .1)) (c .refused6 .ensures)

@@ -1,6 +1,7 @@
 -- `cache::take_new` meets its contract. Assumes nothing.
 use native.Mathlib.Omega.{arith}
 use Rattle.cache.proofs.Steps.{in-table, taken-at, taken-none}
+use Rattle.cache.specs.entries.Cache.{freeSlot}
 use borrow.Author.Needs.{needs}
 use Rattle.cache.proofs.take_new.Statement.{statement}
 use Rattle.cache.proofs.take_new.Tie as tie
@@ -42,9 +43,11 @@ same-length : tie.Need-same-length
 same-length c = search needs
 
 returns : tie.Need-returns
+unfolding freeSlot
 returns c = taken-at _ _ _ _ (c .before .before .before .before .before .before .before .free-slot .ensures .0) _ _ (c .before .before .before .before .before .i .given .1) _ (c .before .before .write-slot .ensures)
 
 returns-2 : tie.Need-returns-2
+unfolding freeSlot
 returns-2 c = taken-none _ _ _ _ (c .before .before .before .free-slot .ensures .0) _ (c .before .enum-told .given .1)
 
 pub take-new-spec : {M : Type 1} → statement M

@@ -6,11 +6,14 @@ use mathlib.Core.Bool.{Bool, cond, not, _&&_, _||_}
 use lib.ListN.{length, getD, set, replicate}
 use lib.Seq.{sets}
 use lib.Dec.{ltb, eqb}
+use Rattle.wire.specs.Lists.{some}
+use Rattle.wire.specs.refusals.Numbers.{TIME, MALFORMED, TABLE, firstRefusal}
 use Rattle.wire.specs.names.Names.{isName}
 use Rattle.wire.specs.message.Message.{Record, Message, classOf, topBit, isResponse}
 use Rattle.wire.specs.message.Layout.{Reads, read, refused, messageAt}
+use Rattle.wire.specs.message.Refusals.{messageTests}
 use Rattle.cache.specs.entries.Entries.{blank, isFree, matches, holds, soon, flushed, refreshed, heardAhead, tooLong}
-use Rattle.cache.specs.entries.Tables.{lowest, each, some}
+use Rattle.cache.specs.entries.Tables.{lowest, each}
 use Rattle.cache.specs.declared.entries.Entry.{Entry}
 use Rattle.cache.specs.declared.entries.Slot.{Slot}
 use Rattle.cache.specs.declared.entries.Slot.the-variants.{At, Nowhere}
@@ -53,8 +56,11 @@ abbrev pub entryFor : ℕ → Record → Entry
 entryFor now r = record { rtype = r .rtype; owner = length (r .owner); rdata = length (r .rdata); received = now; expiry = now + 1000 * r .ttl }
 
 -- "256 bytes owner, 768 rdata, names expanded, unused bytes 0"
+abbrev pub slotWith : List ℕ → List ℕ → List ℕ
+slotWith owner d = sets (sets (replicate 1024 0) 0 owner) 256 d
+
 abbrev pub slotFor : Record → List ℕ
-slotFor r = sets (sets (replicate 1024 0) 0 (r .owner)) 256 (r .rdata)
+slotFor r = slotWith (r .owner) (r .rdata)
 
 -- "the lowest entry not live takes the record. If all are live it is counted as turned away."
 abbrev pub taken : ℕ → Record → Cache → Slot → Cache
@@ -101,35 +107,33 @@ badTime now es = ltb (2 ^ 62) now || some (heardAhead now) es
 abbrev pub badTable : List Entry → Bool
 badTable es = not (eqb (length es) 64) || some tooLong es
 
--- the number of the refusal of a table, 0 where there is none
-unfoldable pub entriesRefusal : ℕ → List Entry → ℕ
-entriesRefusal now es = cond (badTime now es) 1 (cond (badTable es) 8 0)
-
 -- "8: .. byte store not 65,536 bytes"
-unfoldable pub storeRefusal : List ℕ → ℕ
-storeRefusal store = cond (eqb (length store) 65536) 0 8
-
--- the number of the refusal of a message; the source port is tested with 5, after 4 and before 6
-abbrev pub readRefusal : Reads → ℕ
-readRefusal (read l m) = 0
-readRefusal (refused n) = n
-
-unfoldable pub messageRefusal : ℕ → List ℕ → ℕ
-messageRefusal port p = cond (ltb (length p) 12 || ltb 8972 (length p)) 4 (cond (eqb port 5353) (readRefusal (messageAt p)) 5)
-
--- "Each call tests those that apply to it in the order 1, 2, 3, 8, 4, 5, 6, ..": the first of two numbers that is not 0
-abbrev pub firstOf : ℕ → ℕ → ℕ
-firstOf a b = cond (eqb a 0) b a
-
-unfoldable pub takeRefusal : ℕ → List Entry → List ℕ → ℕ → List ℕ → ℕ
-takeRefusal now es store port p = firstOf (entriesRefusal now es) (firstOf (storeRefusal store) (messageRefusal port p))
+abbrev pub badStore : List ℕ → Bool
+badStore store = not (eqb (length store) 65536)
 
 -- "6: .. looked-up name malformed": "a pointer in that name, or bytes past its zero byte, is malformed"
-unfoldable pub nameRefusal : List ℕ → ℕ
-nameRefusal name = cond (isName name) 0 6
+abbrev pub badName : List ℕ → Bool
+badName name = not (isName name)
+
+-- the refusals of a table, which both calls begin with
+abbrev pub tableTests : ℕ → List Entry → List (ℕ × Bool)
+tableTests now es = (TIME, badTime now es) ∷ ((TABLE, badTable es) ∷ [])
+
+unfoldable pub entriesRefusal : ℕ → List Entry → ℕ
+entriesRefusal now es = firstRefusal (tableTests now es)
+
+-- "Each call tests those that apply to it in the order 1, 2, 3, 8, 4, 5, 6, ..": the refusals of a message taken and of a lookup, behind those of the table
+abbrev pub takeTests : List ℕ → ℕ → List ℕ → List (ℕ × Bool)
+takeTests store port p = (TABLE, badStore store) ∷ messageTests port p
+
+abbrev pub lookTests : List ℕ → List ℕ → List (ℕ × Bool)
+lookTests store name = (TABLE, badStore store) ∷ ((MALFORMED, badName name) ∷ [])
+
+unfoldable pub takeRefusal : ℕ → List Entry → List ℕ → ℕ → List ℕ → ℕ
+takeRefusal now es store port p = firstRefusal (tableTests now es ++ takeTests store port p)
 
 unfoldable pub lookRefusal : ℕ → List Entry → List ℕ → List ℕ → ℕ
-lookRefusal now es store name = firstOf (entriesRefusal now es) (firstOf (storeRefusal store) (nameRefusal name))
+lookRefusal now es store name = firstRefusal (tableTests now es ++ lookTests store name)
 
 -- what the records of a message make of the cache
 abbrev pub takeRead : ℕ → Cache → Reads → Cache

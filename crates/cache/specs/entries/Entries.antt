@@ -17,11 +17,11 @@ blank = record { rtype = 0; owner = 0; rdata = 0; received = 0; expiry = 0 }
 abbrev pub slotOf : List ℕ → ℕ → List ℕ
 slotOf store i = take 1024 (drop (1024 * i) store)
 
-abbrev pub ownerIn : List ℕ → ℕ → Entry → List ℕ
-ownerIn store i e = take (e .owner) (slotOf store i)
+abbrev pub ownerHeld : List ℕ → ℕ → Entry → List ℕ
+ownerHeld store i e = take (e .owner) (slotOf store i)
 
-abbrev pub rdataIn : List ℕ → ℕ → Entry → List ℕ
-rdataIn store i e = take (e .rdata) (drop 256 (slotOf store i))
+abbrev pub rdataHeld : List ℕ → ℕ → Entry → List ℕ
+rdataHeld store i e = take (e .rdata) (drop 256 (slotOf store i))
 
 -- "Live means expiry after now."
 abbrev pub isLive : ℕ → Entry → Bool
@@ -33,7 +33,7 @@ isFree now i e = not (isLive now e)
 
 -- the entry in slot i is of a name and a type
 unfoldable pub isOf : List ℕ → List ℕ → ℕ → ℕ → Entry → Bool
-isOf store name rtype i e = eqb (e .rtype) rtype && (eqb (e .owner) (length name) && sameName (ownerIn store i e) name)
+isOf store name rtype i e = eqb (e .rtype) rtype && (eqb (e .owner) (length name) && sameName (ownerHeld store i e) name)
 
 -- "live entry of that name and type"
 unfoldable pub liveOf : ℕ → List ℕ → List ℕ → ℕ → ℕ → Entry → Bool
@@ -45,7 +45,7 @@ matches now store name rtype from i e = leb from i && liveOf now store name rtyp
 
 -- "live equal entry": of the name and type of a record, and with its rdata
 unfoldable pub holds : ℕ → List ℕ → List ℕ → ℕ → List ℕ → ℕ → Entry → Bool
-holds now store name rtype d i e = liveOf now store name rtype i e && (eqb (e .rdata) (length d) && sameBytes (rdataIn store i e) d)
+holds now store name rtype d i e = liveOf now store name rtype i e && (eqb (e .rdata) (length d) && sameBytes (rdataHeld store i e) d)
 
 -- the entry with another expiry
 abbrev pub until : ℕ → Entry → Entry

@@ -1,7 +1,7 @@
 -- A whole table: the list of its entries, of any length, each with its slot. Assumes nothing: these are definitions.
 use Prim.Native.Nat.{ℕ, suc}
 use mathlib.Core.List.{List, [], _∷_}
-use mathlib.Core.Bool.{Bool, false, cond, _||_}
+use mathlib.Core.Bool.{Bool, cond}
 use Rattle.cache.specs.declared.entries.Entry.{Entry}
 use Rattle.cache.specs.declared.entries.Slot.{Slot}
 use Rattle.cache.specs.declared.entries.Slot.the-variants.{At, Nowhere}
@@ -15,8 +15,3 @@ lowest test i (e ∷ es) = cond (test i e) (At i) (lowest test (suc i) es)
 unfoldable pub each : (ℕ → Entry → Entry) → ℕ → List Entry → List Entry
 each rule i [] = []
 each rule i (e ∷ es) = rule i e ∷ each rule (suc i) es
-
--- some entry passes a test
-unfoldable pub some : (Entry → Bool) → List Entry → Bool
-some test [] = false
-some test (e ∷ es) = test e || some test es

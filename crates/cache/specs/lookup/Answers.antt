@@ -3,10 +3,11 @@ use Prim.Native.Nat.{ℕ}
 use mathlib.Core.List.{List}
 use mathlib.Core.Bool.{cond}
 use lib.Dec.{eqb}
+use Rattle.wire.specs.refusals.Numbers.{firstRefusal}
 use Rattle.cache.specs.declared.entries.Entry.{Entry}
 use Rattle.cache.specs.declared.entries.Slot.{Slot}
 use Rattle.cache.specs.declared.entries.Slot.the-variants as s
-use Rattle.cache.specs.entries.Cache.{firstOf, storeRefusal, nameRefusal, lookRefusal, lookIn}
+use Rattle.cache.specs.entries.Cache.{lookTests, lookRefusal, lookIn}
 use Rattle.cache.specs.declared.lookup.Looked.{Looked}
 use Rattle.cache.specs.declared.lookup.Looked.the-variants as l
 
@@ -20,4 +21,4 @@ lookedOf now es store name rtype from = lookedWith (lookRefusal now es store nam
 
 -- a lookup's refusal, from that of its table's entries
 abbrev pub lookedRefusal : ℕ → List ℕ → List ℕ → ℕ
-lookedRefusal number store name = firstOf number (firstOf (storeRefusal store) (nameRefusal name))
+lookedRefusal number store name = cond (eqb number 0) (firstRefusal (lookTests store name)) number

@@ -7,10 +7,10 @@ use Rattle.own.specs.declared.records.Label.{Label}
 use Rattle.own.specs.declared.records.Service.{Service}
 use Rattle.own.specs.declared.records.Strings.{Strings}
 use Rattle.own.specs.declared.records.Setup.{Setup}
-use Rattle.claims.specs.declared.Life.{Life}
+use Rattle.claims.specs.declared.Progress.{Progress}
 use Rattle.capi_responder.specs.codec.Numbers.{bytes64}
 use Rattle.capi_responder.specs.codec.Layout as layout
-use Rattle.capi_responder.specs.codec.Codec.{labelBytes, serviceBytes, stringsBytes, setupBytes, multicastsBytes, lifeBytes, SetupFits}
+use Rattle.capi_responder.specs.codec.Codec.{labelBytes, serviceBytes, stringsBytes, setupBytes, lastBytes, multicastsBytes, progressBytes, SetupFits}
 
 pub length-label : (l : Label) → length (l .bytes) ≡ layout.mostLabel → length (labelBytes l) ≡ layout.labelSize
 length-label l e = simp length-append (omega arith)
@@ -25,6 +25,6 @@ pub length-setup : (s : Setup) → SetupFits s → length (setupBytes s) ≡ lay
 unfolding setupBytes
 length-setup s h = simp length-append (omega arith)
 
-pub length-life : (life : Life) → layout.setupSize + length (lifeBytes life) ≡ layout.stateSize
-unfolding lifeBytes multicastsBytes bytes64
-length-life life = refl
+pub length-progress : (progress : Progress) → layout.setupSize + length (progressBytes progress) ≡ layout.stateSize
+unfolding progressBytes multicastsBytes lastBytes bytes64
+length-progress progress = refl

@@ -8,21 +8,17 @@ use Rattle.own.specs.declared.records.Label.{Label}
 use Rattle.own.specs.declared.records.Service.{Service}
 use Rattle.own.specs.declared.records.Strings.{Strings}
 use Rattle.own.specs.declared.records.Setup.{Setup}
-use Rattle.claims.specs.declared.Claim.{Claim}
-use Rattle.claims.specs.declared.Claim.the-variants.{Waiting, Probing1, Probing2, Probing3, Deferred, Announced, Held, Lost}
-use Rattle.claims.specs.declared.Sent.{Sent}
-use Rattle.claims.specs.declared.Sent.the-variants.{Never, At}
-use Rattle.claims.specs.declared.Reply.{Reply}
-use Rattle.claims.specs.declared.Reply.the-variants.{Unset, Due}
-use Rattle.claims.specs.declared.Multicasts.{Multicasts}
-use Rattle.claims.specs.declared.Life.{Life}
+use Rattle.claims.specs.declared.ClaimState.{ClaimState}
+use Rattle.claims.specs.declared.ClaimState.the-variants.{Waiting, Probing1, Probing2, Probing3, Deferred, Announced, Held, Lost}
+use Rattle.claims.specs.declared.Progress.{Progress}
 use Rattle.capi_responder.specs.codec.Numbers.{word64, bytes64, Fits64}
 use Rattle.capi_responder.specs.codec.Layout as layout
-use Rattle.capi_responder.specs.codec.Parts.{labelAt, serviceAt, stringsAt, setupAt, claimOf, claimAt, sentAt, replyAt, multicastsAt, lifeAt}
-use Rattle.capi_responder.specs.codec.Codec.{claimTag, claimDue, sentTime, replyDue, claimBytes, sentBytes, replyBytes, multicastsBytes, lifeBytes, MulticastsFit, LifeFits}
+use Rattle.capi_responder.specs.codec.Parts.{labelAt, serviceAt, stringsAt, setupAt, claimOf, claimAt, progressAt}
+use Rattle.capi_responder.specs.codec.Codec.{claimTag, claimDue, claimBytes, whenBytes, lastBytes, multicastsBytes, progressBytes, ProgressFits}
 use Rattle.capi_responder.specs.codec.Codec.{labelBytes, serviceBytes, bytes16, stringsBytes, flagByte, setupBytes, SetupFits}
 use Rattle.capi_responder.proofs.codec.Lengths.{length-label, length-service, length-strings}
-use Rattle.capi_responder.proofs.codec.Stands.{Stands, front, behind, part-read, byte-read, flag-read, word16-read, number-read, case-read, time-read}
+use Rattle.capi_responder.proofs.codec.Stands.{Stands, front, behind, part-read, byte-read, flag-read, word16-read, number-read, case-read, when-read}
+use Rattle.capi_responder.proofs.codec.Multicast.{multicasts-read}
 
 -- ---- the set-up
 
@@ -75,12 +71,12 @@ setup-read {b} s h instance =
 
 -- ---- what changes
 
-claim-read : {b : List ℕ} {at : ℕ} (c : Claim) → Fits64 (claimDue c) → Stands b at (claimBytes c) → claimAt b at ≡ c
+claim-read : {b : List ℕ} {at : ℕ} (c : ClaimState) → Fits64 (claimDue c) → Stands b at (claimBytes c) → claimAt b at ≡ c
 unfolding claimAt
 claim-read {b} {at} c h s =
     ap (λ (t : ℕ). claimOf t (word64 b (at + 1))) (byte-read (claimTag c) _ s) ∙ ap (claimOf (claimTag c)) (case-read (claimTag c) _ h s) ∙ back c
   where
-    back : (d : Claim) → claimOf (claimTag d) (claimDue d) ≡ d
+    back : (d : ClaimState) → claimOf (claimTag d) (claimDue d) ≡ d
     back (Waiting due) = refl
     back (Probing1 due) = refl
     back (Probing2 due) = refl
@@ -91,44 +87,19 @@ claim-read {b} {at} c h s =
     back Lost = refl
 
 module _ {b : List ℕ} where
-  sent-read : (i : ℕ) (s : Sent) → Fits64 (sentTime s) → Stands b (layout.multicast i) (sentBytes s) → sentAt b i ≡ s
-  unfolding sentAt
-  sent-read i Never h s = time-read At Never false 0 h s
-  sent-read i (At time) h s = time-read At Never true time h s
-
-  reply-read : (r : Reply) → Fits64 (replyDue r) → Stands b layout.reply (replyBytes r) → replyAt b ≡ r
-  unfolding replyAt
-  reply-read Unset h s = time-read Due Unset false 0 h s
-  reply-read (Due due) h s = time-read Due Unset true due h s
-
-  multicasts-read : (m : Multicasts) → MulticastsFit m → Stands b layout.multicasts (multicastsBytes m) → multicastsAt b ≡ m
-  unfolding multicastsAt multicastsBytes bytes64
-  multicasts-read m h ptr =
-      let srv = behind (sentBytes (m .ptr)) _ ptr layout.caseSize refl in
-      let txt = behind (sentBytes (m .srv)) _ srv layout.caseSize refl in
-      let a = behind (sentBytes (m .txt)) _ txt layout.caseSize refl in
-      let aaaa = behind (sentBytes (m .a)) _ a layout.caseSize refl in
+  pub progress-read : (progress : Progress) → ProgressFits progress → Stands b layout.instanceClaim (progressBytes progress) → progressAt b ≡ progress
+  unfolding progressAt progressBytes multicastsBytes lastBytes bytes64
+  progress-read progress h instance =
+      let host = behind (claimBytes (progress .instance)) _ instance layout.caseSize refl in
+      let sent = behind (claimBytes (progress .host)) _ host layout.caseSize refl in
+      let reply = behind (multicastsBytes (progress .sent)) _ sent layout.multicastsSize refl in
+      let draw = behind (whenBytes (progress .reply)) _ reply layout.caseSize refl in
+      let last = behind (bytes64 (progress .draw)) _ draw layout.numberSize refl in
       λ i. record {
-        ptr = sent-read 0 (m .ptr) (h .ptr) (front _ _ ptr) i;
-        srv = sent-read 1 (m .srv) (h .srv) (front _ _ srv) i;
-        txt = sent-read 2 (m .txt) (h .txt) (front _ _ txt) i;
-        a = sent-read 3 (m .a) (h .a) (front _ _ a) i;
-        aaaa = sent-read 4 (m .aaaa) (h .aaaa) aaaa i;
-      }
-
-  pub life-read : (life : Life) → LifeFits life → Stands b layout.instanceClaim (lifeBytes life) → lifeAt b ≡ life
-  unfolding lifeAt lifeBytes multicastsBytes bytes64
-  life-read life h instance =
-      let host = behind (claimBytes (life .instance)) _ instance layout.caseSize refl in
-      let sent = behind (claimBytes (life .host)) _ host layout.caseSize refl in
-      let reply = behind (multicastsBytes (life .sent)) _ sent layout.multicastsSize refl in
-      let draw = behind (replyBytes (life .reply)) _ reply layout.caseSize refl in
-      let last = behind (bytes64 (life .draw)) _ draw layout.numberSize refl in
-      λ i. record {
-        instance = claim-read (life .instance) (h .instance) (front _ _ instance) i;
-        host = claim-read (life .host) (h .host) (front _ _ host) i;
-        sent = multicasts-read (life .sent) (h .sent) (front _ _ sent) i;
-        reply = reply-read (life .reply) (h .reply) (front _ _ reply) i;
-        draw = number-read (life .draw) (h .draw) (front _ _ draw) i;
-        last = number-read (life .last) (h .last) last i;
+        instance = claim-read (progress .instance) (h .instance) (front _ _ instance) i;
+        host = claim-read (progress .host) (h .host) (front _ _ host) i;
+        sent = multicasts-read (progress .sent) (h .sent) (front _ _ sent) i;
+        reply = when-read (progress .reply) (h .reply) (front _ _ reply) i;
+        draw = number-read (progress .draw) (h .draw) (front _ _ draw) i;
+        last = number-read (progress .last) (h .last) last i;
       }

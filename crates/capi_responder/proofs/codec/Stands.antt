@@ -8,9 +8,11 @@ use lib.Dec.{eqb}
 use lib.ListN.{length, take, drop, getD}
 use lib.Seq.{take-at, drop-at, drop-drop, getD-drop}
 use Rattle.wire.specs.octets.Octets.{byteAt, word16, word32}
+use Rattle.claims.specs.declared.When.{When}
+use Rattle.claims.specs.declared.When.the-variants.{Never, At}
 use Rattle.capi_responder.specs.codec.Numbers.{word64, bytes64, Fits64}
-use Rattle.capi_responder.specs.codec.Parts.{partAt, flagAt, timeAt}
-use Rattle.capi_responder.specs.codec.Codec.{caseBytes, bytes16, flagByte}
+use Rattle.capi_responder.specs.codec.Parts.{partAt, flagAt, whenAt}
+use Rattle.capi_responder.specs.codec.Codec.{whenTime, caseBytes, whenBytes, bytes16, flagByte}
 
 -- `bytes` stand in `b` from `at` on
 pub record Stands (b : List ℕ) (at : ℕ) (bytes : List ℕ) : Type 0 where
@@ -79,7 +81,11 @@ module _ {b : List ℕ} {at : ℕ} where
   pub case-read : (tag n : ℕ) → Fits64 n → Stands b at (caseBytes tag n) → word64 b (at + 1) ≡ n
   case-read tag n h s = number-read n h (behind (tag ∷ []) (bytes64 n) s 1 refl)
 
-  pub time-read : {A : Type 0} (set : ℕ → A) (unset : A) (f : Bool) (n : ℕ) → Fits64 n → Stands b at (caseBytes (flagByte f) n)
-      → timeAt set unset b at ≡ cond f (set n) unset
-  time-read set unset f n h s =
-      ap (λ (g : Bool). cond g (set (word64 b (at + 1))) unset) (flag-read f (bytes64 n) s) ∙ ap (λ (t : ℕ). cond f (set t) unset) (case-read (flagByte f) n h s)
+  time-read : (f : Bool) (n : ℕ) → Fits64 n → Stands b at (caseBytes (flagByte f) n) → whenAt b at ≡ cond f (At n) Never
+  unfolding whenAt
+  time-read f n h s =
+      ap (λ (g : Bool). cond g (At (word64 b (at + 1))) Never) (flag-read f (bytes64 n) s) ∙ ap (λ (t : ℕ). cond f (At t) Never) (case-read (flagByte f) n h s)
+
+  pub when-read : (w : When) → Fits64 (whenTime w) → Stands b at (whenBytes w) → whenAt b at ≡ w
+  when-read Never h s = time-read false 0 h s
+  when-read (At time) h s = time-read true time h s

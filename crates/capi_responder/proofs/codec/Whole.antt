@@ -8,48 +8,48 @@ use borrow.Author.Tests.{eq-eqb}
 use lib.Dec.{eqb}
 use lib.ListN.{length, take, drop, take-append-drop, length-append, length-drop}
 use lib.Seq.{length-take-le}
-use Rattle.claims.specs.declared.Life.{Life}
+use Rattle.claims.specs.declared.Progress.{Progress}
 use Rattle.responder.specs.declared.State.{State}
 use Rattle.capi_responder.specs.codec.Layout as layout
-use Rattle.capi_responder.specs.codec.Parts.{setupAt, lifeAt}
-use Rattle.capi_responder.specs.codec.Codec.{setupOf, decode, lifeBytes, LifeFits, stateWith, withSetup}
-use Rattle.capi_responder.proofs.codec.Lengths.{length-life}
+use Rattle.capi_responder.specs.codec.Parts.{setupAt, progressAt}
+use Rattle.capi_responder.specs.codec.Codec.{setupOf, decode, progressBytes, ProgressFits, stateWith, withSetup}
+use Rattle.capi_responder.proofs.codec.Lengths.{length-progress}
 use Rattle.capi_responder.proofs.codec.Stands.{whole, behind}
-use Rattle.capi_responder.proofs.codec.Round.{life-read}
+use Rattle.capi_responder.proofs.codec.Round.{progress-read}
 use Rattle.capi_responder.proofs.codec.Front.{setup-front}
 
 -- the bytes of what changes, behind those of a set-up
-pub state-read : (p : List ℕ) (life : Life) → length p ≡ layout.setupSize → LifeFits life
-    → _≡_ {A = State} (decode (p ++ lifeBytes life)) (record { setup = setupAt p; life = life })
+pub state-read : (p : List ℕ) (progress : Progress) → length p ≡ layout.setupSize → ProgressFits progress
+    → _≡_ {A = State} (decode (p ++ progressBytes progress)) (record { setup = setupAt p; progress = progress })
 unfolding decode
-state-read p life e h =
-    let q = lifeBytes life in
-    let n : length (p ++ q) ≡ layout.stateSize = omega (arith, length-append p q, length-life life) in
+state-read p progress e h =
+    let q = progressBytes progress in
+    let n : length (p ++ q) ≡ layout.stateSize = omega (arith, length-append p q, length-progress progress) in
     let t : eqb (length (p ++ q)) layout.stateSize ≡ true = eq-eqb _ layout.stateSize n in
     let s : setupAt (p ++ q) ≡ setupAt p = setup-front p q (omega arith) in
-    let l : lifeAt (p ++ q) ≡ life = life-read life h (behind p q (whole (p ++ q)) layout.setupSize e) in
-    simp t (λ i. record { setup = s i; life = l i })
+    let l : progressAt (p ++ q) ≡ progress = progress-read progress h (behind p q (whole (p ++ q)) layout.setupSize e) in
+    simp t (λ i. record { setup = s i; progress = l i })
 
 -- what is written of a state reads as the set-up that it had, with what was written
-module _ (b : List ℕ) (life : Life) where
-  pub round-trip : length b ≡ layout.stateSize → LifeFits life
-      → _≡_ {A = State} (decode (take layout.setupSize b ++ lifeBytes life)) (record { setup = setupAt b; life = life })
+module _ (b : List ℕ) (progress : Progress) where
+  pub round-trip : length b ≡ layout.stateSize → ProgressFits progress
+      → _≡_ {A = State} (decode (take layout.setupSize b ++ progressBytes progress)) (record { setup = setupAt b; progress = progress })
   round-trip e h =
       let p = take layout.setupSize b in
       let m : length p ≡ layout.setupSize = length-take-le layout.setupSize b (omega arith) in
       let s : setupAt b ≡ setupAt p = ap setupAt (sym (take-append-drop layout.setupSize b)) ∙ setup-front p (drop layout.setupSize b) (omega arith) in
-      rw s (state-read p life m h)
+      rw s (state-read p progress m h)
 
 module _ (b setup : List ℕ) where
   -- a state that starts with a set-up has that set-up
-  pub started : (life : Life) → length b ≡ layout.stateSize → length setup ≡ layout.setupSize
-      → _≡_ {A = State} (stateWith (withSetup b setup) life) (record { setup = setupOf setup; life = life })
+  pub started : (progress : Progress) → length b ≡ layout.stateSize → length setup ≡ layout.setupSize
+      → _≡_ {A = State} (stateWith (withSetup b setup) progress) (record { setup = setupOf setup; progress = progress })
   unfolding stateWith withSetup setupOf
-  started life e f =
+  started progress e f =
       let q = drop layout.setupSize b in
       let t : eqb (length b) layout.stateSize ≡ true = eq-eqb _ layout.stateSize e in
       let u : eqb (length setup) layout.setupSize ≡ true = eq-eqb _ layout.setupSize f in
       let n : length (setup ++ q) ≡ layout.stateSize = omega (arith, length-append setup q, length-drop layout.setupSize b) in
       let v : eqb (length (setup ++ q)) layout.stateSize ≡ true = eq-eqb _ layout.stateSize n in
       let s : setupAt (setup ++ q) ≡ setupAt setup = setup-front setup q (omega arith) in
-      simp (t, u, v) (λ i. record { setup = s i; life = life })
+      simp (t, u, v) (λ i. record { setup = s i; progress = progress })

@@ -7,27 +7,27 @@ use native.Mathlib.Omega.{arith}
 use borrow.Author.Tests.{eq-eqb}
 use lib.Dec.{eqb}
 use lib.ListN.{length, take}
-use Rattle.claims.specs.declared.Life.{Life}
+use Rattle.claims.specs.declared.Progress.{Progress}
 use Rattle.capi_responder.specs.codec.Layout.{setupSize, stateSize}
-use Rattle.capi_responder.specs.codec.Codec.{decode, lifeBytes, LifeFits, withLife, stateWith, withSetup}
-use Rattle.capi_responder.proofs.codec.Lengths.{length-life}
+use Rattle.capi_responder.specs.codec.Codec.{decode, progressBytes, ProgressFits, withProgress, stateWith, withSetup}
+use Rattle.capi_responder.proofs.codec.Lengths.{length-progress}
 use Rattle.capi_responder.proofs.codec.Whole.{round-trip}
 use Rattle.capi_responder.specs.encoder.Laid.{Laid}
 use Rattle.capi_responder.proofs.encoder.Parts.{laid-behind, laid-front}
 
-module _ (b : List ℕ) (life : Life) where
-  pub life-written : (out : List ℕ) → length b ≡ stateSize → Laid b setupSize (lifeBytes life) out × LifeFits life
-      → (out ≡ withLife b life) × (decode out ≡ stateWith b life)
-  unfolding withLife stateWith
-  life-written out e l =
+module _ (b : List ℕ) (progress : Progress) where
+  pub progress-written : (out : List ℕ) → length b ≡ stateSize → Laid b setupSize (progressBytes progress) out × ProgressFits progress
+      → (out ≡ withProgress b progress) × (decode out ≡ stateWith b progress)
+  unfolding withProgress stateWith
+  progress-written out e l =
       let t : eqb (length b) stateSize ≡ true = eq-eqb _ stateSize e in
-      let w : setupSize + length (lifeBytes life) ≡ length b = omega (arith, length-life life) in
-      let o : out ≡ take setupSize b ++ lifeBytes life = laid-behind setupSize b (lifeBytes life) out w (l .0) in
-      (simp t o, simp t (ap decode o ∙ round-trip b life e (l .1)))
+      let w : setupSize + length (progressBytes progress) ≡ length b = omega (arith, length-progress progress) in
+      let o : out ≡ take setupSize b ++ progressBytes progress = laid-behind setupSize b (progressBytes progress) out w (l .0) in
+      (simp t o, simp t (ap decode o ∙ round-trip b progress e (l .1)))
 
-  pub life-kept : eqb (length b) stateSize ≡ false → (b ≡ withLife b life) × (decode b ≡ stateWith b life)
-  unfolding withLife stateWith decode
-  life-kept t = (simp t, simp t)
+  pub progress-kept : eqb (length b) stateSize ≡ false → (b ≡ withProgress b progress) × (decode b ≡ stateWith b progress)
+  unfolding withProgress stateWith decode
+  progress-kept t = (simp t, simp t)
 
 module _ (b setup : List ℕ) where
   pub setup-written : (out : List ℕ) → length b ≡ stateSize → length setup ≡ setupSize → Laid b 0 setup out → out ≡ withSetup b setup

@@ -27,8 +27,8 @@ returns c =
 put-setup-requires : tie.Need-put-setup-requires
 put-setup-requires c κs = search needs
 
-put-life-requires : tie.Need-put-life-requires
-put-life-requires c κs = search needs
+put-progress-requires : tie.Need-put-progress-requires
+put-progress-requires c κs = search needs
 
 answered-requires-2 : tie.Need-answered-requires-2
 answered-requires-2 c κs = search needs
@@ -38,15 +38,15 @@ same-length c = search needs
 
 returns-2 : tie.Need-returns-2
 returns-2 c =
-    let put-life = c .before .before .before in
-    let put-setup = put-life .before .before .before .before in
+    let put-progress = c .before .before .before in
+    let put-setup = put-progress .before .before .before .before in
     let if1 = put-setup .before .before .before .before in
     let refusal = if1 .before in
     let start = refusal .before in
     let setup = start .before in
     let a = setup .before .before .before .args in
     start-taken (a .state .now) (a .setup .now) _ _ (setup .setup-for .ensures) (start .start .ensures .0) (refusal .refusal-of .ensures) (c .answered2 .ensures)
-    (if1 .if1 .left) (put-setup .put-setup .ensures) (put-life .put-life .ensures)
+    (if1 .if1 .left) (put-setup .put-setup .ensures) (put-progress .put-progress .ensures)
 
 pub kurgashel-start-spec : {M : Type 1} → statement M
 kurgashel-start-spec =
@@ -58,7 +58,7 @@ kurgashel-start-spec =
     answered-requires
     returns
     put-setup-requires
-    put-life-requires
+    put-progress-requires
     answered-requires-2
     same-length
     returns-2)

@@ -9,19 +9,20 @@ use Rattle.own.specs.declared.records.Label.{Label}
 use Rattle.own.specs.declared.records.Service.{Service}
 use Rattle.own.specs.declared.records.Strings.{Strings}
 use Rattle.own.specs.declared.records.Setup.{Setup}
-use Rattle.claims.specs.declared.Claim.{Claim}
-use Rattle.claims.specs.declared.Claim.the-variants.{Waiting, Probing1, Probing2, Probing3, Deferred, Announced, Held, Lost}
-use Rattle.claims.specs.declared.Sent.{Sent}
-use Rattle.claims.specs.declared.Sent.the-variants.{Never, At}
-use Rattle.claims.specs.declared.Reply.{Reply}
-use Rattle.claims.specs.declared.Reply.the-variants.{Unset, Due}
+use Rattle.claims.specs.records.Own.{all, records}
+use Rattle.claims.specs.Time.{sentOf}
+use Rattle.claims.specs.declared.records.Own.{Own}
+use Rattle.claims.specs.declared.ClaimState.{ClaimState}
+use Rattle.claims.specs.declared.ClaimState.the-variants.{Waiting, Probing1, Probing2, Probing3, Deferred, Announced, Held, Lost}
+use Rattle.claims.specs.declared.When.{When}
+use Rattle.claims.specs.declared.When.the-variants.{Never, At}
 use Rattle.claims.specs.declared.Multicasts.{Multicasts}
-use Rattle.claims.specs.declared.Life.{Life}
+use Rattle.claims.specs.declared.Progress.{Progress}
 use Rattle.responder.specs.declared.State.{State}
 use Rattle.responder.specs.Calls.{blank}
 use Rattle.capi_responder.specs.codec.Numbers.{bytes64, Fits64}
 use Rattle.capi_responder.specs.codec.Layout as layout
-use Rattle.capi_responder.specs.codec.Parts.{setupAt, lifeAt}
+use Rattle.capi_responder.specs.codec.Parts.{setupAt, progressAt}
 
 -- ---- from bytes
 
@@ -31,11 +32,11 @@ setupOf b = cond (eqb (length b) layout.setupSize) (setupAt b) (blank .setup)
 
 -- The state of a buffer; one of another length reads as the blank state, which every call refuses, as 7.
 unfoldable pub decode : List ℕ → State
-decode b = cond (eqb (length b) layout.stateSize) (record { setup = setupAt b; life = lifeAt b }) blank
+decode b = cond (eqb (length b) layout.stateSize) (record { setup = setupAt b; progress = progressAt b }) blank
 
 -- ---- to bytes
 
-abbrev pub claimTag : Claim → ℕ
+abbrev pub claimTag : ClaimState → ℕ
 claimTag (Waiting due) = 0
 claimTag (Probing1 due) = 1
 claimTag (Probing2 due) = 2
@@ -45,7 +46,7 @@ claimTag (Announced due) = 5
 claimTag Held = 6
 claimTag Lost = 7
 
-abbrev pub claimDue : Claim → ℕ
+abbrev pub claimDue : ClaimState → ℕ
 claimDue (Waiting due) = due
 claimDue (Probing1 due) = due
 claimDue (Probing2 due) = due
@@ -55,71 +56,61 @@ claimDue (Announced due) = due
 claimDue Held = 0
 claimDue Lost = 0
 
-abbrev pub sentFlag : Sent → ℕ
-sentFlag Never = 0
-sentFlag (At time) = 1
+abbrev pub whenFlag : When → ℕ
+whenFlag Never = 0
+whenFlag (At time) = 1
 
-abbrev pub sentTime : Sent → ℕ
-sentTime Never = 0
-sentTime (At time) = time
-
-abbrev pub replyFlag : Reply → ℕ
-replyFlag Unset = 0
-replyFlag (Due due) = 1
-
-abbrev pub replyDue : Reply → ℕ
-replyDue Unset = 0
-replyDue (Due due) = due
+abbrev pub whenTime : When → ℕ
+whenTime Never = 0
+whenTime (At time) = time
 
 -- a case byte and its number
 abbrev pub caseBytes : ℕ → ℕ → List ℕ
 caseBytes tag n = tag ∷ bytes64 n
 
-abbrev pub claimBytes : Claim → List ℕ
+abbrev pub claimBytes : ClaimState → List ℕ
 claimBytes c = caseBytes (claimTag c) (claimDue c)
 
-abbrev pub sentBytes : Sent → List ℕ
-sentBytes s = caseBytes (sentFlag s) (sentTime s)
+abbrev pub whenBytes : When → List ℕ
+whenBytes w = caseBytes (whenFlag w) (whenTime w)
 
-abbrev pub replyBytes : Reply → List ℕ
-replyBytes r = caseBytes (replyFlag r) (replyDue r)
+-- the last multicasts of some records, one behind the other
+unfoldable pub lastBytes : Multicasts → List Own → List ℕ
+lastBytes sent [] = []
+lastBytes sent (o ∷ os) = whenBytes (sentOf o sent) ++ lastBytes sent os
 
 unfoldable pub multicastsBytes : Multicasts → List ℕ
-multicastsBytes sent =
-    sentBytes (sent .ptr) ++ (sentBytes (sent .srv) ++ (sentBytes (sent .txt) ++ (sentBytes (sent .a) ++ sentBytes (sent .aaaa))))
+multicastsBytes sent = lastBytes sent all
 
-unfoldable pub lifeBytes : Life → List ℕ
-lifeBytes life =
-    claimBytes (life .instance)
-    ++ (claimBytes (life .host)
-    ++ (multicastsBytes (life .sent)
-    ++ (replyBytes (life .reply)
-    ++ (bytes64 (life .draw)
-    ++ bytes64 (life .last)))))
+unfoldable pub progressBytes : Progress → List ℕ
+progressBytes progress =
+    claimBytes (progress .instance)
+    ++ (claimBytes (progress .host)
+    ++ (multicastsBytes (progress .sent)
+    ++ (whenBytes (progress .reply)
+    ++ (bytes64 (progress .draw)
+    ++ bytes64 (progress .last)))))
 
--- every number fits its eight bytes, as any number of 64 bits does
+-- Every number fits its eight bytes, as any number of 64 bits does; and the array has its length, as those of every program have.
 pub record MulticastsFit (sent : Multicasts) : Type 0 where
-  pub ptr : Fits64 (sentTime (sent .ptr))
-  pub srv : Fits64 (sentTime (sent .srv))
-  pub txt : Fits64 (sentTime (sent .txt))
-  pub a : Fits64 (sentTime (sent .a))
-  pub aaaa : Fits64 (sentTime (sent .aaaa))
+  pub sized : length (sent .of) ≡ records
+  pub times : (o : Own) → Fits64 (whenTime (sentOf o sent))
 
-pub record LifeFits (life : Life) : Type 0 where
-  pub instance : Fits64 (claimDue (life .instance))
-  pub host : Fits64 (claimDue (life .host))
-  pub sent : MulticastsFit (life .sent)
-  pub reply : Fits64 (replyDue (life .reply))
-  pub draw : Fits64 (life .draw)
-  pub last : Fits64 (life .last)
+pub record ProgressFits (progress : Progress) : Type 0 where
+  pub instance : Fits64 (claimDue (progress .instance))
+  pub host : Fits64 (claimDue (progress .host))
+  pub sent : MulticastsFit (progress .sent)
+  pub reply : Fits64 (whenTime (progress .reply))
+  pub draw : Fits64 (progress .draw)
+  pub last : Fits64 (progress .last)
 
--- The bytes of a state after what changes has become `life`: those of the set-up stay. A buffer of another length stays whole.
-unfoldable pub withLife : List ℕ → Life → List ℕ
-withLife b life = cond (eqb (length b) layout.stateSize) (take layout.setupSize b ++ lifeBytes life) b
+-- The bytes of a state after what changes has become `progress`: those of the set-up stay. A buffer of another length stays whole.
+unfoldable pub withProgress : List ℕ → Progress → List ℕ
+withProgress b progress = cond (eqb (length b) layout.stateSize) (take layout.setupSize b ++ progressBytes progress) b
 
--- What those bytes say: the set-up as it was, with `life`.
-unfoldable pub stateWith : List ℕ → Life → State
-stateWith b life = cond (eqb (length b) layout.stateSize) (record { setup = setupAt b; life = life }) blank
+-- What those bytes say: the set-up as it was, with `progress`.
+unfoldable pub stateWith : List ℕ → Progress → State
+stateWith b progress = cond (eqb (length b) layout.stateSize) (record { setup = setupAt b; progress = progress }) blank
 
 -- The bytes of a state after a set-up was laid over its front.
 unfoldable pub withSetup : List ℕ → List ℕ → List ℕ
@@ -158,7 +149,7 @@ setupBytes s =
 
 -- The bytes of a state, where its lengths are below 256, that of its TXT below 65,536.
 unfoldable pub encode : State → List ℕ
-encode s = setupBytes (s .setup) ++ lifeBytes (s .life)
+encode s = setupBytes (s .setup) ++ progressBytes (s .progress)
 
 -- the arrays have their lengths, as those of every set-up in a program have
 pub record SetupFits (s : Setup) : Type 0 where

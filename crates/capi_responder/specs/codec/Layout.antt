@@ -2,6 +2,7 @@
 -- those of what changes. Assumes nothing: these are definitions.
 use mathlib.Core.Path.{_≡_, refl}
 use Prim.Native.Nat.{ℕ, _+_, _*_}
+use Rattle.claims.specs.records.Own.{records}
 
 -- ---- sizes
 
@@ -51,9 +52,6 @@ abbrev pub caseSize : ℕ
 caseSize = 1 + numberSize
 
 -- the last multicasts: one for each own record
-abbrev pub records : ℕ
-records = 5
-
 abbrev pub multicastsSize : ℕ
 multicastsSize = records * caseSize
 

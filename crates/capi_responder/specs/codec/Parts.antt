@@ -9,14 +9,15 @@ use Rattle.own.specs.declared.records.Label.{Label}
 use Rattle.own.specs.declared.records.Service.{Service}
 use Rattle.own.specs.declared.records.Strings.{Strings}
 use Rattle.own.specs.declared.records.Setup.{Setup}
-use Rattle.claims.specs.declared.Claim.{Claim}
-use Rattle.claims.specs.declared.Claim.the-variants.{Waiting, Probing1, Probing2, Probing3, Deferred, Announced, Held, Lost}
-use Rattle.claims.specs.declared.Sent.{Sent}
-use Rattle.claims.specs.declared.Sent.the-variants.{Never, At}
-use Rattle.claims.specs.declared.Reply.{Reply}
-use Rattle.claims.specs.declared.Reply.the-variants.{Unset, Due}
+use Rattle.claims.specs.records.Own.{indexOf}
+use Rattle.claims.specs.Time.{eachLast}
+use Rattle.claims.specs.declared.records.Own.{Own}
+use Rattle.claims.specs.declared.ClaimState.{ClaimState}
+use Rattle.claims.specs.declared.ClaimState.the-variants.{Waiting, Probing1, Probing2, Probing3, Deferred, Announced, Held, Lost}
+use Rattle.claims.specs.declared.When.{When}
+use Rattle.claims.specs.declared.When.the-variants.{Never, At}
 use Rattle.claims.specs.declared.Multicasts.{Multicasts}
-use Rattle.claims.specs.declared.Life.{Life}
+use Rattle.claims.specs.declared.Progress.{Progress}
 use Rattle.capi_responder.specs.codec.Numbers.{word64}
 use Rattle.capi_responder.specs.codec.Layout as layout
 
@@ -57,7 +58,7 @@ setupAt b = record {
 -- ---- what changes: a case byte and a number for each claim, each last multicast and the reply; then the start draw and the time of the last call
 
 -- a claim by its case, where one beyond the last reads as lost
-abbrev pub claimOf : ℕ → ℕ → Claim
+abbrev pub claimOf : ℕ → ℕ → ClaimState
 claimOf tag due =
     cond (eqb tag 0) (Waiting due)
     (cond (eqb tag 1) (Probing1 due)
@@ -67,29 +68,26 @@ claimOf tag due =
     (cond (eqb tag 5) (Announced due)
     (cond (eqb tag 6) Held Lost))))))
 
-unfoldable pub claimAt : List ℕ → ℕ → Claim
+unfoldable pub claimAt : List ℕ → ℕ → ClaimState
 claimAt b at = claimOf (byteAt b at) (word64 b (at + 1))
 
 -- a time that is set or not, by the case's low bit
-abbrev pub timeAt : {A : Type 0} → (ℕ → A) → A → List ℕ → ℕ → A
-timeAt set unset b at = cond (flagAt b at) (set (word64 b (at + 1))) unset
+unfoldable pub whenAt : List ℕ → ℕ → When
+whenAt b at = cond (flagAt b at) (At (word64 b (at + 1))) Never
 
--- the last multicast of an own record, by its index
-unfoldable pub sentAt : List ℕ → ℕ → Sent
-sentAt b i = timeAt At Never b (layout.multicast i)
-
-unfoldable pub replyAt : List ℕ → Reply
-replyAt b = timeAt Due Unset b layout.reply
+-- when an own record was last multicast
+unfoldable pub sentAt : List ℕ → Own → When
+sentAt b o = whenAt b (layout.multicast (indexOf o))
 
 unfoldable pub multicastsAt : List ℕ → Multicasts
-multicastsAt b = record { ptr = sentAt b 0; srv = sentAt b 1; txt = sentAt b 2; a = sentAt b 3; aaaa = sentAt b 4 }
+multicastsAt b = eachLast (sentAt b)
 
-unfoldable pub lifeAt : List ℕ → Life
-lifeAt b = record {
+unfoldable pub progressAt : List ℕ → Progress
+progressAt b = record {
   instance = claimAt b layout.instanceClaim;
   host = claimAt b layout.hostClaim;
   sent = multicastsAt b;
-  reply = replyAt b;
+  reply = whenAt b layout.reply;
   draw = word64 b layout.draw;
   last = word64 b layout.last;
 }

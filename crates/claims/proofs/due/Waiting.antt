@@ -1,29 +1,29 @@
 -- What the next due time promises a caller that waits for it: a step is due at a time exactly where that is not before the next due time, and a tick
 -- with none due sends nothing and changes nothing but the time of the last call. Assumes nothing.
-use mathlib.Core.Path.{_≡_, refl, sym, _∙_}
-use mathlib.Core.Bool.{Bool, true, false, cond, _||_}
-use mathlib.Core.Option.{Option, none, some}
+use mathlib.Core.Path.{_≡_, refl, sym, ap, _∙_}
+use mathlib.Core.Bool.{Bool, true, false, cond, _||_, or-assoc, or-false}
+use mathlib.Core.List.{List, [], _∷_}
 use Prim.Native.Nat.{ℕ, _≤_, _<_}
 use native.Mathlib.Omega.{arith}
 use lib.Dec.{leb}
 use borrow.Author.Tests.{le-leb, lt-leb, leb-true, leb-false}
 use mathlib.Mathlib.Data.Bool.Basic.{or-eq-false-eq-eq-false-and-eq-false as neither}
-use Rattle.claims.specs.Claims.{dueOf, replyDueOf}
-use Rattle.claims.specs.declared.Life.{Life}
-use Rattle.claims.specs.steps.Steps.{dueBy, claimDue, replyDue, moreDue, stepOf}
-use Rattle.claims.specs.steps.Tick.{withLast, stepTurn, claimTurn, replyTurn, orHost, orReply, endedOf, tickOf}
+use Rattle.claims.specs.records.Sets.{someOf}
+use Rattle.claims.specs.Time.{dueBy}
+use Rattle.claims.specs.declared.When.{When}
+use Rattle.claims.specs.declared.When.the-variants.{Never, At}
+use Rattle.claims.specs.declared.Progress.{Progress}
+use Rattle.claims.specs.steps.Steps.{steps, stepDue, moreDue}
+use Rattle.claims.specs.steps.Tick.{withLast, stepTurn, orElse, walked, endedOf, tickOf}
+use Rattle.claims.specs.declared.steps.Step.{Step}
 use Rattle.claims.specs.declared.steps.Output.the-variants.{Nothing}
+use Rattle.claims.specs.declared.steps.Turn.{Turn}
 use Rattle.claims.specs.declared.steps.Ticked.{Ticked}
-use Rattle.claims.specs.due.Due.{asDue, earliest, nextDue, comes}
-use Rattle.claims.specs.declared.due.Due.{Due}
-use Rattle.claims.specs.declared.due.Due.the-variants.{Never, At}
-
-as-due : (o : Option ℕ) (now : ℕ) → comes (asDue o) now ≡ dueBy o now
-as-due none now = refl
-as-due (some time) now = refl
+use Rattle.claims.specs.due.Due.{earliest, earliestOf, nextDue}
+use Rattle.claims.proofs.steps.Walk.{quiet, passed}
 
 -- the earlier of two has come exactly where one of them has
-either : (a b : Due) (now : ℕ) → comes (earliest a b) now ≡ (comes a now || comes b now)
+either : (a b : When) (now : ℕ) → dueBy (earliest a b) now ≡ (dueBy a now || dueBy b now)
 either Never b now = refl
 either (At a) Never now = alone (leb a now)
   where
@@ -32,7 +32,7 @@ either (At a) Never now = alone (leb a now)
     alone false = refl
 either (At a) (At b) now = go (leb a b) refl (leb a now) refl
   where
-    go : (x : Bool) → leb a b ≡ x → (y : Bool) → leb a now ≡ y → comes (cond x (At a) (At b)) now ≡ (leb a now || leb b now)
+    go : (x : Bool) → leb a b ≡ x → (y : Bool) → leb a now ≡ y → dueBy (cond x (At a) (At b)) now ≡ (leb a now || leb b now)
     go true e true f = rw f refl
     go true e false f =
         let l : a ≤ b = leb-true a b e in
@@ -46,18 +46,35 @@ either (At a) (At b) now = go (leb a b) refl (leb a now) refl
         rw (f, le-leb b now k) refl
     go false e false f = rw f refl
 
-pub due-exactly : (life : Life) (now : ℕ) → moreDue life now ≡ comes (nextDue life) now
+-- the earliest of some steps has come exactly where one of them has
+some-come :
+    (progress : Progress) (now : ℕ) (first : When) (ss : List Step)
+    → dueBy (earliestOf progress first ss) now ≡ (dueBy first now || someOf (λ s. dueBy (stepDue s progress) now) ss)
+unfolding earliestOf someOf
+some-come progress now first [] = sym (or-false (dueBy first now))
+some-come progress now first (s ∷ ss) =
+    some-come progress now (earliest first (stepDue s progress)) ss
+    ∙ ap (λ (b : Bool). b || someOf (λ i. dueBy (stepDue i progress) now) ss) (either first (stepDue s progress) now)
+    ∙ or-assoc (dueBy first now) (dueBy (stepDue s progress) now) (someOf (λ i. dueBy (stepDue i progress) now) ss)
+
+pub due-exactly : (progress : Progress) (now : ℕ) → moreDue progress now ≡ dueBy (nextDue progress) now
 unfolding moreDue nextDue
-due-exactly life now =
-    let h = either (asDue (dueOf (life .host))) (asDue (replyDueOf (life .reply))) now in
-    let i = either (asDue (dueOf (life .instance))) (earliest (asDue (dueOf (life .host))) (asDue (replyDueOf (life .reply)))) now in
-    sym (i ∙ rw (h, as-due (dueOf (life .instance)) now, as-due (dueOf (life .host)) now, as-due (replyDueOf (life .reply)) now) refl)
+due-exactly progress now = sym (some-come progress now Never steps)
+
+-- steps of which none is due are all passed
+all-passed :
+    (ss : List Step) (aaaa : Bool) (now : ℕ) (progress : Progress)
+    → someOf (λ s. dueBy (stepDue s progress) now) ss ≡ false
+    → walked ss aaaa now progress ≡ quiet progress
+unfolding walked someOf
+all-passed [] aaaa now progress e = refl
+all-passed (s ∷ ss) aaaa now progress e =
+    let n = neither (dueBy (stepDue s progress) now) (someOf (λ i. dueBy (stepDue i progress) now) ss) .0 e in
+    ap (λ (t : Turn). orElse (t .output) t (walked ss aaaa now)) (passed s aaaa now progress (n .0)) ∙ all-passed ss aaaa now progress (n .1)
 
 pub idle-tick :
-    (life : Life) (now : ℕ) (aaaa : Bool) → moreDue life now ≡ false
-    → _≡_ {A = Ticked} (tickOf life now aaaa) (record { life = withLast now life; output = Nothing; more = false })
-unfolding moreDue tickOf claimTurn stepOf stepTurn orHost orReply replyTurn endedOf
-idle-tick life now aaaa e =
-    let i = neither (claimDue (life .instance) now) (claimDue (life .host) now || replyDue (life .reply) now) .0 e in
-    let h = neither (claimDue (life .host) now) (replyDue (life .reply) now) .0 (i .1) in
-    rw (i .0, h .0, h .1) (λ j. record { life = withLast now life; output = Nothing; more = e j })
+    (progress : Progress) (now : ℕ) (aaaa : Bool) → moreDue progress now ≡ false
+    → _≡_ {A = Ticked} (tickOf progress now aaaa) (record { progress = withLast now progress; output = Nothing; more = false })
+unfolding moreDue tickOf endedOf
+idle-tick progress now aaaa e =
+    ap (λ (t : Turn). endedOf t now) (all-passed steps aaaa now progress e) ∙ (λ j. record { progress = withLast now progress; output = Nothing; more = e j })

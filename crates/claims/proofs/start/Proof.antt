@@ -6,9 +6,12 @@ use Rattle.claims.proofs.start.Tie as tie
 after-requires : tie.Need-after-requires
 after-requires c κs = search needs
 
+never-sent-requires : tie.Need-never-sent-requires
+never-sent-requires c κs = search needs
+
 returns : tie.Need-returns
 unfolding startOf
-returns c = rw (c .after .ensures)
+returns c = simp (c .never-sent .ensures, c .before .after .ensures)
 
 pub start-spec : {M : Type 1} → statement M
-start-spec = tie.close (tie.spec after-requires returns)
+start-spec = tie.close (tie.spec after-requires never-sent-requires returns)

@@ -1,25 +1,31 @@
--- Ticks settle: a tick takes the first due step and leaves it not due, so that after three ticks at one time nothing is due. Assumes nothing.
-use Prim.Native.Nat.{ℕ, _+_, _≤_, _<_}
-use mathlib.Core.Path.{_≡_, refl, sym, subst, _∙_, ap}
+-- Ticks settle: a tick takes the first due step and leaves it not due, so that after as many ticks at one time as there are steps nothing is due. Assumes
+-- nothing.
+use Prim.Native.Nat.{ℕ, zero, suc, _+_, _≤_, _<_}
+use mathlib.Core.Path.{_≡_, refl, sym, subst}
+use mathlib.Core.List.{List, [], _∷_}
 use mathlib.Core.Bool.{Bool, true, false, cond, _||_}
 use native.Mathlib.Omega.{arith}
+use lib.ListN.{length, take}
+use lib.Seq.{take-length}
 use borrow.Author.Tests.{lt-leb}
-use Rattle.claims.specs.Time.{lastTime, afterMs}
+use Rattle.claims.specs.records.Sets.{someOf}
+use Rattle.claims.specs.Time.{lastTime, afterMs, dueBy}
 use Rattle.claims.specs.Claims.{claimOf}
 use Rattle.claims.proofs.Times.{after-exact}
-use Rattle.claims.specs.declared.Claim.{Claim}
-use Rattle.claims.specs.declared.Claim.the-variants.{Waiting, Probing1, Probing2, Probing3, Deferred, Announced, Held, Lost}
-use Rattle.claims.specs.declared.Kind.{Kind}
-use Rattle.claims.specs.declared.Kind.the-variants.{Instance, Host}
-use Rattle.claims.specs.declared.Records.{Records}
-use Rattle.claims.specs.declared.Life.{Life}
-use Rattle.claims.specs.steps.Steps.{claimDue, replyDue, moreDue, takenStep, stepOf}
-use Rattle.claims.specs.steps.Tick.{withClaim, withoutReply, sends, stepTurn, claimTurn, ptrReply, replyTurn, orHost, orReply, endedOf, tickOf}
+use Rattle.claims.specs.declared.ClaimState.{ClaimState}
+use Rattle.claims.specs.declared.ClaimState.the-variants.{Waiting, Probing1, Probing2, Probing3, Deferred, Announced, Held, Lost}
+use Rattle.claims.specs.declared.records.Claim.{Claim}
+use Rattle.claims.specs.declared.records.Claim.the-variants.{Instance, Host}
+use Rattle.claims.specs.declared.records.Set.{Set}
+use Rattle.claims.specs.declared.Progress.{Progress}
+use Rattle.claims.specs.steps.Steps.{steps, stepDue, claimDue, moreDue, takenAction, actionOf}
+use Rattle.claims.specs.steps.Tick.{withClaim, withoutReply, withLast, sends, actionTurn, claimTurn, ptrReply, replyTurn, stepTurn, walked, orElse, endedOf, tickOf}
 use Rattle.claims.specs.declared.steps.Step.{Step}
-use Rattle.claims.specs.declared.steps.Step.the-variants as step
+use Rattle.claims.specs.declared.steps.Step.the-variants.{OfClaim, PtrReply}
+use Rattle.claims.specs.declared.steps.Action.{Action}
+use Rattle.claims.specs.declared.steps.Action.the-variants as action
 use Rattle.claims.specs.declared.steps.Turn.{Turn}
-use Rattle.claims.specs.declared.steps.Ticked.{Ticked}
-use Rattle.claims.proofs.steps.Walk.{quiet, sends-by, or-else, claim-by, reply-by}
+use Rattle.claims.proofs.steps.Walk.{quiet, responds, sends-by, or-else, walk-by, claim-by, reply-by, passed}
 use Rattle.claims.proofs.steps.Ticks.{Whose, own, other, whose, claim-withSent, claim-withoutReply, claim-last}
 use Rattle.claims.proofs.steps.Spacing.{claim-same}
 
@@ -29,20 +35,16 @@ clash z = absurd (omega arith)
 module _ (aaaa : Bool) (now : ℕ) (h : now ≤ lastTime) where
   -- ---- a claim's step
 
-  -- the next step of the claim is later
-  abbrev pub NotDue : Kind → Life → Type 0
-  NotDue k l = claimDue (claimOf k l) now ≡ false
-
-  abbrev Later : Step → Type 0
-  Later step.Idle = Unit {0}
-  Later (step.Probe c) = claimDue c now ≡ false
-  Later (step.Announce c) = claimDue c now ≡ false
-  Later (step.Repeat c) = claimDue c now ≡ false
+  abbrev Later : Action → Type 0
+  Later action.Idle = Unit {0}
+  Later (action.Probe c) = claimDue c now ≡ false
+  Later (action.Announce c) = claimDue c now ≡ false
+  Later (action.Repeat c) = claimDue c now ≡ false
 
   soon : (ms : ℕ) → 0 < ms → ms ≤ 1000 → claimDue (Waiting (afterMs now ms)) now ≡ false
   soon ms lo hi = lt-leb (afterMs now ms) now (rw (after-exact now ms h (omega arith)) (omega arith))
 
-  later : (c : Claim) → Later (takenStep c now)
+  later : (c : ClaimState) → Later (takenAction c now)
   later (Waiting u) = soon 250 (omega arith) (omega arith)
   later (Probing1 u) = soon 250 (omega arith) (omega arith)
   later (Probing2 u) = soon 250 (omega arith) (omega arith)
@@ -53,7 +55,7 @@ module _ (aaaa : Bool) (now : ℕ) (h : now ≤ lastTime) where
   later Lost = tt
 
   -- a claim that has no step to take is not due
-  idle : (c : Claim) → takenStep c now ≡ step.Idle → claimDue c now ≡ false
+  idle : (c : ClaimState) → takenAction c now ≡ action.Idle → claimDue c now ≡ false
   idle (Waiting u) e = clash (cc)
   idle (Probing1 u) e = clash (cc)
   idle (Probing2 u) e = clash (cc)
@@ -65,99 +67,120 @@ module _ (aaaa : Bool) (now : ℕ) (h : now ≤ lastTime) where
 
   -- ---- a turn
 
-  abbrev Past : Kind → Turn → Type 0
-  Past k t = NotDue k (t .life)
+  -- the step is not due
+  abbrev pub NotDue : Step → Progress → Type 0
+  NotDue s l = dueBy (stepDue s l) now ≡ false
 
-  past-sends : (k : Kind) (set : Records) (l : Life) → NotDue k l → Past k (sends set now l)
-  past-sends k set l q = sends-by now (Past k) set l q (rw (claim-withSent k set now l) q)
+  abbrev Past : Step → Turn → Type 0
+  Past s t = NotDue s (t .progress)
 
-  -- after its turn a claim is not due
-  own-past : (k : Kind) (l : Life) → Past k (claimTurn k aaaa now l)
-  unfolding claimTurn stepOf stepTurn
-  own-past k l = go (claimDue (claimOf k l) now) (takenStep (claimOf k l) now) refl refl
+  past-sends : (s : Step) (set : Set) (l : Progress) → NotDue s l → Past s (sends set now l)
+  past-sends s set l q = sends-by now (Past s) set l q (sent s q)
     where
-      after : (c : Claim) → claimDue c now ≡ false → NotDue k (withClaim k c l)
+      sent : (i : Step) → NotDue i l → Past i (responds set now l)
+      sent (OfClaim k) r = rw (claim-withSent k set now l) r
+      sent PtrReply r = r
+
+  -- after its turn a step is not due
+  claim-past : (k : Claim) (l : Progress) → Past (OfClaim k) (claimTurn k aaaa now l)
+  unfolding claimTurn actionOf actionTurn
+  claim-past k l = go (claimDue (claimOf k l) now) (takenAction (claimOf k l) now) refl refl
+    where
+      after : (c : ClaimState) → claimDue c now ≡ false → NotDue (OfClaim k) (withClaim k c l)
       after c e = rw (claim-same k c l) e
 
-      go : (b : Bool) (s : Step) → claimDue (claimOf k l) now ≡ b → takenStep (claimOf k l) now ≡ s → Past k (stepTurn (cond b s step.Idle) k aaaa now l)
+      go : (b : Bool) (s : Action)
+          → claimDue (claimOf k l) now ≡ b
+          → takenAction (claimOf k l) now ≡ s
+          → Past (OfClaim k) (actionTurn (cond b s action.Idle) k aaaa now l)
       go false s d e = d
-      go true step.Idle d e = idle (claimOf k l) e
-      go true (step.Probe c) d e = after c (subst Later e (later (claimOf k l)))
-      go true (step.Announce c) d e = past-sends k _ (withClaim k c l) (after c (subst Later e (later (claimOf k l))))
-      go true (step.Repeat c) d e = past-sends k _ (withClaim k c l) (after c (subst Later e (later (claimOf k l))))
+      go true action.Idle d e = idle (claimOf k l) e
+      go true (action.Probe c) d e = after c (subst Later e (later (claimOf k l)))
+      go true (action.Announce c) d e = past-sends (OfClaim k) _ (withClaim k c l) (after c (subst Later e (later (claimOf k l))))
+      go true (action.Repeat c) d e = past-sends (OfClaim k) _ (withClaim k c l) (after c (subst Later e (later (claimOf k l))))
 
-  -- and no other turn makes it due
-  keeps-past : (k j : Kind) (l : Life) → NotDue k l → Past k (claimTurn j aaaa now l)
-  keeps-past k j l q = go (whose k j)
-    where
-      go : Whose k j → Past k (claimTurn j aaaa now l)
-      go (own e) = subst (λ (i : Kind). Past k (claimTurn i aaaa now l)) e (own-past k l)
-      go (other same apart) =
-          claim-by now (Past k) j aaaa l q (λ c d s. rw (same c l) q)
-          (λ c d s. past-sends k _ (withClaim j c l) (rw (same c l) q))
-          (λ c d s. past-sends k _ (withClaim j c l) (rw (same c l) q))
-
-  reply-keeps : (k : Kind) (l : Life) → NotDue k l → Past k (replyTurn now l)
-  reply-keeps k l q = reply-by now (Past k) l q (λ d. past-sends k (ptrReply now l) (withoutReply l) (rw (claim-withoutReply k l) q))
-
-  -- a claim that is not due is passed
-  passes : (k : Kind) (l : Life) → NotDue k l → claimTurn k aaaa now l ≡ quiet l
-  unfolding claimTurn stepOf stepTurn
-  passes k l q = rw q
-
-  -- after its turn the reply is not due
-  reply-past : (l : Life) → replyDue (replyTurn now l .life .reply) now ≡ false
+  reply-past : (l : Progress) → Past PtrReply (replyTurn now l)
   unfolding replyTurn
-  reply-past l = go (replyDue (l .reply) now) refl
+  reply-past l = go (dueBy (l .reply) now) refl
     where
-      go : (b : Bool) → replyDue (l .reply) now ≡ b → replyDue (cond b (sends (ptrReply now l) now (withoutReply l)) (quiet l) .life .reply) now ≡ false
-      go true e = sends-by now (λ t. replyDue (t .life .reply) now ≡ false) (ptrReply now l) (withoutReply l) refl refl
+      go : (b : Bool) → dueBy (l .reply) now ≡ b → Past PtrReply (cond b (sends (ptrReply now l) now (withoutReply l)) (quiet l))
+      go true e = past-sends PtrReply (ptrReply now l) (withoutReply l) refl
       go false e = e
 
-  -- ---- a tick
+  own-past : (s : Step) (l : Progress) → Past s (stepTurn s aaaa now l)
+  unfolding stepTurn
+  own-past (OfClaim k) l = claim-past k l
+  own-past PtrReply l = reply-past l
 
-  abbrev ticked : Life → Life
-  ticked l = tickOf l now aaaa .life
+  -- and no other turn makes it due
+  beside : (s : Step) (k : Claim) (l : Progress) → ((c : ClaimState) → NotDue s (withClaim k c l)) → NotDue s l → Past s (claimTurn k aaaa now l)
+  beside s k l same q =
+      claim-by now (Past s) k aaaa l q (λ c d e. same c) (λ c d e. past-sends s _ (withClaim k c l) (same c)) (λ c d e. past-sends s _ (withClaim k c l) (same c))
 
-  with-last : (k : Kind) (t : Turn) → Past k t → NotDue k (endedOf t now .life)
-  unfolding endedOf
-  with-last k t q = rw (claim-last now aaaa k (t .life)) q
+  reply-stays : (k : Claim) (c : ClaimState) (l : Progress) → NotDue PtrReply l → NotDue PtrReply (withClaim k c l)
+  reply-stays Instance c l q = q
+  reply-stays Host c l q = q
 
-  -- what the instance's turn leaves, the others keep
-  rest-keeps : (k : Kind) (t : Turn) → Past k t → Past k (orReply (orHost t aaaa now) now)
-  unfolding orHost orReply
-  rest-keeps k t q =
-      or-else now (Past k) (orHost t aaaa now) (replyTurn now) (or-else now (Past k) t (claimTurn Host aaaa now) q (keeps-past k Host)) (reply-keeps k)
+  keeps-past : (s j : Step) (l : Progress) → NotDue s l → Past s (stepTurn j aaaa now l)
+  unfolding stepTurn
+  keeps-past (OfClaim k) (OfClaim j) l q = go (whose k j)
+    where
+      go : Whose k j → Past (OfClaim k) (claimTurn j aaaa now l)
+      go (own e) = subst (λ (i : Claim). Past (OfClaim k) (claimTurn i aaaa now l)) e (claim-past k l)
+      go (other same apart) = beside (OfClaim k) j l (λ c. rw (same c l) q) q
+  keeps-past (OfClaim k) PtrReply l q =
+      reply-by now (Past (OfClaim k)) l q (λ d. past-sends (OfClaim k) (ptrReply now l) (withoutReply l) (rw (claim-withoutReply k l) q))
+  keeps-past PtrReply (OfClaim j) l q = beside PtrReply j l (λ c. reply-stays j c l q) q
+  keeps-past PtrReply PtrReply l q = reply-past l
 
-  first : (l : Life) → NotDue Instance (ticked l)
-  unfolding tickOf
-  first l = with-last Instance _ (rest-keeps Instance (claimTurn Instance aaaa now l) (own-past Instance l))
+  -- ---- a walk
 
-  keeps : (k : Kind) (l : Life) → NotDue k l → NotDue k (ticked l)
-  unfolding tickOf
-  keeps k l q = with-last k _ (rest-keeps k (claimTurn Instance aaaa now l) (keeps-past k Instance l q))
+  -- none of these steps is due
+  abbrev pub Settled : List Step → Progress → Type 0
+  Settled [] l = Unit {0}
+  Settled (s ∷ ss) l = NotDue s l × Settled ss l
 
-  after-passed : (l : Life) → NotDue Instance l → tickOf l now aaaa ≡ endedOf (orReply (claimTurn Host aaaa now l) now) now
-  unfolding tickOf orHost
-  after-passed l q = rw (passes Instance l q)
+  rest-keeps : (s : Step) (ss : List Step) (l : Progress) → NotDue s l → Past s (walked ss aaaa now l)
+  rest-keeps s ss l q = walk-by now (Past s) ss aaaa l q (λ j x r. keeps-past s j x r)
 
-  second : (l : Life) → NotDue Instance l → NotDue Host (ticked l)
-  unfolding orReply
-  second l q =
-      subst (λ (t : Ticked). NotDue Host (t .life)) (sym (after-passed l q))
-      (with-last Host _ (or-else now (Past Host) (claimTurn Host aaaa now l) (replyTurn now) (own-past Host l) (reply-keeps Host)))
+  -- a walk past the first `n` steps, none of which is due, leaves one more that is not due
+  one-more : (ss : List Step) (n : ℕ) (l : Progress) → Settled (take n ss) l → Settled (take (suc n) ss) (walked ss aaaa now l .progress)
+  unfolding walked
+  one-more [] n l q = tt
+  one-more (s ∷ ss) zero l q =
+      (or-else now (Past s) (stepTurn s aaaa now l) (walked ss aaaa now) (own-past s l) (λ x r. rest-keeps s ss x r), tt)
+  one-more (s ∷ ss) (suc n) l q =
+      subst (λ (t : Turn). Settled (s ∷ take (suc n) ss) (orElse (t .output) t (walked ss aaaa now) .progress)) (sym (passed s aaaa now l (q .0)))
+      (rest-keeps s ss l (q .0), one-more ss n l (q .1))
 
-  third : (l : Life) → NotDue Instance l → NotDue Host l → replyDue (ticked l .reply) now ≡ false
-  unfolding orReply endedOf
-  third l q r =
-      subst (λ (t : Ticked). replyDue (t .life .reply) now ≡ false)
-      (sym (after-passed l q ∙ ap (λ (t : Turn). endedOf (orReply t now) now) (passes Host l r))) (reply-past l)
+  -- ---- ticks
 
-  -- After three ticks at one time no step is due.
-  pub three-ticks : (l : Life) → moreDue (ticked (ticked (ticked l))) now ≡ false
+  abbrev ticked : Progress → Progress
+  ticked l = tickOf l now aaaa .progress
+
+  abbrev ticks : ℕ → Progress → Progress
+  ticks zero l = l
+  ticks (suc n) l = ticked (ticks n l)
+
+  with-last : (ss : List Step) (l : Progress) → Settled ss l → Settled ss (withLast now l)
+  with-last [] l q = tt
+  with-last (OfClaim k ∷ ss) l q = (rw (claim-last now aaaa k l) (q .0), with-last ss l (q .1))
+  with-last (PtrReply ∷ ss) l q = (q .0, with-last ss l (q .1))
+
+  settled : (n : ℕ) (l : Progress) → Settled (take n steps) (ticks n l)
+  unfolding tickOf endedOf
+  settled zero l = tt
+  settled (suc n) l = with-last (take (suc n) steps) _ (one-more steps n (ticks n l) (settled n l))
+
+  none-due : (ss : List Step) (l : Progress) → Settled ss l → someOf (λ s. dueBy (stepDue s l) now) ss ≡ false
+  unfolding someOf
+  none-due [] l q = refl
+  none-due (s ∷ ss) l q = simp (q .0, none-due ss l (q .1))
+
+  -- After as many ticks at one time as there are steps, no step is due.
+  pub all-ticks : (l : Progress) → moreDue (ticks (length steps) l) now ≡ false
   unfolding moreDue
-  three-ticks l =
-      let a : NotDue Instance (ticked l) = first l in
-      let b : NotDue Instance (ticked (ticked l)) = keeps Instance (ticked l) a in
-      let c : NotDue Host (ticked (ticked l)) = second (ticked l) a in
-      rw (keeps Instance (ticked (ticked l)) b, keeps Host (ticked (ticked l)) c) (third (ticked (ticked l)) b c)
+  all-ticks l = none-due steps (ticks (length steps) l) (settled (length steps) l)
+
+  pub three-ticks : (l : Progress) → moreDue (ticked (ticked (ticked l))) now ≡ false
+  three-ticks l = all-ticks l

@@ -1,39 +1,39 @@
 -- A packet received (specification, 'A claim's life' and 'Which answers go out'), on what the message says. Claims and answers are both judged on the state
 -- that the call is given. Assumes nothing: these are definitions.
 use Prim.Native.Nat.{ℕ}
-use mathlib.Core.Bool.{Bool, false, cond, not, _&&_, _||_}
-use Rattle.claims.specs.Time.{afterMs, recently, markedAll}
-use Rattle.claims.specs.Claims.{heldNow, afterConflict, afterProbe}
-use Rattle.claims.specs.declared.Claim.{Claim}
-use Rattle.claims.specs.declared.Sent.{Sent}
-use Rattle.claims.specs.declared.Records.{Records}
-use Rattle.claims.specs.declared.Reply.{Reply}
-use Rattle.claims.specs.declared.Reply.the-variants.{Unset, Due}
-use Rattle.claims.specs.declared.Life.{Life}
+use mathlib.Core.Bool.{Bool, cond, not, _&&_, _||_}
+use Rattle.claims.specs.records.Own.{claimFor, present, has, each}
+use Rattle.claims.specs.records.Sets.{atOnce}
+use Rattle.claims.specs.Time.{afterMs, recently, sentOf, markedAll}
+use Rattle.claims.specs.Claims.{heldNow, claimOf, afterConflict, afterProbe}
+use Rattle.claims.specs.declared.records.Claim.{Claim}
+use Rattle.claims.specs.declared.records.Claim.the-variants.{Instance, Host}
+use Rattle.claims.specs.declared.records.Own.{Own}
+use Rattle.claims.specs.declared.records.Own.the-variants.{Ptr}
+use Rattle.claims.specs.declared.records.Set.{Set}
+use Rattle.claims.specs.declared.ClaimState.{ClaimState}
+use Rattle.claims.specs.declared.When.{When}
+use Rattle.claims.specs.declared.When.the-variants.{Never, At}
+use Rattle.claims.specs.declared.Progress.{Progress}
 use Rattle.claims.specs.declared.answers.Heard.{Heard}
 use Rattle.claims.specs.declared.answers.Facts.{Facts}
 use Rattle.claims.specs.declared.answers.Received.{Received}
 
+-- what a message says to a claim
+abbrev pub heardFor : Claim → Facts → Heard
+heardFor Instance f = f .instance
+heardFor Host f = f .host
+
 -- A claim after a message. A response moves it where a record conflicts, "One message counts once per claim"; a query where it is a probe and "theirs is
 -- later". `again` is now plus the start draw, `deferred` now plus 1,000.
-unfoldable pub heardOf : Claim → Bool → Heard → ℕ → ℕ → Claim
+unfoldable pub heardOf : ClaimState → Bool → Heard → ℕ → ℕ → ClaimState
 heardOf c response h again deferred =
     cond response (cond (h .conflict) (afterConflict c again) c) (cond (h .probe && h .later) (afterProbe c deferred) c)
 
--- "A record is due when its claim is held (PTR: the instance claim), a question of a query has its name, its type or 255, and class 1 or 255."
-abbrev pub isDue : Bool → Bool → Bool → Bool
-isDue response held asked = not response && (held && asked)
-
--- the records that are due; the AAAA record where there is one
-unfoldable pub dueOf : Life → Facts → Bool → Records
-dueOf life f aaaa =
-    record {
-      ptr = isDue (f .response) (heldNow (life .instance)) (f .asked .ptr);
-      srv = isDue (f .response) (heldNow (life .instance)) (f .asked .srv);
-      txt = isDue (f .response) (heldNow (life .instance)) (f .asked .txt);
-      a = isDue (f .response) (heldNow (life .host)) (f .asked .a);
-      aaaa = isDue (f .response) (heldNow (life .host)) (aaaa && f .asked .aaaa);
-    }
+-- "A record is due when its claim is held (PTR: the instance claim), a question of a query has its name, its type or 255, and class 1 or 255." AAAA "may be
+-- missing".
+abbrev pub isDue : Progress → Facts → Bool → Own → Bool
+isDue progress f aaaa o = not (f .response) && (heldNow (claimOf (claimFor o) progress) && (present o aaaa && has o (f .asked)))
 
 -- "1,000 ms ago, 250 ms if the query is a probe for its claim"
 abbrev pub gapOf : Bool → ℕ
@@ -41,55 +41,33 @@ gapOf probe = cond probe 250 1000
 
 -- "It is omitted exactly when (a) an Answer record in the query has equal name, class, type and rdata and twice its TTL is at least our own TTL, or (b)
 -- it was multicast less than 1,000 ms ago, 250 ms if the query is a probe for its claim."
-abbrev pub omitted : Bool → Bool → Sent → ℕ → Bool
-omitted known probe s now = known || recently s now (gapOf probe)
-
-unfoldable pub omittedOf : Life → Facts → ℕ → Records
-omittedOf life f now =
-    record {
-      ptr = omitted (f .known .ptr) (f .instance .probe) (life .sent .ptr) now;
-      srv = omitted (f .known .srv) (f .instance .probe) (life .sent .srv) now;
-      txt = omitted (f .known .txt) (f .instance .probe) (life .sent .txt) now;
-      a = omitted (f .known .a) (f .host .probe) (life .sent .a) now;
-      aaaa = omitted (f .known .aaaa) (f .host .probe) (life .sent .aaaa) now;
-    }
-
--- the records of one set that are not in another
-unfoldable pub without : Records → Records → Records
-without set less =
-    record {
-      ptr = set .ptr && not (less .ptr);
-      srv = set .srv && not (less .srv);
-      txt = set .txt && not (less .txt);
-      a = set .a && not (less .a);
-      aaaa = set .aaaa && not (less .aaaa);
-    }
+abbrev pub isOmitted : Progress → Facts → ℕ → Own → Bool
+isOmitted progress f now o = has o (f .known) || recently (sentOf o (progress .sent)) now (gapOf (heardFor (claimFor o) f .probe))
 
 -- the records that are due and not omitted
-unfoldable pub wantedOf : Life → Facts → ℕ → Bool → Records
-wantedOf life f now aaaa = without (dueOf life f aaaa) (omittedOf life f now)
+abbrev pub isWanted : Progress → Facts → ℕ → Bool → Own → Bool
+isWanted progress f now aaaa o = isDue progress f aaaa o && not (isOmitted progress f now o)
 
--- "SRV, TXT, A, AAAA go out at once in one packet."
-abbrev pub atOnce : Records → Records
-atOnce set = record { ptr = false; srv = set .srv; txt = set .txt; a = set .a; aaaa = set .aaaa }
+unfoldable pub wantedOf : Progress → Facts → ℕ → Bool → Set
+wantedOf progress f now aaaa = each (isWanted progress f now aaaa)
 
 -- "PTR is set for a reply at now plus the draw, unless one is already set"
-abbrev pub setReply : Bool → Reply → ℕ → Reply
-setReply asks Unset due = cond asks (Due due) Unset
-setReply asks (Due was) due = Due was
+abbrev pub setReply : Bool → When → ℕ → When
+setReply asks Never due = cond asks (At due) Never
+setReply asks (At was) due = At was
 
--- "Receiving takes no due step."
-unfoldable pub receiveOf : Life → ℕ → ℕ → Facts → Bool → Received
-receiveOf life now draw f aaaa =
+-- "SRV, TXT, A, AAAA go out at once in one packet." "Receiving takes no due step."
+unfoldable pub receiveOf : Progress → ℕ → ℕ → Facts → Bool → Received
+receiveOf progress now draw f aaaa =
     record {
-      life =
+      progress =
           record {
-            instance = heardOf (life .instance) (f .response) (f .instance) (afterMs now (life .draw)) (afterMs now 1000);
-            host = heardOf (life .host) (f .response) (f .host) (afterMs now (life .draw)) (afterMs now 1000);
-            sent = markedAll (atOnce (wantedOf life f now aaaa)) (life .sent) now;
-            reply = setReply (wantedOf life f now aaaa .ptr) (life .reply) (afterMs now draw);
-            draw = life .draw;
+            instance = heardOf (progress .instance) (f .response) (f .instance) (afterMs now (progress .draw)) (afterMs now 1000);
+            host = heardOf (progress .host) (f .response) (f .host) (afterMs now (progress .draw)) (afterMs now 1000);
+            sent = markedAll (atOnce (wantedOf progress f now aaaa)) (progress .sent) now;
+            reply = setReply (has Ptr (wantedOf progress f now aaaa)) (progress .reply) (afterMs now draw);
+            draw = progress .draw;
             last = now;
           };
-      answers = atOnce (wantedOf life f now aaaa);
+      answers = atOnce (wantedOf progress f now aaaa);
     }

@@ -1,28 +1,24 @@
--- When a responder's next step is due: the earliest of the three that a tick walks, "instance, host, then PTR reply" (specification, 'A claim's life'). Assumes
--- nothing: these are definitions.
+-- When a responder's next step is due: the earliest of the steps that a tick walks (specification, 'A claim's life'). Assumes nothing: these are definitions.
 use Prim.Native.Nat.{ℕ}
-use mathlib.Core.Bool.{Bool, false, cond}
-use mathlib.Core.Option.{Option, none, some}
+use mathlib.Core.Bool.{cond}
+use mathlib.Core.List.{List, [], _∷_, map}
 use lib.Dec.{leb}
-use Rattle.claims.specs.Claims.{dueOf, replyDueOf}
-use Rattle.claims.specs.declared.Life.{Life}
-use Rattle.claims.specs.declared.due.Due.{Due}
-use Rattle.claims.specs.declared.due.Due.the-variants.{Never, At}
-
-abbrev pub asDue : Option ℕ → Due
-asDue none = Never
-asDue (some time) = At time
+use Rattle.claims.specs.steps.Steps.{steps, stepDue}
+use Rattle.claims.specs.declared.When.{When}
+use Rattle.claims.specs.declared.When.the-variants.{Never, At}
+use Rattle.claims.specs.declared.Progress.{Progress}
+use Rattle.claims.specs.declared.steps.Step.{Step}
 
 -- the earlier of two
-abbrev pub earliest : Due → Due → Due
+abbrev pub earliest : When → When → When
 earliest Never b = b
 earliest (At a) Never = At a
 earliest (At a) (At b) = cond (leb a b) (At a) (At b)
 
-unfoldable pub nextDue : Life → Due
-nextDue life = earliest (asDue (dueOf (life .instance))) (earliest (asDue (dueOf (life .host))) (asDue (replyDueOf (life .reply))))
+-- the earliest of one time and those of some steps
+unfoldable pub earliestOf : Progress → When → List Step → When
+earliestOf progress first [] = first
+earliestOf progress first (s ∷ ss) = earliestOf progress (earliest first (stepDue s progress)) ss
 
--- a step that is due by a time
-abbrev pub comes : Due → ℕ → Bool
-comes Never now = false
-comes (At time) now = leb time now
+unfoldable pub nextDue : Progress → When
+nextDue progress = earliestOf progress Never steps

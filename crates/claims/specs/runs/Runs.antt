@@ -1,11 +1,11 @@
--- Runs of calls: packets received and ticks, one after the other, each given the life that the last one left. A call that is refused for its time or its
+-- Runs of calls: packets received and ticks, one after the other, each given the progress that the last one left. A call that is refused for its time or its
 -- draws changes nothing and sends nothing. Assumes nothing: these are definitions.
 use Prim.Native.Nat.{ℕ, _+_, _≤_}
 use mathlib.Core.Bool.{Bool, false, cond, _||_}
 use mathlib.Core.List.{List, [], _∷_}
 use Rattle.claims.specs.Refusals.{wrongTime, wrongStartDraw, wrongReplyDraw}
-use Rattle.claims.specs.declared.Kind.{Kind}
-use Rattle.claims.specs.declared.Life.{Life}
+use Rattle.claims.specs.declared.records.Claim.{Claim}
+use Rattle.claims.specs.declared.Progress.{Progress}
 use Rattle.claims.specs.steps.Tick.{tickOf, probesFor}
 use Rattle.claims.specs.answers.Answers.{receiveOf}
 use Rattle.claims.specs.declared.answers.Facts.{Facts}
@@ -20,34 +20,34 @@ timeOf (received now draw f) = now
 timeOf (ticked now) = now
 
 -- refused for its time, its draw or the kept start draw: refusals 1, 2 and of 7 the draw
-abbrev pub refused : Life → Call → Bool
-refused life (received now draw f) = wrongTime life now || (wrongReplyDraw draw || wrongStartDraw (life .draw))
-refused life (ticked now) = wrongTime life now || wrongStartDraw (life .draw)
+abbrev pub refused : Progress → Call → Bool
+refused progress (received now draw f) = wrongTime progress now || (wrongReplyDraw draw || wrongStartDraw (progress .draw))
+refused progress (ticked now) = wrongTime progress now || wrongStartDraw (progress .draw)
 
--- the life after a call that is not refused
-abbrev pub lifeAfter : Bool → Life → Call → Life
-lifeAfter aaaa life (received now draw f) = receiveOf life now draw f aaaa .life
-lifeAfter aaaa life (ticked now) = tickOf life now aaaa .life
+-- the progress after a call that is not refused
+abbrev pub progressAfter : Bool → Progress → Call → Progress
+progressAfter aaaa progress (received now draw f) = receiveOf progress now draw f aaaa .progress
+progressAfter aaaa progress (ticked now) = tickOf progress now aaaa .progress
 
 -- it sends a probe of the claim: only a tick does
-abbrev pub sendsProbe : Bool → Kind → Life → Call → Bool
-sendsProbe aaaa k life (received now draw f) = false
-sendsProbe aaaa k life (ticked now) = probesFor k (tickOf life now aaaa .output)
+abbrev pub sendsProbe : Bool → Claim → Progress → Call → Bool
+sendsProbe aaaa k progress (received now draw f) = false
+sendsProbe aaaa k progress (ticked now) = probesFor k (tickOf progress now aaaa .output)
 
-abbrev pub step : Bool → Life → Call → Life
-step aaaa life c = cond (refused life c) life (lifeAfter aaaa life c)
+abbrev pub step : Bool → Progress → Call → Progress
+step aaaa progress c = cond (refused progress c) progress (progressAfter aaaa progress c)
 
--- the life after a list of calls; `aaaa` says whether there is an AAAA record
-abbrev pub run : Bool → Life → List Call → Life
-run aaaa life [] = life
-run aaaa life (c ∷ cs) = run aaaa (step aaaa life c) cs
+-- the progress after a list of calls; `aaaa` says whether there is an AAAA record
+abbrev pub run : Bool → Progress → List Call → Progress
+run aaaa progress [] = progress
+run aaaa progress (c ∷ cs) = run aaaa (step aaaa progress c) cs
 
 -- the times at which a list of calls sends a probe of the claim
-abbrev pub probeTimes : Bool → Kind → Life → List Call → List ℕ
-probeTimes aaaa k life [] = []
-probeTimes aaaa k life (c ∷ cs) =
-    cond (refused life c) (probeTimes aaaa k life cs)
-    (cond (sendsProbe aaaa k life c) (timeOf c ∷ probeTimes aaaa k (lifeAfter aaaa life c) cs) (probeTimes aaaa k (lifeAfter aaaa life c) cs))
+abbrev pub probeTimes : Bool → Claim → Progress → List Call → List ℕ
+probeTimes aaaa k progress [] = []
+probeTimes aaaa k progress (c ∷ cs) =
+    cond (refused progress c) (probeTimes aaaa k progress cs)
+    (cond (sendsProbe aaaa k progress c) (timeOf c ∷ probeTimes aaaa k (progressAfter aaaa progress c) cs) (probeTimes aaaa k (progressAfter aaaa progress c) cs))
 
 -- times of which none is before `from`, and each is at least 250 ms after the one before it
 pub data Spaced : ℕ → List ℕ → Type 0 where

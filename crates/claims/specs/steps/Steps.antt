@@ -1,74 +1,63 @@
 -- The steps of a claim and of the PTR reply (specification, 'A claim's life'): which is due, what it sends, and the claim after it. Assumes nothing: these
 -- are definitions.
 use Prim.Native.Nat.{ℕ}
-use mathlib.Core.Bool.{Bool, true, false, cond, not, _&&_, _||_}
-use mathlib.Core.Option.{Option, none, some}
-use lib.Dec.{leb}
-use Rattle.claims.specs.Time.{afterMs, recently}
-use Rattle.claims.specs.Claims.{dueOf, replyDueOf}
-use Rattle.claims.specs.declared.Claim.{Claim}
-use Rattle.claims.specs.declared.Claim.the-variants.{Waiting, Probing1, Probing2, Probing3, Deferred, Announced, Held, Lost}
-use Rattle.claims.specs.declared.Kind.{Kind}
-use Rattle.claims.specs.declared.Kind.the-variants.{Instance, Host}
-use Rattle.claims.specs.declared.Sent.{Sent}
+use mathlib.Core.Bool.{Bool, false, cond, not, _&&_}
+use mathlib.Core.List.{List, [], _∷_}
+use lib.ListN.{getD}
+use Rattle.claims.specs.records.Own.{has, each}
+use Rattle.claims.specs.records.Sets.{someOf}
+use Rattle.claims.specs.Time.{afterMs, dueBy, recently, sentOf}
+use Rattle.claims.specs.Claims.{dueOf, claimOf}
+use Rattle.claims.specs.declared.ClaimState.{ClaimState}
+use Rattle.claims.specs.declared.ClaimState.the-variants.{Waiting, Probing1, Probing2, Probing3, Deferred, Announced, Held, Lost}
+use Rattle.claims.specs.declared.records.Claim.the-variants.{Instance, Host}
+use Rattle.claims.specs.declared.records.Set.{Set}
+use Rattle.claims.specs.declared.When.{When}
 use Rattle.claims.specs.declared.Multicasts.{Multicasts}
-use Rattle.claims.specs.declared.Records.{Records}
-use Rattle.claims.specs.declared.Reply.{Reply}
-use Rattle.claims.specs.declared.Life.{Life}
+use Rattle.claims.specs.declared.Progress.{Progress}
 use Rattle.claims.specs.declared.steps.Step.{Step}
-use Rattle.claims.specs.declared.steps.Step.the-variants.{Idle, Probe, Announce, Repeat}
+use Rattle.claims.specs.declared.steps.Step.the-variants.{OfClaim, PtrReply}
+use Rattle.claims.specs.declared.steps.Action.{Action}
+use Rattle.claims.specs.declared.steps.Action.the-variants.{Idle, Probe, Announce, Repeat}
 
--- a step is due when its time has come
-abbrev pub dueBy : Option ℕ → ℕ → Bool
-dueBy none now = false
-dueBy (some due) now = leb due now
+-- "instance, host, then PTR reply"
+abbrev pub steps : List Step
+steps = OfClaim Instance ∷ OfClaim Host ∷ PtrReply ∷ []
 
-abbrev pub claimDue : Claim → ℕ → Bool
+unfoldable pub stepAt : ℕ → Step
+stepAt i = getD steps i (OfClaim Instance)
+
+-- when a step is due
+abbrev pub stepDue : Step → Progress → When
+stepDue (OfClaim claim) progress = dueOf (claimOf claim progress)
+stepDue PtrReply progress = progress .reply
+
+abbrev pub claimDue : ClaimState → ℕ → Bool
 claimDue c now = dueBy (dueOf c) now
 
-abbrev pub replyDue : Reply → ℕ → Bool
-replyDue r now = dueBy (replyDueOf r) now
-
 -- "It says whether more is due."
-unfoldable pub moreDue : Life → ℕ → Bool
-moreDue life now = claimDue (life .instance) now || (claimDue (life .host) now || replyDue (life .reply) now)
+unfoldable pub moreDue : Progress → ℕ → Bool
+moreDue progress now = someOf (λ s. dueBy (stepDue s progress) now) steps
 
--- The step of a claim whose step is due. "Probing: three probes, each due 250 ms after the last was sent. 250 ms after the third the claim is held, and
+-- What the step of a claim does whose step is due. "Probing: three probes, each due 250 ms after the last was sent. 250 ms after the third the claim is held, and
 -- that step sends the first announcement, .. A second step, due 1,000 ms later if still held, ..". A waiting or a deferred claim sends its first probe.
-abbrev pub takenStep : Claim → ℕ → Step
-takenStep (Waiting due) now = Probe (Probing1 (afterMs now 250))
-takenStep (Probing1 due) now = Probe (Probing2 (afterMs now 250))
-takenStep (Probing2 due) now = Probe (Probing3 (afterMs now 250))
-takenStep (Probing3 due) now = Announce (Announced (afterMs now 1000))
-takenStep (Deferred due) now = Probe (Probing1 (afterMs now 250))
-takenStep (Announced due) now = Repeat Held
-takenStep Held now = Idle
-takenStep Lost now = Idle
+abbrev pub takenAction : ClaimState → ℕ → Action
+takenAction (Waiting due) now = Probe (Probing1 (afterMs now 250))
+takenAction (Probing1 due) now = Probe (Probing2 (afterMs now 250))
+takenAction (Probing2 due) now = Probe (Probing3 (afterMs now 250))
+takenAction (Probing3 due) now = Announce (Announced (afterMs now 1000))
+takenAction (Deferred due) now = Probe (Probing1 (afterMs now 250))
+takenAction (Announced due) now = Repeat Held
+takenAction Held now = Idle
+takenAction Lost now = Idle
 
-unfoldable pub stepOf : Claim → ℕ → Step
-stepOf c now = cond (claimDue c now) (takenStep c now) Idle
-
--- The records of a claim's announcements. "Claims: the instance name with SRV and TXT, the host name with A and AAAA. .. PTR goes with the instance
--- claim's announcements". AAAA "may be missing".
-abbrev pub recordsOf : Kind → Bool → Records
-recordsOf Instance aaaa = record { ptr = true; srv = true; txt = true; a = false; aaaa = false }
-recordsOf Host aaaa = record { ptr = false; srv = false; txt = false; a = true; aaaa = aaaa }
+unfoldable pub actionOf : ClaimState → ℕ → Action
+actionOf c now = cond (claimDue c now) (takenAction c now) Idle
 
 -- a record that is wanted is sent unless it was multicast less than 1,000 ms ago
-abbrev pub unsent : Bool → Sent → ℕ → Bool
-unsent wanted s now = wanted && not (recently s now 1000)
+abbrev pub unsent : Bool → When → ℕ → Bool
+unsent wanted last now = wanted && not (recently last now 1000)
 
 -- of a set of records, "those not multicast less than 1,000 ms ago"
-unfoldable pub unsentOf : Records → Multicasts → ℕ → Records
-unsentOf set sent now =
-    record {
-      ptr = unsent (set .ptr) (sent .ptr) now;
-      srv = unsent (set .srv) (sent .srv) now;
-      txt = unsent (set .txt) (sent .txt) now;
-      a = unsent (set .a) (sent .a) now;
-      aaaa = unsent (set .aaaa) (sent .aaaa) now;
-    }
-
--- a set has some record
-abbrev pub anyOf : Records → Bool
-anyOf set = set .ptr || (set .srv || (set .txt || (set .a || set .aaaa)))
+unfoldable pub unsentOf : Set → Multicasts → ℕ → Set
+unsentOf set sent now = each (λ o. unsent (has o set) (sentOf o sent) now)

@@ -32,14 +32,10 @@ fn question(p: &[u8], q: wire::message::QuestionAt, text: &mut [u8; 4096], used:
 
 // Adds the rdata of a record, the names in PTR and SRV expanded.
 fn rdata(p: &[u8], r: wire::message::RecordAt, text: &mut [u8; 4096], used: usize) -> usize {
-    let opened = wire::expansion::open(p, r.rtype, r.rdata, r.rdlength);
+    let opened = wire::expansion::open(p, r);
     let b = opened.bytes;
     let n = opened.len;
-    bytes(
-        text,
-        used,
-        wire::expansion::view(p, &b, n, r.rtype, r.rdata, r.rdlength),
-    )
+    bytes(text, used, wire::expansion::view(p, &b, n, r))
 }
 
 // Adds a record: ` r SECTION NAME TYPE CLASS TTL RDATA`.

@@ -1,35 +1,62 @@
+use Prim.Native.Nat.{_≤_, _-_}
+use mathlib.Core.Path.{_≡_, ap, _∙_}
+use mathlib.Core.Bool.{true, false}
+use native.Mathlib.Omega.{arith}
+use Rattle.wire.specs.message.Layout.{listFrom, questionAt}
+use Rattle.claims.specs.records.Own.{records}
+use Rattle.claims.proofs.records.Filled.{filled, none-filled, next-filled, set-filled}
+use Rattle.facts.specs.Walked.{isListed}
+use Rattle.facts.proofs.Owned.{asks}
 use borrow.Author.Needs.{needs}
 use Rattle.facts.proofs.asked_for.Statement.{statement}
 use Rattle.facts.proofs.asked_for.Tie as tie
-use Rattle.facts.proofs.asked_for.Reads as reads
-use Rattle.facts.proofs.asked_for.Lts as lts
-use Rattle.facts.proofs.is_asked.Reads as is-asked-reads
 
-is-asked-requires : tie.Need-is-asked-requires
+abbrev Inv-loop : tie.InvT-loop
+Inv-loop p s setup asked₀ i₀ asked i =
+    (i ≤ records) × (isListed (listFrom (questionAt p) (s .count) (s .at)) ≡ true → asked ≡ filled false (asks setup (listFrom (questionAt p) (s .count) (s .at))) i)
+
+abbrev μ-loop : tie.MeasureT-loop
+μ-loop p s setup asked₀ i₀ asked i = records - i
+
+loop-holds : tie.Need-loop-holds Inv-loop μ-loop
+loop-holds c = (omega arith, λ ok. none-filled false _)
+
+record-at-requires : tie.Need-record-at-requires Inv-loop μ-loop
+record-at-requires c κs = search needs
+
+is-asked-requires : tie.Need-is-asked-requires Inv-loop μ-loop
 is-asked-requires c κs = search needs
 
-is-asked-requires-2 : tie.Need-is-asked-requires-2
-is-asked-requires-2 c κs = search needs
+array-write-asked : tie.Need-array-write-asked Inv-loop μ-loop
+array-write-asked c = search needs
 
-is-asked-requires-3 : tie.Need-is-asked-requires-3
-is-asked-requires-3 c κs = search needs
+add-i : tie.Need-add-i Inv-loop μ-loop
+add-i c = search needs
 
-is-asked-requires-4 : tie.Need-is-asked-requires-4
-is-asked-requires-4 c κs = search needs
+loop-less : tie.Need-loop-less Inv-loop μ-loop
+loop-less c = search needs
 
-is-asked-requires-5 : tie.Need-is-asked-requires-5
-is-asked-requires-5 c κs = search needs
+loop-again : tie.Need-loop-again Inv-loop μ-loop
+loop-again c = (omega arith, λ ok. let a = c .before .before .before .before .before .args in next-filled false _ _ _ _ (c .before .before .before .loop .inv .1 ok) (c .is-asked .ensures ok ∙ ap (asks (a .setup) (listFrom (questionAt (a .p .now)) (a .s .count) (a .s .at))) (c .before .record-at .ensures)))
 
-returns : tie.Need-returns
-returns c = λ ok i. record { ptr = c .before .before .before .before .is-asked .ensures ok i; srv = c .before .before .before .is-asked2 .ensures ok i; txt = c .before .before .is-asked3 .ensures ok i; a = c .before .is-asked4 .ensures ok i; aaaa = c .is-asked5 .ensures ok i }
+set-of-requires : tie.Need-set-of-requires Inv-loop μ-loop
+set-of-requires c κs = search needs
+
+returns : tie.Need-returns Inv-loop μ-loop
+returns c = λ ok. set-filled _ _ _ _ (c .set-of .ensures) (omega arith) (c .before .before .loop .inv .0) (c .before .before .loop .inv .1 ok)
 
 pub asked-for-spec : {M : Type 1} → statement M
 asked-for-spec =
     tie.close
     (tie.spec
+    Inv-loop
+    μ-loop
+    loop-holds
+    record-at-requires
     is-asked-requires
-    is-asked-requires-2
-    is-asked-requires-3
-    is-asked-requires-4
-    is-asked-requires-5
+    array-write-asked
+    add-i
+    loop-less
+    loop-again
+    set-of-requires
     returns)

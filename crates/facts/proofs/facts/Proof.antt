@@ -1,21 +1,13 @@
-use native.Mathlib.Omega.{arith}
 use Rattle.facts.proofs.Said.{says-response, says-query}
 use borrow.Author.Needs.{needs}
 use Rattle.facts.proofs.facts.Statement.{statement}
 use Rattle.facts.proofs.facts.Tie as tie
-use Rattle.facts.proofs.facts.Reads as reads
-use Rattle.facts.proofs.facts.Lts as lts
-use Rattle.facts.proofs.asked_for.Reads as asked-for-reads
-use Rattle.facts.proofs.known_in.Reads as known-in-reads
-use Rattle.facts.proofs.none.Reads as none-reads
-use Rattle.facts.proofs.query_to.Reads as query-to-reads
-use Rattle.facts.proofs.response_to.Reads as response-to-reads
 
-none-requires : tie.Need-none-requires
-none-requires c κs = search needs
+no-record-requires : tie.Need-no-record-requires
+no-record-requires c κs = search needs
 
-none-requires-2 : tie.Need-none-requires-2
-none-requires-2 c κs = search needs
+no-record-requires-2 : tie.Need-no-record-requires-2
+no-record-requires-2 c κs = search needs
 
 response-to-requires : tie.Need-response-to-requires
 response-to-requires c κs = search needs
@@ -24,7 +16,7 @@ response-to-requires-2 : tie.Need-response-to-requires-2
 response-to-requires-2 c κs = search needs
 
 returns : tie.Need-returns
-returns c = λ m is. let a = c .before .before .before .before .before .before .before .args in says-response (a .p .now) (a .l) (a .setup) m is (c .before .before .before .before .if1 .taken) _ _ (c .before .before .before .none .ensures) (c .before .before .none2 .ensures) _ _ (c .before .response-to .ensures m is) (c .response-to2 .ensures m is)
+returns c = λ m is. let a = c .before .before .before .before .before .before .before .args in says-response (a .p .now) (a .l) (a .setup) m is (c .before .before .before .before .if1 .taken) _ _ (c .before .before .before .no-record .ensures) (c .before .before .no-record2 .ensures) _ _ (c .before .response-to .ensures m is) (c .response-to2 .ensures m is)
 
 asked-for-requires : tie.Need-asked-for-requires
 asked-for-requires c κs = search needs
@@ -45,8 +37,8 @@ pub facts-spec : {M : Type 1} → statement M
 facts-spec =
     tie.close
     (tie.spec
-    none-requires
-    none-requires-2
+    no-record-requires
+    no-record-requires-2
     response-to-requires
     response-to-requires-2
     returns

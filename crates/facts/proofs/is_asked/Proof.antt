@@ -4,12 +4,6 @@ use Rattle.facts.proofs.Owned.{own-part, asks-own}
 use borrow.Author.Needs.{needs}
 use Rattle.facts.proofs.is_asked.Statement.{statement}
 use Rattle.facts.proofs.is_asked.Tie as tie
-use Rattle.facts.proofs.is_asked.Reads as reads
-use Rattle.facts.proofs.is_asked.Lts as lts
-use Rattle.wire.proofs.rdata.part.Reads as part-reads
-use Rattle.own.proofs.records.own_name.Reads as own-name-reads
-use Rattle.own.proofs.fields.own_type.Reads as own-type-reads
-use Rattle.facts.proofs.some_asks.Reads as some-asks-reads
 
 own-name-requires : tie.Need-own-name-requires
 own-name-requires c κs = search needs
@@ -27,7 +21,7 @@ some-asks-requires : tie.Need-some-asks-requires
 some-asks-requires c κs = search needs
 
 returns : tie.Need-returns
-returns c = λ ok. let a = c .before .before .before .before .before .before .before .args in c .some-asks .ensures ok ∙ asks-own (a .setup) (a .i) (listFrom (questionAt (a .p .now)) (a .s .count) (a .s .at)) _ _ (c .before .before .part .ensures .0 ∙ own-part _ _ (c .before .before .before .before .before .own-name .ensures)) (c .before .own-type .ensures)
+returns c = λ ok. let a = c .before .before .before .before .before .before .before .args in c .some-asks .ensures ok ∙ asks-own (a .setup) (a .o) (listFrom (questionAt (a .p .now)) (a .s .count) (a .s .at)) _ _ (c .before .before .part .ensures .0 ∙ own-part _ _ (c .before .before .before .before .before .own-name .ensures)) (c .before .own-type .ensures)
 
 pub is-asked-spec : {M : Type 1} → statement M
 is-asked-spec =

@@ -9,7 +9,9 @@ use Rattle.wire.specs.names.Names.{readFrom, fromRun, nameAt}
 use Rattle.wire.specs.rdata.Rdata.{rdataIn, rdataAt}
 use Rattle.wire.specs.message.Layout.{questionRead, questionAt, recordRead, recordAt}
 use Rattle.wire.specs.declared.message.Layout.{Layout}
-use Rattle.facts.specs.probe.Probe.{some, isProbe, readable, messageIn}
+use Rattle.wire.specs.Lists.{some}
+use Rattle.wire.specs.message.Readable.{readable, messageIn}
+use Rattle.facts.specs.probe.Probe.{isProbe}
 
 -- "Its probe, 44 bytes"
 abbrev pub hostName : List ℕ

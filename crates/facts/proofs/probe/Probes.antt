@@ -10,8 +10,10 @@ use Rattle.wire.proofs.case_folding.Equal.{same-sym, same-trans}
 use Rattle.wire.specs.message.Message.{Question, Record, Message}
 use Rattle.wire.specs.message.Layout.{read, messageAt}
 use Rattle.wire.specs.declared.message.Layout.{Layout}
-use Rattle.facts.specs.probe.Probe.{under, asksAll, some, isProbe, messageIn}
-use Rattle.facts.proofs.probe.Walk.{layout-shows}
+use Rattle.wire.specs.Lists.{some}
+use Rattle.wire.specs.message.Readable.{messageIn}
+use Rattle.facts.specs.probe.Probe.{under, asksAll, isProbe}
+use Rattle.wire.proofs.message.Walk.{layout-shows}
 
 -- names that are equal, letters folded, have the same probes
 module _ (a b : List ℕ) (same : sameName a b ≡ true) where

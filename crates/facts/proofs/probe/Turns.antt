@@ -1,37 +1,17 @@
--- A turn of each loop that looks for one item of a section, and what the functions without a loop answer. Assumes nothing.
+-- What the functions without a loop answer. Assumes nothing.
 use mathlib.Core.Path.{_≡_, refl, sym, ap, _∙_}
 use mathlib.Core.List.{List}
 use mathlib.Core.Bool.{Bool, true, false, _&&_, _||_, and-false}
-use Prim.Native.Nat.{ℕ, _-_, _%_, _<_, _≤_}
+use Prim.Native.Nat.{ℕ, _%_, _<_, _≤_}
 use lib.Dec.{eqb}
 use borrow.Author.Tests.{eq-eqb, ne-eqb, lt-leb, le-leb}
-use Rattle.wire.specs.message.Layout.{Item, item, broken, questionAt, recordAt}
+use Rattle.wire.specs.message.Layout.{questionAt, recordAt}
 use Rattle.wire.specs.declared.message.QuestionAt.{QuestionAt}
 use Rattle.wire.specs.declared.message.Layout.{Layout}
-use Rattle.facts.specs.probe.Probe.{under, asksAll, some, isProbe, readable, messageIn}
+use Rattle.wire.specs.Lists.{some}
+use Rattle.wire.specs.message.Readable.{readable, messageIn}
+use Rattle.facts.specs.probe.Probe.{under, asksAll, isProbe}
 use Rattle.facts.specs.probe.Walked.{asksAt}
-use Rattle.facts.proofs.probe.Walk.{readable-item, readable-broken, readable-none}
-
--- the loops that look for one
-module _ {A : Type 0} (test : A → Bool) (part : ℕ → Item A) (all : Bool) (n at : ℕ) (inv : all ≡ some test (readable part n at)) where
-  pub some-done : n ≤ 0 → false ≡ all
-  unfolding some
-  some-done l = sym (inv ∙ ap (some test) (readable-none part n at l))
-
-  pub some-broken : part at ≡ broken → false ≡ all
-  unfolding some
-  some-broken e = sym (inv ∙ ap (some test) (readable-broken part n at e))
-
-  module _ (lt : 0 < n) (x : A) (next : ℕ) (here : part at ≡ item x next) (v : Bool) (is : v ≡ test x) where
-    some-turn : all ≡ (v || some test (readable part (n - 1) next))
-    unfolding some
-    some-turn = inv ∙ ap (some test) (readable-item part n at x next lt here) ∙ ap (λ (b : Bool). b || some test (readable part (n - 1) next)) (sym is)
-
-    pub some-found : v ≡ true → true ≡ all
-    some-found e = sym (some-turn ∙ ap (λ (b : Bool). b || some test (readable part (n - 1) next)) e)
-
-    pub some-on : v ≡ false → all ≡ some test (readable part (n - 1) next)
-    some-on e = some-turn ∙ ap (λ (b : Bool). b || some test (readable part (n - 1) next)) e
 
 -- a question that asks for all
 module _ (b : Bool) (f : QuestionAt) where

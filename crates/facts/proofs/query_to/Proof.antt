@@ -2,10 +2,6 @@ use mathlib.Core.Bool.{false}
 use borrow.Author.Needs.{needs}
 use Rattle.facts.proofs.query_to.Statement.{statement}
 use Rattle.facts.proofs.query_to.Tie as tie
-use Rattle.facts.proofs.query_to.Reads as reads
-use Rattle.facts.proofs.query_to.Lts as lts
-use Rattle.facts.proofs.is_probe.Reads as is-probe-reads
-use Rattle.facts.proofs.theirs_later.Reads as theirs-later-reads
 
 is-probe-requires : tie.Need-is-probe-requires
 is-probe-requires c κs = search needs

@@ -1,25 +1,20 @@
-use mathlib.Core.Path.{_≡_, ap, _∙_}
-use mathlib.Core.List.{List}
-use Prim.Native.Nat.{ℕ}
-use lib.ListN.{take, drop}
-use Rattle.own.specs.records.Records.{ownName, ownRdata}
+use mathlib.Core.Path.{ap, _∙_}
+use Rattle.claims.specs.records.Own.{ownType}
+use Rattle.own.specs.records.Records.{hasRecord, ownName, ownRdata}
 use Rattle.facts.specs.tiebreak.Later.{isLater, tie}
-use Rattle.facts.specs.probe.Probe.{messageIn}
+use Rattle.wire.specs.message.Readable.{messageIn}
 use Rattle.facts.specs.tiebreak.Lists.{theirs, ownList}
-use Rattle.facts.specs.Facts.{laterThan}
+use Rattle.facts.specs.Facts.{theirsLater}
 use Rattle.facts.proofs.Owned.{own-part}
 use borrow.Author.Needs.{needs}
 use Rattle.facts.proofs.theirs_later.Statement.{statement}
 use Rattle.facts.proofs.theirs_later.Tie as tie
-use Rattle.facts.proofs.theirs_later.Reads as reads
-use Rattle.facts.proofs.theirs_later.Lts as lts
-use Rattle.facts.proofs.tiebreak.tiebreak.Reads as tiebreak-reads
-use Rattle.wire.proofs.rdata.part.Reads as part-reads
-use Rattle.own.proofs.fields.has_record.Reads as has-record-reads
-use Rattle.own.proofs.records.own_name.Reads as own-name-reads
-use Rattle.own.proofs.records.own_rdata.Reads as own-rdata-reads
-use Rattle.own.proofs.fields.own_type.Reads as own-type-reads
-use Rattle.facts.proofs.is_later.Reads as is-later-reads
+
+first-of-requires : tie.Need-first-of-requires
+first-of-requires c κs = search needs
+
+second-of-requires : tie.Need-second-of-requires
+second-of-requires c κs = search needs
 
 own-name-requires : tie.Need-own-name-requires
 own-name-requires c κs = search needs
@@ -64,13 +59,15 @@ is-later-requires : tie.Need-is-later-requires
 is-later-requires c κs = search needs
 
 returns : tie.Need-returns
-unfolding laterThan
-returns c = let a = c .before .before .before .before .before .before .before .before .before .before .before .before .before .before .before .before .before .before .args in let n = c .before .before .before .before .before .before .part .ensures .0 ∙ own-part _ _ (c .before .before .before .before .before .before .before .before .before .before .before .before .before .before .before .before .own-name .ensures) in let d = c .before .before .before .before .part2 .ensures .0 ∙ own-part _ _ (c .before .before .before .before .before .before .before .before .before .before .before .before .before .before .own-rdata .ensures) in let e = c .before .before .part3 .ensures .0 ∙ own-part _ _ (c .before .before .before .before .before .before .before .before .before .before .before .before .own-rdata2 .ensures) in c .is-later .ensures ∙ ap isLater (c .before .tiebreak .ensures .0 ∙ (λ j. tie (theirs (n j) (messageIn (a .p .now) (a .l))) (ownList (c .before .before .before .before .before .before .before .before .before .before .own-type .ensures j) (d j) (c .before .before .before .before .before .before .before .before .has-record .ensures j) (c .before .before .before .before .before .before .before .before .before .own-type2 .ensures j) (e j))))
+unfolding theirsLater
+returns c = let a = c .before .before .before .before .before .before .before .before .before .before .before .before .before .before .before .before .before .before .before .before .args in let f = c .before .before .before .before .before .before .before .before .before .before .before .before .before .before .before .before .before .before .first-of .ensures in let g = c .before .before .before .before .before .before .before .before .before .before .before .before .before .before .before .before .before .second-of .ensures in let n = c .before .before .before .before .before .before .part .ensures .0 ∙ own-part _ _ (c .before .before .before .before .before .before .before .before .before .before .before .before .before .before .before .before .own-name .ensures) ∙ ap (ownName (a .setup)) f in let d = c .before .before .before .before .part2 .ensures .0 ∙ own-part _ _ (c .before .before .before .before .before .before .before .before .before .before .before .before .before .before .own-rdata .ensures) ∙ ap (ownRdata (a .setup)) f in let e = c .before .before .part3 .ensures .0 ∙ own-part _ _ (c .before .before .before .before .before .before .before .before .before .before .before .before .own-rdata2 .ensures) ∙ ap (ownRdata (a .setup)) g in let y = c .before .before .before .before .before .before .before .before .before .before .own-type .ensures ∙ ap ownType f in let z = c .before .before .before .before .before .before .before .before .before .own-type2 .ensures ∙ ap ownType g in let h = c .before .before .before .before .before .before .before .before .has-record .ensures ∙ ap (hasRecord (a .setup)) g in c .is-later .ensures ∙ ap isLater (c .before .tiebreak .ensures .0 ∙ (λ j. tie (theirs (n j) (messageIn (a .p .now) (a .l))) (ownList (y j) (d j) (h j) (z j) (e j))))
 
 pub theirs-later-spec : {M : Type 1} → statement M
 theirs-later-spec =
     tie.close
     (tie.spec
+    first-of-requires
+    second-of-requires
     own-name-requires
     own-rdata-requires
     own-rdata-requires-2

@@ -9,7 +9,7 @@ use Rattle.wire.specs.name_pieces.Pieces.{pieceAt}
 use Rattle.wire.specs.names.Names.{readFrom, fromRun, nameAt}
 use Rattle.wire.specs.rdata.Rdata.{rdataIn, rdataAt}
 use Rattle.wire.specs.message.Layout.{recordRead, recordAt}
-use Rattle.facts.specs.probe.Probe.{readable, messageIn}
+use Rattle.wire.specs.message.Readable.{readable, messageIn}
 use Rattle.facts.proofs.probe.Corner.{hostName, probe, probeLayout}
 use Rattle.facts.specs.declared.tiebreak.Verdict.the-variants.{Same}
 use Rattle.facts.specs.tiebreak.Later.{numberOf, compareNumbers, inTurn, TieRecord, compareRecords, insertBy, sortBy, tie}

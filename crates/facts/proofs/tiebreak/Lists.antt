@@ -9,8 +9,9 @@ use Rattle.wire.specs.case_folding.Fold.{sameName}
 use Rattle.wire.specs.message.Message.{Record, Message}
 use Rattle.wire.specs.message.Layout.{read, messageAt}
 use Rattle.wire.specs.declared.message.Layout.{Layout}
-use Rattle.facts.specs.probe.Probe.{under, messageIn}
-use Rattle.facts.proofs.probe.Walk.{layout-shows}
+use Rattle.wire.specs.message.Readable.{messageIn}
+use Rattle.facts.specs.probe.Probe.{under}
+use Rattle.wire.proofs.message.Walk.{layout-shows}
 use Rattle.facts.proofs.probe.Probes.{equal-to}
 use Rattle.facts.specs.tiebreak.Later.{TieRecord, tie}
 use Rattle.facts.specs.tiebreak.Lists.{tieRecord, listUnder, theirs}

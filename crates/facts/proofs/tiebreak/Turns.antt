@@ -9,7 +9,7 @@ use lib.ListN.{length, getD, drop, drop-of-length-le}
 use lib.Seq.{drop-cons}
 use Rattle.wire.specs.names.Answers.{nameIs}
 use Rattle.wire.specs.rdata.Rdata.{rdata, rdataAt}
-use Rattle.wire.specs.rdata.Answers.{fits}
+use Rattle.wire.specs.rdata.Answers.{fits, dataOf}
 use Rattle.wire.specs.expansion.Opened.{openedAt, viewOf}
 use Rattle.wire.specs.declared.expansion.Opened.{Opened}
 use Rattle.wire.proofs.expansion.Views.{view-is}
@@ -17,14 +17,15 @@ use Rattle.wire.specs.message.Message.{Record, classOf}
 use Rattle.wire.specs.message.Layout.{broken, recordAt}
 use Rattle.wire.specs.declared.message.RecordAt.{RecordAt}
 use Rattle.wire.specs.declared.message.Layout.{Layout}
-use Rattle.facts.specs.probe.Probe.{under, readable, messageIn}
-use Rattle.facts.proofs.probe.Walk.{readable-item, readable-broken, readable-none, RecordMet}
+use Rattle.wire.specs.message.Readable.{readable, messageIn, recordShown}
+use Rattle.facts.specs.probe.Probe.{under}
+use Rattle.wire.proofs.message.Walk.{walk-done, walk-broken, walk-on, RecordMet}
 use Rattle.facts.specs.declared.tiebreak.Verdict.{Verdict}
 use Rattle.facts.specs.declared.tiebreak.Verdict.the-variants.{Earlier, Same, Later}
 use Rattle.facts.specs.declared.tiebreak.Counts.{Counts}
 use Rattle.facts.specs.tiebreak.Later.{numberOf, isLater, orElse, compareNumbers, inTurn, compareBytes, TieRecord, compareRecords, tie}
 use Rattle.facts.specs.tiebreak.Lists.{tieRecord, listUnder, theirs, ownRecord, ownList}
-use Rattle.facts.specs.tiebreak.Counts.{countOne, countMet, countAll, noneCounted, placed, beyond, dataOf, tieRecordAt}
+use Rattle.facts.specs.tiebreak.Counts.{countOne, countMet, countAll, noneCounted, placed, beyond}
 use Rattle.facts.proofs.tiebreak.Orders.{number-earlier, number-later, number-same, records-order}
 use Rattle.facts.proofs.tiebreak.Sorting.{not-later-swap}
 use Rattle.facts.proofs.tiebreak.Counting.{tie-one, tie-two, tie-turned}
@@ -81,20 +82,12 @@ module _ (x y : TieRecord) where
     by-bytes h k v e = e ∙ sym (simp (number-same (x .class) (y .class) c d, number-same (x .rtype) (y .rtype) h k))
 
 -- a record of the packet, by the view of its rdata
-pub seen-record : (p : List ℕ) (f : RecordAt) → fits (rdataAt p (f .rtype) (f .rdata) (f .rdlength)) ≡ true
-    → (o : Opened) → o ≡ openedAt p (f .rtype) (f .rdata) (f .rdlength) → (seen : List ℕ) → seen ≡ viewOf p (o .bytes) (o .len) (f .rtype) (f .rdata) (f .rdlength)
-    → (y : TieRecord) (v : Verdict) → v ≡ compareRecords (record { class = f .class % 32768; rtype = f .rtype; rdata = seen }) y → v ≡ compareRecords (tieRecordAt p f) y
+pub seen-record : (p : List ℕ) (f : RecordAt) → fits (rdataAt p f) ≡ true
+    → (o : Opened) → o ≡ openedAt p f → (seen : List ℕ) → seen ≡ viewOf p (o .bytes) (o .len) f
+    → (y : TieRecord) (v : Verdict) → v ≡ compareRecords (record { class = f .class % 32768; rtype = f .rtype; rdata = seen }) y → v ≡ compareRecords (tieRecord (recordShown p f)) y
 seen-record p f h o k seen s y v e =
-    let is : seen ≡ dataOf (rdataAt p (f .rtype) (f .rdata) (f .rdlength)) = s ∙ sym (ap dataOf (view-is p (f .rtype) (f .rdata) (f .rdlength) h o k)) in
+    let is : seen ≡ dataOf (rdataAt p f) = s ∙ sym (ap dataOf (view-is p f h o k)) in
     e ∙ ap (λ (d : List ℕ). compareRecords (record { class = f .class % 32768; rtype = f .rtype; rdata = d }) y) is
-
--- a record at the cursor, as the tiebreak sees it
-module _ (p : List ℕ) (at : ℕ) (other : List ℕ) (f : RecordAt) (m : RecordMet p at other f) where
-  seen-met : tieRecordAt p f ≡ tieRecord (m .said)
-  seen-met = λ i. record { class = classOf (m .class i); rtype = m .rtype i; rdata = ap dataOf (m .content) i }
-
-  pub fit-met : fits (rdataAt p (f .rtype) (f .rdata) (f .rdlength)) ≡ true
-  fit-met = ap fits (m .content)
 
 -- one record counted, or passed over
 module _ (t x : TieRecord) (c : Counts) (b u : Bool) (is : u ≡ b) where
@@ -123,27 +116,27 @@ met-bounds t x c b d e n most lt u v w =
 
 -- the counting loop
 module _ (p : List ℕ) (x : TieRecord) (other : List ℕ) (all : Counts) (n at : ℕ) (c : Counts) (inv : all ≡ countAll x (listUnder other (readable (recordAt p) n at)) c) where
+  abbrev made : List Record → Counts
+  made rs = countAll x (listUnder other rs) c
+
   pub count-done : n ≤ 0 → c ≡ all
   unfolding countAll listUnder
-  count-done l = sym (inv ∙ ap (λ (rs : List Record). countAll x (listUnder other rs) c) (readable-none (recordAt p) n at l))
+  count-done l = walk-done (recordAt p) made all n at inv l
 
   pub count-broken : recordAt p at ≡ broken → c ≡ all
   unfolding countAll listUnder
-  count-broken e = sym (inv ∙ ap (λ (rs : List Record). countAll x (listUnder other rs) c) (readable-broken (recordAt p) n at e))
+  count-broken e = walk-broken (recordAt p) made all n at inv e
 
-  pub count-turn : 0 < n → (f : RecordAt) → RecordMet p at other f → (d : Counts) → d ≡ countMet (nameIs p (f .owner) other) (tieRecordAt p f) x c
+  pub count-turn : 0 < n → (f : RecordAt) → RecordMet p at f → (d : Counts) → d ≡ countMet (nameIs p (f .owner) other) (tieRecord (recordShown p f)) x c
       → all ≡ countAll x (listUnder other (readable (recordAt p) (n - 1) (f .next))) d
   unfolding countAll listUnder
   count-turn lt f m d e =
       let rest : List Record = readable (recordAt p) (n - 1) (f .next) in
-      inv ∙ ap (λ (rs : List Record). countAll x (listUnder other rs) c) (readable-item (recordAt p) n at (m .said) (f .next) lt (m .here))
-      ∙ go rest (under other (m .said)) ∙ ap (countAll x (listUnder other rest)) (sym (e ∙ by-met))
+      walk-on (recordAt p) made all n at inv lt (recordShown p f) (f .next) (m .here) ∙ go rest (under other (recordShown p f))
+      ∙ ap (countAll x (listUnder other rest)) (sym (e ∙ ap (λ (b : Bool). countMet b (tieRecord (recordShown p f)) x c) (m .named other)))
     where
-      by-met : countMet (nameIs p (f .owner) other) (tieRecordAt p f) x c ≡ countMet (under other (m .said)) (tieRecord (m .said)) x c
-      by-met = ap (λ (b : Bool). countMet b (tieRecordAt p f) x c) (m .named) ∙ ap (λ (t : TieRecord). countMet (under other (m .said)) t x c) (seen-met p at other f m)
-
       go : (rest : List Record) (b : Bool)
-          → countAll x (cond b (tieRecord (m .said) ∷ listUnder other rest) (listUnder other rest)) c ≡ countAll x (listUnder other rest) (countMet b (tieRecord (m .said)) x c)
+          → countAll x (cond b (tieRecord (recordShown p f) ∷ listUnder other rest) (listUnder other rest)) c ≡ countAll x (listUnder other rest) (countMet b (tieRecord (recordShown p f)) x c)
       go rest true = refl
       go rest false = refl
 

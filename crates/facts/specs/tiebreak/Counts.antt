@@ -4,9 +4,6 @@ use Prim.Native.Nat.{ℕ, _+_}
 use mathlib.Core.List.{List, [], _∷_}
 use mathlib.Core.Bool.{Bool, cond}
 use lib.Dec.{ltb}
-use Rattle.wire.specs.rdata.Rdata.{Rdata, rdata, unfit, rdataAt}
-use Rattle.wire.specs.message.Message.{classOf}
-use Rattle.wire.specs.declared.message.RecordAt.{RecordAt}
 use Rattle.facts.specs.declared.tiebreak.Verdict.{Verdict}
 use Rattle.facts.specs.declared.tiebreak.Verdict.the-variants.{Earlier, Same, Later}
 use Rattle.facts.specs.declared.tiebreak.Counts.{Counts}
@@ -37,12 +34,3 @@ placed k c = cond (ltb k (c .earlier)) Earlier (cond (ltb k (c .earlier + c .sam
 -- the own list has run out after `k` records that were the same
 unfoldable pub beyond : ℕ → Counts → Verdict
 beyond k c = cond (ltb k (c .all)) Later Same
-
--- the bytes of rdata
-abbrev pub dataOf : Rdata → List ℕ
-dataOf (rdata d) = d
-dataOf unfit = []
-
--- a record as it lies, as the tiebreak sees it
-abbrev pub tieRecordAt : List ℕ → RecordAt → TieRecord
-tieRecordAt p f = record { class = classOf (f .class); rtype = f .rtype; rdata = dataOf (rdataAt p (f .rtype) (f .rdata) (f .rdlength)) }

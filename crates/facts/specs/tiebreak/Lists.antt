@@ -4,6 +4,9 @@ use Prim.Native.Nat.{ℕ}
 use mathlib.Core.List.{List, [], _∷_}
 use mathlib.Core.Bool.{Bool, cond}
 use Rattle.wire.specs.message.Message.{Record, Message, classOf}
+use Rattle.wire.specs.message.Layout.{recordAt}
+use Rattle.wire.specs.message.Readable.{readable}
+use Rattle.wire.specs.declared.message.Section.{Section}
 use Rattle.facts.specs.probe.Probe.{under}
 use Rattle.facts.specs.tiebreak.Later.{TieRecord}
 
@@ -15,6 +18,10 @@ tieRecord r = record { class = classOf (r .class); rtype = r .rtype; rdata = r .
 unfoldable pub listUnder : List ℕ → List Record → List TieRecord
 listUnder name [] = []
 listUnder name (r ∷ rs) = cond (under name r) (tieRecord r ∷ listUnder name rs) (listUnder name rs)
+
+-- the same of a section as it lies
+abbrev pub listIn : List ℕ → List ℕ → Section → List TieRecord
+listIn name p s = listUnder name (readable (recordAt p) (s .count) (s .at))
 
 abbrev pub theirs : List ℕ → Message → List TieRecord
 theirs name m = listUnder name (m .authorities)

@@ -1,4 +1,4 @@
--- Own names and rdata written part by part. Assumes nothing.
+-- OwnBytes names and rdata written part by part. Assumes nothing.
 use mathlib.Core.Path.{_≡_, refl, sym, ap, ap₂, _∙_}
 use mathlib.Core.List.{List, [], _∷_, _++_, append-assoc, append-nil}
 use mathlib.Core.Bool.{Bool, true, false, cond}
@@ -7,8 +7,6 @@ use native.Mathlib.Nat.{zero-add}
 use native.Mathlib.Numerals.{add-one}
 use native.Mathlib.Omega.{arith}
 use lib.ListN.{length, take, drop, set, replicate, length-append, length-take, length-replicate}
-use lib.Dec.{leb, eqb}
-use borrow.Author.Tests.{eq-eqb, ne-eqb, le-leb, lt-leb}
 use lib.Seq.{sets, sets-eq, take-all}
 use Rattle.wire.proofs.octets.Sets.{sets-append, drop-replicate}
 use Rattle.wire.specs.labels.Labels.{encode}
@@ -16,9 +14,9 @@ use Rattle.wire.specs.expansion.Equal.{sameBytes}
 use Rattle.own.specs.declared.records.Label.{Label}
 use Rattle.own.specs.declared.records.Service.{Service}
 use Rattle.own.specs.declared.records.Setup.{Setup}
-use Rattle.own.specs.declared.records.Own.{Own}
+use Rattle.own.specs.declared.records.OwnBytes.{OwnBytes}
 use Rattle.own.specs.records.Setups.{tcp, udp, local, labelHeld, serviceHeld, protocolLabel, serviceLabels, instanceLabels, hostLabels}
-use Rattle.own.specs.records.Records.{labelBytes, Laid, ownOf, srvRdata, ownLabels, ownName, ownRdata}
+use Rattle.own.specs.records.Records.{labelBytes, Laid, ownOf, srvRdata}
 
 -- one part after the other
 pub then : (at a r : ℕ) (xs ys o o₁ o₂ : List ℕ) (m n : ℕ) → Laid at xs m o a o₁ → Laid a ys n o₁ r o₂ → Laid at (xs ++ ys) (m + n) o r o₂
@@ -94,15 +92,15 @@ filled n bs h =
     sets-eq bs (replicate n 0) 0 (omega (arith, length-replicate {A = ℕ} n 0))
     ∙ ap (λ (k : ℕ). bs ++ drop k (replicate n 0)) (zero-add (length bs)) ∙ ap (λ (l : List ℕ). bs ++ l) (drop-replicate (length bs) n 0)
 
-pub own-of : (bs o : List ℕ) (n : ℕ) → o ≡ sets (replicate 400 0) 0 bs → n ≡ length bs → length bs ≤ 400 → _≡_ {A = Own} (record { bytes = o; len = n }) (ownOf bs)
+pub own-of : (bs o : List ℕ) (n : ℕ) → o ≡ sets (replicate 400 0) 0 bs → n ≡ length bs → length bs ≤ 400 → _≡_ {A = OwnBytes} (record { bytes = o; len = n }) (ownOf bs)
 own-of bs o n w e h = let f : o ≡ bs ++ replicate (400 - length bs) 0 = w ∙ filled 400 bs h in λ i. record { bytes = f i; len = e i }
 
-pub own-laid : (bs o : List ℕ) (n m : ℕ) → Laid 0 bs m (replicate 400 0) n o → m ≤ 400 → _≡_ {A = Own} (record { bytes = o; len = n }) (ownOf bs)
+pub own-laid : (bs o : List ℕ) (n m : ℕ) → Laid 0 bs m (replicate 400 0) n o → m ≤ 400 → _≡_ {A = OwnBytes} (record { bytes = o; len = n }) (ownOf bs)
 own-laid bs o n m f h = own-of bs o n (f .bytes) (f .ended ∙ zero-add (length bs)) (omega (arith, f .few))
 
 -- the six bytes in front of the target: a buffer of zeros has four of them
 pub own-srv : (s : Setup) (o : List ℕ) (n : ℕ) → Laid 6 (encode (hostLabels s)) 71 (set (set (replicate 400 0) 4 (s .port / 256)) 5 (s .port % 256)) n o
-    → _≡_ {A = Own} (record { bytes = o; len = n }) (ownOf (srvRdata s))
+    → _≡_ {A = OwnBytes} (record { bytes = o; len = n }) (ownOf (srvRdata s))
 unfolding srvRdata
 own-srv s o n f =
     own-laid _ o n 77
@@ -110,74 +108,9 @@ own-srv s o n f =
     (record { ended = refl; bytes = refl; few = omega arith }) f) (omega arith)
 
 -- TXT strings that fill their array
-pub own-full : (bytes : List ℕ) (len : ℕ) → length bytes ≡ 400 → 400 ≤ len → _≡_ {A = Own} (record { bytes = bytes; len = 400 }) (ownOf (take len bytes))
+pub own-full : (bytes : List ℕ) (len : ℕ) → length bytes ≡ 400 → 400 ≤ len → _≡_ {A = OwnBytes} (record { bytes = bytes; len = 400 }) (ownOf (take len bytes))
 own-full bytes len e h =
     let all : take len bytes ≡ bytes = take-all len bytes (omega arith) in
     let none : 400 - length bytes ≡ 0 = omega arith in
     let b : bytes ≡ bytes ++ replicate (400 - length bytes) 0 = sym (append-nil bytes) ∙ ap (λ (k : ℕ). bytes ++ replicate k 0) (sym none) in
     rw all (λ i. record { bytes = b i; len = sym e i })
-
--- the own name and rdata of an index
-module _ (s : Setup) (i : ℕ) where
-  pub name-service : i ≡ 0 → ownName s i ≡ encode (serviceLabels s)
-  unfolding ownName ownLabels
-  name-service e = simp (eq-eqb _ _ e)
-
-  pub name-instance : (i ≡ 0 → ⊥) → i ≤ 2 → ownName s i ≡ encode (instanceLabels s)
-  unfolding ownName ownLabels
-  name-instance z h = simp (ne-eqb _ _ z, le-leb _ _ h)
-
-  pub name-host : (i ≡ 0 → ⊥) → 2 < i → ownName s i ≡ encode (hostLabels s)
-  unfolding ownName ownLabels
-  name-host z h = simp (ne-eqb _ _ z, lt-leb _ _ h)
-
-  pub data-ptr : i ≡ 0 → ownRdata s i ≡ encode (instanceLabels s)
-  unfolding ownRdata
-  data-ptr e = simp (eq-eqb _ _ e)
-
-  pub data-srv : i ≡ 1 → ownRdata s i ≡ srvRdata s
-  unfolding ownRdata
-  data-srv e = let z : i ≡ 0 → ⊥ = λ q. omega arith in simp (ne-eqb _ _ z, eq-eqb _ _ e)
-
-  pub data-txt : i ≡ 2 → ownRdata s i ≡ take (s .txt .len) (s .txt .bytes)
-  unfolding ownRdata
-  data-txt e = let z : i ≡ 0 → ⊥ = λ q. omega arith in let y : i ≡ 1 → ⊥ = λ q. omega arith in simp (ne-eqb _ _ z, ne-eqb _ _ y, eq-eqb _ _ e)
-
-  pub data-a : i ≡ 3 → ownRdata s i ≡ s .a
-  unfolding ownRdata
-  data-a e =
-      let z : i ≡ 0 → ⊥ = λ q. omega arith in
-      let y : i ≡ 1 → ⊥ = λ q. omega arith in
-      let x : i ≡ 2 → ⊥ = λ q. omega arith in simp (ne-eqb _ _ z, ne-eqb _ _ y, ne-eqb _ _ x, eq-eqb _ _ e)
-
-  pub data-aaaa : (i ≡ 0 → ⊥) → (i ≡ 1 → ⊥) → (i ≡ 2 → ⊥) → (i ≡ 3 → ⊥) → ownRdata s i ≡ s .aaaa
-  unfolding ownRdata
-  data-aaaa z y x v = simp (ne-eqb _ _ z, ne-eqb _ _ y, ne-eqb _ _ x, ne-eqb _ _ v)
-
-  module _ (o : List ℕ) (n : ℕ) where
-    pub own-service : i ≡ 0 → Laid 0 (encode (serviceLabels s)) 29 (replicate 400 0) n o → _≡_ {A = Own} (record { bytes = o; len = n }) (ownOf (ownName s i))
-    own-service e f = own-laid _ o n 29 f (omega arith) ∙ ap ownOf (sym (name-service e))
-
-    pub own-instance : (i ≡ 0 → ⊥) → i ≤ 2 → Laid 0 (encode (instanceLabels s)) 93 (replicate 400 0) n o → _≡_ {A = Own} (record { bytes = o; len = n }) (ownOf (ownName s i))
-    own-instance z h f = own-laid _ o n 93 f (omega arith) ∙ ap ownOf (sym (name-instance z h))
-
-    pub own-host : (i ≡ 0 → ⊥) → 2 < i → Laid 0 (encode (hostLabels s)) 71 (replicate 400 0) n o → _≡_ {A = Own} (record { bytes = o; len = n }) (ownOf (ownName s i))
-    own-host z h f = own-laid _ o n 71 f (omega arith) ∙ ap ownOf (sym (name-host z h))
-
-    pub rdata-ptr : i ≡ 0 → Laid 0 (encode (instanceLabels s)) 93 (replicate 400 0) n o → _≡_ {A = Own} (record { bytes = o; len = n }) (ownOf (ownRdata s i))
-    rdata-ptr e f = own-laid _ o n 93 f (omega arith) ∙ ap ownOf (sym (data-ptr e))
-
-  module _ (r : Own) where
-    pub rdata-srv : i ≡ 1 → r ≡ ownOf (srvRdata s) → r ≡ ownOf (ownRdata s i)
-    rdata-srv e h = h ∙ ap ownOf (sym (data-srv e))
-
-    pub rdata-txt : i ≡ 2 → r ≡ ownOf (take (s .txt .len) (s .txt .bytes)) → r ≡ ownOf (ownRdata s i)
-    rdata-txt e h = h ∙ ap ownOf (sym (data-txt e))
-
-  module _ (o : List ℕ) where
-    pub rdata-a : i ≡ 3 → length (s .a) ≡ 4 → o ≡ sets (replicate 400 0) 0 (s .a) → _≡_ {A = Own} (record { bytes = o; len = 4 }) (ownOf (ownRdata s i))
-    rdata-a e n w = own-of (s .a) o 4 w (sym n) (omega arith) ∙ ap ownOf (sym (data-a e))
-
-    pub rdata-aaaa : (i ≡ 0 → ⊥) → (i ≡ 1 → ⊥) → (i ≡ 2 → ⊥) → (i ≡ 3 → ⊥) → length (s .aaaa) ≡ 16 → o ≡ sets (replicate 400 0) 0 (s .aaaa)
-        → _≡_ {A = Own} (record { bytes = o; len = 16 }) (ownOf (ownRdata s i))
-    rdata-aaaa z y x v n w = own-of (s .aaaa) o 16 w (sym n) (omega arith) ∙ ap ownOf (sym (data-aaaa z y x v))

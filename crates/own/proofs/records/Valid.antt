@@ -15,6 +15,8 @@ use Rattle.wire.specs.rdata.Rdata.{stringsFill}
 use Rattle.wire.specs.expansion.Equal.{sameBytes}
 use Rattle.wire.specs.labels.Labels.{encode, Labels, none, one, IsName}
 use Rattle.wire.proofs.labels.Encoded.{is-name, same-count}
+use Rattle.claims.specs.declared.records.Own.{Own}
+use Rattle.claims.specs.declared.records.Own.the-variants.{Ptr, Srv, Txt, A, Aaaa}
 use Rattle.own.specs.declared.records.Setup.{Setup}
 use Rattle.own.specs.records.Setups.{tcp, udp, local, held, labelFits, serviceRule, serviceFits, protocolFits, domainFits, txtFits, validSetup, labelHeld, serviceHeld, protocolLabel, serviceLabels, instanceLabels, hostLabels}
 use Rattle.own.specs.records.Records.{ownLabels, ownName, ownRdata}
@@ -117,18 +119,17 @@ module _ (s : Setup) (ok : Valid s) where
   unfolding hostLabels
   host-name = record { labels = one (ok .host .0) (ok .host .1) local-labels; short = omega (arith, host-most) }
 
-  pub own-labels : (i : ℕ) → IsName (ownLabels s i)
+  pub own-labels : (o : Own) → IsName (ownLabels s o)
   unfolding ownLabels
-  own-labels i = go (eqb i 0) (leb i 2)
-    where
-      go : (a b : Bool) → IsName (cond a (serviceLabels s) (cond b (instanceLabels s) (hostLabels s)))
-      go true b = service-name
-      go false true = instance-name
-      go false false = host-name
+  own-labels Ptr = service-name
+  own-labels Srv = instance-name
+  own-labels Txt = instance-name
+  own-labels A = host-name
+  own-labels Aaaa = host-name
 
-  pub own-is-name : (i : ℕ) → isName (ownName s i) ≡ true
+  pub own-is-name : (o : Own) → isName (ownName s o) ≡ true
   unfolding ownName
-  own-is-name i = is-name (own-labels i)
+  own-is-name o = is-name (own-labels o)
 
 -- names of different kinds have 3, 4 and 2 labels, so they are never equal, whatever the set-ups
 module _ (s t : Setup) (oks : Valid s) (okt : Valid t) where

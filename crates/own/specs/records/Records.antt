@@ -1,16 +1,18 @@
--- The five own records by index: 0 PTR, 1 SRV, 2 TXT, 3 A, 4 AAAA (specification, 'Own records' and 'Writing a packet'). Every part of a record is a
--- definition of the index and the set-up. Assumes nothing: these are definitions.
+-- The own records of a set-up (specification, 'Own records' and 'Writing a packet'): which of them it has, their owners and their rdata, by cases. Their types,
+-- classes and TTLs are in claims/specs/records/Own. Assumes nothing: these are definitions.
 use mathlib.Core.Path.{_≡_}
 use Prim.Native.Nat.{ℕ, _+_, _-_, _/_, _%_, _≤_}
-use mathlib.Core.List.{List, [], _∷_, _++_}
-use mathlib.Core.Bool.{Bool, true, cond, _&&_, _||_}
+use mathlib.Core.List.{List, _∷_, _++_}
+use mathlib.Core.Bool.{Bool}
 use lib.ListN.{length, take, replicate}
 use lib.Seq.{sets}
-use lib.Dec.{leb, ltb, eqb}
 use Rattle.wire.specs.labels.Labels.{encode}
+use Rattle.claims.specs.records.Own.{present}
+use Rattle.claims.specs.declared.records.Own.{Own}
+use Rattle.claims.specs.declared.records.Own.the-variants.{Ptr, Srv, Txt, A, Aaaa}
 use Rattle.own.specs.records.Setups.{serviceLabels, instanceLabels, hostLabels}
 use Rattle.own.specs.declared.records.Setup.{Setup}
-use Rattle.own.specs.declared.records.Own.{Own}
+use Rattle.own.specs.declared.records.OwnBytes.{OwnBytes}
 
 -- a label after its length byte
 abbrev pub labelBytes : List ℕ → List ℕ
@@ -23,39 +25,32 @@ pub record Laid (at : ℕ) (bs : List ℕ) (most : ℕ) (o : List ℕ) (end : �
   pub few : length bs ≤ most
 
 -- bytes in front of zeros
-abbrev pub ownOf : List ℕ → Own
+abbrev pub ownOf : List ℕ → OwnBytes
 ownOf bs = record { bytes = bs ++ replicate (400 - length bs) 0; len = length bs }
 
 -- what the set-up has: all but AAAA, which "may be missing"
-unfoldable pub hasRecord : Setup → ℕ → Bool
-hasRecord s i = cond (ltb i 4) true (eqb i 4 && s .hasaaaa)
+unfoldable pub hasRecord : Setup → Own → Bool
+hasRecord s o = present o (s .hasaaaa)
 
 -- the owner: the service for PTR, the instance for SRV and TXT, the host for A and AAAA
-unfoldable pub ownLabels : Setup → ℕ → List (List ℕ)
-ownLabels s i = cond (eqb i 0) (serviceLabels s) (cond (leb i 2) (instanceLabels s) (hostLabels s))
+unfoldable pub ownLabels : Setup → Own → List (List ℕ)
+ownLabels s Ptr = serviceLabels s
+ownLabels s Srv = instanceLabels s
+ownLabels s Txt = instanceLabels s
+ownLabels s A = hostLabels s
+ownLabels s Aaaa = hostLabels s
 
-unfoldable pub ownName : Setup → ℕ → List ℕ
-ownName s i = encode (ownLabels s i)
-
-unfoldable pub ownType : ℕ → ℕ
-ownType i = cond (eqb i 0) 12 (cond (eqb i 1) 33 (cond (eqb i 2) 16 (cond (eqb i 3) 1 28)))
-
--- "class 0x8001, PTR 1"
-unfoldable pub ownClass : ℕ → ℕ
-ownClass i = cond (eqb i 0) 1 0x8001
-
--- "PTR (.., TTL 4500), SRV (.., TTL 120), TXT (4500), A (120), AAAA (120, ..)"
-unfoldable pub ownTtl : ℕ → ℕ
-ownTtl i = cond (eqb i 0 || eqb i 2) 4500 120
+unfoldable pub ownName : Setup → Own → List ℕ
+ownName s o = encode (ownLabels s o)
 
 -- SRV: "priority and weight 0", the port, and the own host as its target
 unfoldable pub srvRdata : Setup → List ℕ
 srvRdata s = 0 ∷ 0 ∷ 0 ∷ 0 ∷ (s .port / 256) ∷ (s .port % 256) ∷ encode (hostLabels s)
 
 -- the rdata, names expanded
-unfoldable pub ownRdata : Setup → ℕ → List ℕ
-ownRdata s i =
-    cond (eqb i 0) (encode (instanceLabels s))
-    (cond (eqb i 1) (srvRdata s)
-    (cond (eqb i 2) (take (s .txt .len) (s .txt .bytes))
-    (cond (eqb i 3) (s .a) (s .aaaa))))
+unfoldable pub ownRdata : Setup → Own → List ℕ
+ownRdata s Ptr = encode (instanceLabels s)
+ownRdata s Srv = srvRdata s
+ownRdata s Txt = take (s .txt .len) (s .txt .bytes)
+ownRdata s A = s .a
+ownRdata s Aaaa = s .aaaa

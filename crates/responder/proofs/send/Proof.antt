@@ -9,9 +9,6 @@ enum-told c = search needs
 enum-known-output : tie.Need-enum-known-output
 enum-known-output c = search needs
 
-claim-for-requires : tie.Need-claim-for-requires
-claim-for-requires c κs = tt
-
 probe-requires : tie.Need-probe-requires
 probe-requires c κs = tt
 
@@ -34,7 +31,7 @@ same-length : tie.Need-same-length
 same-length c = search needs
 
 returns-2 : tie.Need-returns-2
-returns-2 c = sends _ _ _ _ _ _ _ (c .before .before .before .before .before .before .before .before .before .before .pre) (probe-packet _ _ _ _ (c .before .before .before .before .before .before .before .output .given .1) (c .before .before .before .before .before .claim-for .ensures)) (c .before .before .before .probe .ensures .0, c .before .before .before .probe .ensures .1 .0) (c .answer-for .ensures)
+returns-2 c = sends _ _ _ _ _ _ _ (c .before .before .before .before .before .before .before .before .before .pre) (probe-packet _ _ _ (c .before .before .before .before .before .before .output .given .1)) (c .before .before .before .probe .ensures .0, c .before .before .before .probe .ensures .1 .0) (c .answer-for .ensures)
 
 same-length-2 : tie.Need-same-length-2
 same-length-2 c = search needs
@@ -48,7 +45,6 @@ send-spec =
     (tie.spec
     enum-told
     enum-known-output
-    claim-for-requires
     probe-requires
     answer-for-requires
     enum-known-output-2

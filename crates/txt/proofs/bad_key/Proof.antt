@@ -4,13 +4,14 @@ use mathlib.Core.Path.{_≡_}
 use Prim.Native.Nat.{_≤_, _-_}
 use native.Mathlib.Omega.{arith}
 use lib.ListN.{length, drop}
-use Rattle.txt.specs.Lookup.{badKey, anyBad}
+use Rattle.wire.specs.Lists.{some as someOf}
+use Rattle.txt.specs.Lookup.{badByte, badKey}
 use Rattle.txt.proofs.Keys.{empty-bad, bad-start, turn-bad, turn-good, all-good}
 use Rattle.txt.proofs.bad_key.Statement.{statement}
 use Rattle.txt.proofs.bad_key.Tie as tie
 
 abbrev Inv-loop : tie.InvT-loop
-Inv-loop key i₀ i = (i ≤ length key) × (badKey key ≡ anyBad (drop i key))
+Inv-loop key i₀ i = (i ≤ length key) × (badKey key ≡ someOf badByte (drop i key))
 
 abbrev μ-loop : tie.MeasureT-loop
 μ-loop key i₀ i = length key - i

@@ -3,9 +3,9 @@ use mathlib.Core.Path.{_≡_, refl, sym, ap, _∙_}
 use mathlib.Core.List.{List, [], _∷_, _++_, append-assoc}
 use mathlib.Core.Bool.{Bool, true, false, cond, _||_}
 use Prim.Native.Nat.{ℕ, _+_, _-_, _<_, _≤_}
-use native.Mathlib.Nat.{add-zero, zero-add, add-sub-cancel-left}
+use native.Mathlib.Nat.{zero-add, add-sub-cancel-left}
 use native.Mathlib.Omega.{arith}
-use borrow.Author.Tests.{eq-eqb, ne-eqb, eqb-true, eqb-false, le-leb, leb-true}
+use borrow.Author.Tests.{leb-true}
 use lib.ListN.{length, take, drop, replicate, length-append, length-replicate, length-take, length-drop}
 use lib.Seq.{sets, sets-eq, length-sets, take-at, take-take, length-take-le}
 use lib.Dec.{eqb, leb}
@@ -17,11 +17,13 @@ use Rattle.wire.specs.declared.names.Name.{Name}
 use Rattle.wire.specs.declared.names.Name.the-variants as nam
 use Rattle.wire.specs.declared.names.Expanded.{Expanded}
 use Rattle.wire.proofs.names.Use.{as-expanded, as-unexpanded, at-most-255}
-use Rattle.wire.specs.rdata.Rdata.{Rdata, rdata, unfit, stringsFill, asItLies, endingName, rdataIn, rdataAt}
+use Rattle.wire.specs.rdata.Rdata.{Rdata, rdata, unfit, stringsFill, asItLies, endingName, formOf, withName, rdataIn, rdataAt}
 use Rattle.wire.specs.rdata.Answers.{fits, startIn}
-use Rattle.wire.proofs.rdata.Fits.{at-past, at-within, in-other}
+use Rattle.wire.proofs.rdata.Fits.{at-within, in-named}
 use Rattle.wire.specs.expansion.Equal.{sameBytes, rdataIs, rdataSame}
-use Rattle.wire.specs.expansion.Opened.{namesIn, padded, openedOf, openedName, openedAt, viewOf, viewStart}
+use Rattle.wire.specs.expansion.Opened.{padded, openedOf, openedName, openedAt, viewOf, viewStart}
+use Rattle.wire.specs.declared.rdata.Form.{Form}
+use Rattle.wire.specs.declared.message.RecordAt.{RecordAt}
 use Rattle.wire.specs.declared.expansion.Opened.{Opened}
 
 -- bytes written into zeros from the front
@@ -66,16 +68,6 @@ module _ (p : List ℕ) (at head : ℕ) (small : head ≤ 6) (room : at + head �
         ∙ ap (λ (j : ℕ). sets (sets (replicate 261 0) 0 f) j bs) (sym at-head) ∙ join ∙ filled 261 (f ++ bs) fits in
         simp (found .1) (λ i. record { len = sym long i; bytes = body i })
 
--- which types hold a name
-names-ptr : (rtype : ℕ) → rtype ≡ 12 → namesIn rtype ≡ true
-names-ptr rtype e = rw e
-
-names-srv : (rtype : ℕ) → rtype ≡ 33 → namesIn rtype ≡ true
-names-srv rtype e = rw e
-
-names-other : (rtype : ℕ) → (rtype ≡ 12 → ⊥) → (rtype ≡ 33 → ⊥) → namesIn rtype ≡ false
-names-other rtype a b = simp (ne-eqb _ _ a, ne-eqb _ _ b)
-
 -- what fits is rdata
 pub is-rdata : (x : Rdata) → fits x ≡ true → (d : List ℕ) × (x ≡ rdata d)
 is-rdata (rdata d) h = (d, refl)
@@ -94,143 +86,134 @@ open-ending front end (name bs e) h = go (eqb e end) h
     go false g = let z : _≡_ {A = ℕ} 0 1 = cc in absurd (omega arith)
 open-ending front end malformed h = refl
 
-module _ (p : List ℕ) (rtype at len : ℕ) where
+module _ (p : List ℕ) (f : RecordAt) where
+  abbrev part : List ℕ
+  part = take (f .rdlength) (drop (f .rdata) p)
+
+  abbrev before : ℕ
+  before = formOf (f .rtype) .before
+
   -- rdata that fits lies in the packet
-  within : fits (rdataAt p rtype at len) ≡ true → at + len ≤ length p
+  within : fits (rdataAt p f) ≡ true → f .rdata + f .rdlength ≤ length p
   unfolding rdataAt
-  within h = go (leb (at + len) (length p)) refl h
+  within h = go (leb (f .rdata + f .rdlength) (length p)) refl h
     where
-      go : (b : Bool) → leb (at + len) (length p) ≡ b → fits (cond b (rdataIn p rtype (take len (drop at p)) at) unfit) ≡ true → at + len ≤ length p
-      go true e g = leb-true (at + len) (length p) e
+      go : (b : Bool) → leb (f .rdata + f .rdlength) (length p) ≡ b → fits (cond b (rdataIn p f part) unfit) ≡ true → f .rdata + f .rdlength ≤ length p
+      go true e g = leb-true (f .rdata + f .rdlength) (length p) e
       go false e g = let z : _≡_ {A = ℕ} 0 1 = cc in absurd (omega arith)
 
-  in-part : fits (rdataAt p rtype at len) ≡ true → rdataAt p rtype at len ≡ rdataIn p rtype (take len (drop at p)) at
-  in-part h = at-within p rtype at len (within h)
+  in-part : fits (rdataAt p f) ≡ true → rdataAt p f ≡ rdataIn p f part
+  in-part h = at-within p f (within h)
 
-  long : fits (rdataAt p rtype at len) ≡ true → length (take len (drop at p)) ≡ len
-  long h = length-take-le len (drop at p) (omega (arith, length-drop at p, within h))
+  long : fits (rdataAt p f) ≡ true → length part ≡ f .rdlength
+  long h = length-take-le (f .rdlength) (drop (f .rdata) p) (omega (arith, length-drop (f .rdata) p, within h))
 
-  pub open-unfit : fits (rdataAt p rtype at len) ≡ false → _≡_ {A = Opened} (record { len = 0; bytes = replicate 261 0 }) (openedAt p rtype at len)
-  open-unfit h = go (namesIn rtype)
+  pub open-unfit : fits (rdataAt p f) ≡ false → _≡_ {A = Opened} (record { len = 0; bytes = replicate 261 0 }) (openedAt p f)
+  open-unfit h = go (formOf (f .rtype) .named)
     where
-      go : (b : Bool) → _≡_ {A = Opened} (padded []) (cond b (openedOf (rdataAt p rtype at len)) (padded []))
-      go true = sym (ap openedOf (is-unfit (rdataAt p rtype at len) h))
+      go : (b : Bool) → _≡_ {A = Opened} (padded []) (cond b (openedOf (rdataAt p f)) (padded []))
+      go true = sym (ap openedOf (is-unfit (rdataAt p f) h))
       go false = refl
 
-  pub open-other : (rtype ≡ 12 → ⊥) → (rtype ≡ 33 → ⊥) → _≡_ {A = Opened} (record { len = 0; bytes = replicate 261 0 }) (openedAt p rtype at len)
-  open-other a b = simp (names-other rtype a b)
+  -- rdata that holds a name has the bytes before it
+  module _ (t : formOf (f .rtype) .named ≡ true) (h : fits (rdataAt p f) ≡ true) where
+    around-name : (before ≤ f .rdlength) × (rdataAt p f ≡ endingName (take before part) (f .rdata + length part) (nameAt p (f .rdata + before)))
+    around-name = go (leb before (length part)) refl (in-part h ∙ in-named p part f t)
+      where
+        go : (b : Bool) → leb before (length part) ≡ b → rdataAt p f ≡ cond b (endingName (take before part) (f .rdata + length part) (nameAt p (f .rdata + before))) unfit
+            → (before ≤ f .rdlength) × (rdataAt p f ≡ endingName (take before part) (f .rdata + length part) (nameAt p (f .rdata + before)))
+        go true l g = (omega (arith, leb-true before (length part) l, long h), g)
+        go false l g =
+            let k : fits (rdataAt p f) ≡ false = ap fits g in
+            let z : _≡_ {A = ℕ} 0 1 = cc in absurd (omega arith)
 
-  pub open-ptr : rtype ≡ 12 → fits (rdataAt p rtype at len) ≡ true → (o : Opened) → o ≡ openedName (take 0 (drop at p)) (nameAt p (at + 0)) → o ≡ openedAt p rtype at len
-  unfolding rdataIn
-  open-ptr e h o k =
-      let d = take len (drop at p) in
-      let is : rdataAt p rtype at len ≡ endingName [] (at + length d) (nameAt p at) = in-part h ∙ ap (λ (t : ℕ). rdataIn p t d at) e in
-      k ∙ ap (λ (j : ℕ). openedName [] (nameAt p j)) (add-zero at) ∙ open-ending [] (at + length d) (nameAt p at) (sym (ap fits is) ∙ h)
-      ∙ ap openedOf (sym is) ∙ sym (ap (λ (b : Bool). cond b (openedOf (rdataAt p rtype at len)) (padded [])) (names-ptr rtype e))
+    open-name : (o : Opened) → o ≡ openedName (take before (drop (f .rdata) p)) (nameAt p (f .rdata + before)) → o ≡ openedAt p f
+    open-name o k =
+        let s = around-name in
+        let front : take before part ≡ take before (drop (f .rdata) p) = take-take before (f .rdlength) (drop (f .rdata) p) (s .0) in
+        k ∙ ap (λ (l : List ℕ). openedName l (nameAt p (f .rdata + before))) (sym front)
+        ∙ open-ending (take before part) (f .rdata + length part) (nameAt p (f .rdata + before)) (sym (ap fits (s .1)) ∙ h)
+        ∙ ap openedOf (sym (s .1)) ∙ sym (ap (λ (b : Bool). cond b (openedOf (rdataAt p f)) (padded [])) t)
 
-  -- an SRV has its 6 bytes in front of the name
-  srv-is : rtype ≡ 33 → (h : fits (rdataAt p rtype at len) ≡ true)
-      → (6 ≤ len) × (rdataAt p rtype at len ≡ endingName (take 6 (take len (drop at p))) (at + length (take len (drop at p))) (nameAt p (at + 6)))
-  unfolding rdataIn
-  srv-is e h = go (leb 6 (length (take len (drop at p)))) refl (in-part h ∙ ap (λ (t : ℕ). rdataIn p t (take len (drop at p)) at) e)
+  -- at most 6 bytes stand before a name
+  before-small : before ≤ 6
+  before-small = go (eqb (f .rtype) 33)
     where
-      go : (b : Bool) → leb 6 (length (take len (drop at p))) ≡ b
-          → rdataAt p rtype at len ≡ cond b (endingName (take 6 (take len (drop at p))) (at + length (take len (drop at p))) (nameAt p (at + 6))) unfit
-          → (6 ≤ len) × (rdataAt p rtype at len ≡ endingName (take 6 (take len (drop at p))) (at + length (take len (drop at p))) (nameAt p (at + 6)))
-      go true l g = (omega (arith, leb-true 6 (length (take len (drop at p))) l, long h), g)
-      go false l g =
-          let f : fits (rdataAt p rtype at len) ≡ false = ap fits g in
-          let z : _≡_ {A = ℕ} 0 1 = cc in absurd (omega arith)
+      go : (b : Bool) → cond b 6 0 ≤ 6
+      go true = omega arith
+      go false = omega arith
 
-  pub ptr-room : fits (rdataAt p rtype at len) ≡ true → at + 0 ≤ length p
-  ptr-room h = omega (arith, within h)
+  -- from the form that the code has found
+  module _ (g : Form) (is : g ≡ formOf (f .rtype)) where
+    named-is : (b : Bool) → g .named ≡ b → formOf (f .rtype) .named ≡ b
+    named-is b e = sym (ap (λ (y : Form). y .named) is) ∙ e
 
-  pub srv-room : rtype ≡ 33 → fits (rdataAt p rtype at len) ≡ true → at + 6 ≤ length p
-  srv-room e h = omega (arith, within h, srv-is e h .0)
+    before-is : g .before ≡ before
+    before-is = ap (λ (y : Form). y .before) is
 
-  pub open-srv : rtype ≡ 33 → fits (rdataAt p rtype at len) ≡ true → (o : Opened) → o ≡ openedName (take 6 (drop at p)) (nameAt p (at + 6)) → o ≡ openedAt p rtype at len
-  open-srv e h o k =
-      let d = take len (drop at p) in
-      let s = srv-is e h in
-      let six : take 6 d ≡ take 6 (drop at p) = take-take 6 len (drop at p) (s .0) in
-      k ∙ ap (λ (l : List ℕ). openedName l (nameAt p (at + 6))) (sym six)
-      ∙ open-ending (take 6 d) (at + length d) (nameAt p (at + 6)) (sym (ap fits (s .1)) ∙ h)
-      ∙ ap openedOf (sym (s .1)) ∙ sym (ap (λ (b : Bool). cond b (openedOf (rdataAt p rtype at len)) (padded [])) (names-srv rtype e))
+    module _ (e : g .named ≡ true) (h : fits (rdataAt p f) ≡ true) where
+      pub name-room : (g .before ≤ 6) × (f .rdata + g .before ≤ length p)
+      name-room = (omega (arith, before-is, before-small), omega (arith, before-is, within h, around-name (named-is true e) h .0))
+
+      pub open-named : (o : Opened) → o ≡ openedName (take (g .before) (drop (f .rdata) p)) (nameAt p (f .rdata + g .before)) → o ≡ openedAt p f
+      open-named o k = open-name (named-is true e) h o (k ∙ ap (λ (n : ℕ). openedName (take n (drop (f .rdata) p)) (nameAt p (f .rdata + n))) before-is)
+
+    pub open-other : g .named ≡ false → _≡_ {A = Opened} (record { len = 0; bytes = replicate 261 0 }) (openedAt p f)
+    open-other e = sym (ap (λ (b : Bool). cond b (openedOf (rdataAt p f)) (padded [])) (named-is false e))
+
+    -- the view of rdata that holds a name, and of other rdata: its bytes, and where they start
+    module _ (opened : List ℕ) (n : ℕ) (place openedPlace : ℕ × ℕ) where
+      pub view-named : g .named ≡ true → (take n (drop 0 opened) ≡ viewOf p opened n f) × (startIn opened 0 openedPlace ≡ viewStart p place opened openedPlace f)
+      view-named e =
+          let t = named-is true e in
+          (sym (ap (λ (b : Bool). cond b (take n opened) part) t), sym (ap (λ (b : Bool). cond b (startIn opened 0 openedPlace) (startIn p (f .rdata) place)) t))
+
+      pub view-plain : g .named ≡ false → (part ≡ viewOf p opened n f) × (startIn p (f .rdata) place ≡ viewStart p place opened openedPlace f)
+      view-plain e =
+          let t = named-is false e in
+          (sym (ap (λ (b : Bool). cond b (take n opened) part) t), sym (ap (λ (b : Bool). cond b (startIn opened 0 openedPlace) (startIn p (f .rdata) place)) t))
 
   -- other rdata is the part of the packet
-  plain-in : (d : List ℕ) → (rtype ≡ 12 → ⊥) → (rtype ≡ 33 → ⊥)
-      → rdataIn p rtype d at ≡ cond (eqb rtype 1) (asItLies (eqb (length d) 4) d) (cond (eqb rtype 16) (asItLies (stringsFill 0 d) d) (cond (eqb rtype 28) (asItLies (eqb (length d) 16) d) (rdata d)))
+  plain-is : formOf (f .rtype) .named ≡ false → fits (rdataAt p f) ≡ true → rdataAt p f ≡ rdata part
   unfolding rdataIn
-  plain-in d a b = simp (ne-eqb rtype 12 a, ne-eqb rtype 33 b)
-
-  plain-is : (rtype ≡ 12 → ⊥) → (rtype ≡ 33 → ⊥) → fits (rdataAt p rtype at len) ≡ true → rdataAt p rtype at len ≡ rdata (take len (drop at p))
-  plain-is a b h =
-      let d : List ℕ = take len (drop at p) in
-      let is = in-part h ∙ plain-in d a b in
-      is ∙ go d (eqb rtype 1) (eqb rtype 16) (eqb rtype 28) (eqb (length d) 4) (stringsFill 0 d) (eqb (length d) 16) (sym (ap fits is) ∙ h)
+  plain-is t h = in-part h ∙ go part (eqb (f .rtype) 1) (eqb (f .rtype) 16) (eqb (f .rtype) 28) (formOf (f .rtype) .named) (eqb (length part) 4) (stringsFill 0 part) (eqb (length part) 16) t (sym (ap fits (in-part h)) ∙ h)
     where
-      go : (d : List ℕ) (b₁ b₂ b₃ t₁ t₂ t₃ : Bool) → fits (cond b₁ (asItLies t₁ d) (cond b₂ (asItLies t₂ d) (cond b₃ (asItLies t₃ d) (rdata d)))) ≡ true
-          → cond b₁ (asItLies t₁ d) (cond b₂ (asItLies t₂ d) (cond b₃ (asItLies t₃ d) (rdata d))) ≡ rdata d
-      go d true b₂ b₃ true t₂ t₃ g = refl
-      go d true b₂ b₃ false t₂ t₃ g = let z : _≡_ {A = ℕ} 0 1 = cc in absurd (omega arith)
-      go d false true b₃ t₁ true t₃ g = refl
-      go d false true b₃ t₁ false t₃ g = let z : _≡_ {A = ℕ} 0 1 = cc in absurd (omega arith)
-      go d false false true t₁ t₂ true g = refl
-      go d false false true t₁ t₂ false g = let z : _≡_ {A = ℕ} 0 1 = cc in absurd (omega arith)
-      go d false false false t₁ t₂ t₃ g = refl
+      go : (d : List ℕ) (b₁ b₂ b₃ b₄ t₁ t₂ t₃ : Bool) → b₄ ≡ false
+          → fits (cond b₁ (asItLies t₁ d) (cond b₂ (asItLies t₂ d) (cond b₃ (asItLies t₃ d) (cond b₄ (withName p (f .rdata) d before) (rdata d))))) ≡ true
+          → cond b₁ (asItLies t₁ d) (cond b₂ (asItLies t₂ d) (cond b₃ (asItLies t₃ d) (cond b₄ (withName p (f .rdata) d before) (rdata d)))) ≡ rdata d
+      go d true b₂ b₃ b₄ true t₂ t₃ e g = refl
+      go d true b₂ b₃ b₄ false t₂ t₃ e g = let z : _≡_ {A = ℕ} 0 1 = cc in absurd (omega arith)
+      go d false true b₃ b₄ t₁ true t₃ e g = refl
+      go d false true b₃ b₄ t₁ false t₃ e g = let z : _≡_ {A = ℕ} 0 1 = cc in absurd (omega arith)
+      go d false false true b₄ t₁ t₂ true e g = refl
+      go d false false true b₄ t₁ t₂ false e g = let z : _≡_ {A = ℕ} 0 1 = cc in absurd (omega arith)
+      go d false false false false t₁ t₂ t₃ e g = refl
+      go d false false false true t₁ t₂ t₃ e g = let z : _≡_ {A = ℕ} 0 1 = cc in absurd (omega arith)
 
   -- the view of rdata that fits is the rdata
-  pub view-is : fits (rdataAt p rtype at len) ≡ true → (o : Opened) → o ≡ openedAt p rtype at len → rdataAt p rtype at len ≡ rdata (viewOf p (o .bytes) (o .len) rtype at len)
-  view-is h o k = go (eqb rtype 12) (eqb rtype 33) refl refl
+  pub view-is : fits (rdataAt p f) ≡ true → (o : Opened) → o ≡ openedAt p f → rdataAt p f ≡ rdata (viewOf p (o .bytes) (o .len) f)
+  view-is h o k = go (formOf (f .rtype) .named) refl
     where
-      opened : namesIn rtype ≡ true → rdataAt p rtype at len ≡ rdata (viewOf p (o .bytes) (o .len) rtype at len)
-      opened t =
-          let d = is-rdata (rdataAt p rtype at len) h in
-          let o-is : o ≡ padded (d .0) = k ∙ ap (λ (b : Bool). cond b (openedOf (rdataAt p rtype at len)) (padded [])) t ∙ ap openedOf (d .1) in
+      go : (b : Bool) → formOf (f .rtype) .named ≡ b → rdataAt p f ≡ rdata (viewOf p (o .bytes) (o .len) f)
+      go true t =
+          let d = is-rdata (rdataAt p f) h in
+          let o-is : o ≡ padded (d .0) = k ∙ ap (λ (b : Bool). cond b (openedOf (rdataAt p f)) (padded [])) t ∙ ap openedOf (d .1) in
           let front-is : take (o .len) (o .bytes) ≡ d .0 =
           ap (λ (y : Opened). take (y .len) (y .bytes)) o-is ∙ take-at (d .0) (replicate (261 - length (d .0)) 0) (length (d .0)) refl in
-          d .1 ∙ ap rdata (sym front-is ∙ sym (ap (λ (b : Bool). cond b (take (o .len) (o .bytes)) (take len (drop at p))) t))
+          d .1 ∙ ap rdata (sym front-is ∙ sym (ap (λ (b : Bool). cond b (take (o .len) (o .bytes)) part) t))
+      go false t = plain-is t h ∙ ap rdata (sym (ap (λ (b : Bool). cond b (take (o .len) (o .bytes)) part) t))
 
-      go : (b₁ b₂ : Bool) → eqb rtype 12 ≡ b₁ → eqb rtype 33 ≡ b₂ → rdataAt p rtype at len ≡ rdata (viewOf p (o .bytes) (o .len) rtype at len)
-      go true b₂ e₁ e₂ = opened (names-ptr rtype (eqb-true rtype 12 e₁))
-      go false true e₁ e₂ = opened (names-srv rtype (eqb-true rtype 33 e₂))
-      go false false e₁ e₂ =
-          let n₁ = eqb-false rtype 12 e₁ in
-          let n₂ = eqb-false rtype 33 e₂ in
-          plain-is n₁ n₂ h ∙ ap rdata (sym (ap (λ (b : Bool). cond b (take (o .len) (o .bytes)) (take len (drop at p))) (names-other rtype n₁ n₂)))
+  pub is-nothing : (other : List ℕ) (v : Bool) → v ≡ fits (rdataAt p f) → v ≡ false → false ≡ rdataIs (rdataAt p f) other
+  is-nothing other v e u = sym (ap (λ (x : Rdata). rdataIs x other) (is-unfit (rdataAt p f) (sym e ∙ u)))
 
-  -- where a name is held, the view is a part of what was opened
-  pub view-ptr : (opened : List ℕ) (n : ℕ) → rtype ≡ 12 → take n (drop 0 opened) ≡ viewOf p opened n rtype at len
-  view-ptr opened n e = sym (ap (λ (b : Bool). cond b (take n opened) (take len (drop at p))) (names-ptr rtype e))
-
-  pub view-srv : (opened : List ℕ) (n : ℕ) → rtype ≡ 33 → take n (drop 0 opened) ≡ viewOf p opened n rtype at len
-  view-srv opened n e = sym (ap (λ (b : Bool). cond b (take n opened) (take len (drop at p))) (names-srv rtype e))
-
-  pub view-plain : (opened : List ℕ) (n : ℕ) → (rtype ≡ 12 → ⊥) → (rtype ≡ 33 → ⊥) → take len (drop at p) ≡ viewOf p opened n rtype at len
-  view-plain opened n a b = sym (ap (λ (t : Bool). cond t (take n opened) (take len (drop at p))) (names-other rtype a b))
-
-  -- and where it starts
-  module _ (place : ℕ × ℕ) (opened : List ℕ) (openedPlace : ℕ × ℕ) where
-    pub start-ptr : rtype ≡ 12 → startIn opened 0 openedPlace ≡ viewStart p place opened openedPlace rtype at
-    start-ptr e = sym (ap (λ (b : Bool). cond b (startIn opened 0 openedPlace) (startIn p at place)) (names-ptr rtype e))
-
-    pub start-srv : rtype ≡ 33 → startIn opened 0 openedPlace ≡ viewStart p place opened openedPlace rtype at
-    start-srv e = sym (ap (λ (b : Bool). cond b (startIn opened 0 openedPlace) (startIn p at place)) (names-srv rtype e))
-
-    pub start-plain : (rtype ≡ 12 → ⊥) → (rtype ≡ 33 → ⊥) → startIn p at place ≡ viewStart p place opened openedPlace rtype at
-    start-plain a b = sym (ap (λ (t : Bool). cond t (startIn opened 0 openedPlace) (startIn p at place)) (names-other rtype a b))
-
-  pub is-nothing : (other : List ℕ) (v : Bool) → v ≡ fits (rdataAt p rtype at len) → v ≡ false → false ≡ rdataIs (rdataAt p rtype at len) other
-  is-nothing other v e f = sym (ap (λ (x : Rdata). rdataIs x other) (is-unfit (rdataAt p rtype at len) (sym e ∙ f)))
-
-  pub is-viewed : (v : Bool) → v ≡ fits (rdataAt p rtype at len) → v ≡ true → (o : Opened) → o ≡ openedAt p rtype at len
-      → (seen : List ℕ) → seen ≡ viewOf p (o .bytes) (o .len) rtype at len → (other : List ℕ) (r : Bool) → r ≡ sameBytes seen other → r ≡ rdataIs (rdataAt p rtype at len) other
+  pub is-viewed : (v : Bool) → v ≡ fits (rdataAt p f) → v ≡ true → (o : Opened) → o ≡ openedAt p f
+      → (seen : List ℕ) → seen ≡ viewOf p (o .bytes) (o .len) f → (other : List ℕ) (r : Bool) → r ≡ sameBytes seen other → r ≡ rdataIs (rdataAt p f) other
   is-viewed v e t o k seen s other r h =
       h ∙ ap (λ (l : List ℕ). sameBytes l other) s ∙ sym (ap (λ (x : Rdata). rdataIs x other) (view-is (sym e ∙ t) o k))
 
-  pub same-nothing : (x : Rdata) (v : Bool) → v ≡ fits (rdataAt p rtype at len) → v ≡ false → false ≡ rdataSame x (rdataAt p rtype at len)
-  same-nothing x v e f = sym (ap (rdataSame x) (is-unfit (rdataAt p rtype at len) (sym e ∙ f)))
+  pub same-nothing : (x : Rdata) (v : Bool) → v ≡ fits (rdataAt p f) → v ≡ false → false ≡ rdataSame x (rdataAt p f)
+  same-nothing x v e u = sym (ap (rdataSame x) (is-unfit (rdataAt p f) (sym e ∙ u)))
 
-  pub same-viewed : (x : Rdata) (v : Bool) → v ≡ fits (rdataAt p rtype at len) → v ≡ true → (o : Opened) → o ≡ openedAt p rtype at len
-      → (seen : List ℕ) → seen ≡ viewOf p (o .bytes) (o .len) rtype at len → (r : Bool) → r ≡ rdataIs x seen → r ≡ rdataSame x (rdataAt p rtype at len)
+  pub same-viewed : (x : Rdata) (v : Bool) → v ≡ fits (rdataAt p f) → v ≡ true → (o : Opened) → o ≡ openedAt p f
+      → (seen : List ℕ) → seen ≡ viewOf p (o .bytes) (o .len) f → (r : Bool) → r ≡ rdataIs x seen → r ≡ rdataSame x (rdataAt p f)
   same-viewed x v e t o k seen s r h = h ∙ ap (rdataIs x) s ∙ sym (ap (rdataSame x) (view-is (sym e ∙ t) o k))

@@ -10,8 +10,8 @@ use borrow.Author.Tests.{leb-true}
 use Rattle.wire.specs.octets.Octets.{word16, word32}
 use Rattle.wire.specs.names.Names.{Reading, name, malformed, nameAt}
 use Rattle.wire.specs.rdata.Rdata.{Rdata, rdata, unfit, rdataAt}
-use Rattle.wire.specs.message.Message.{Question, Record, Message, ttlOf}
-use Rattle.wire.specs.message.Layout.{questionFrom, questionRead, recordFrom, recordRead, Item, item, broken, bytesOf, questionMeant, questionAt, recordOf, withRdata, recordMeant, recordAt, Listing, listing, cut, first, andOn, listFrom, Reads, read, refused, plainHeader, additionalsOf, authoritiesOf, answersOf, questionsOf, messageAt, readOf}
+use Rattle.wire.specs.message.Message.{Question, Record, recordOf, Message, ttlOf}
+use Rattle.wire.specs.message.Layout.{questionFrom, questionRead, recordFrom, recordRead, Item, item, broken, bytesOf, questionMeant, questionAt, withRdata, recordMeant, recordAt, Listing, listing, cut, first, andOn, listFrom, Reads, read, refused, andThen, sectionsOf, wrongLength, wrongHeader, messageAt, readOf}
 use Rattle.wire.specs.declared.message.QuestionAt.{QuestionAt}
 use Rattle.wire.specs.declared.message.QuestionRead.{QuestionRead}
 use Rattle.wire.specs.declared.message.QuestionRead.the-variants as q
@@ -78,7 +78,7 @@ pub record RecordHere (p : List ℕ) (at : ℕ) (x : Record) (next : ℕ) : Type
   pub past : fields .next ≡ next
   pub end : ℕ
   pub named : nameAt p at ≡ name (x .owner) end
-  pub content : rdataAt p (fields .rtype) (fields .rdata) (fields .rdlength) ≡ rdata (x .rdata)
+  pub content : rdataAt p fields ≡ rdata (x .rdata)
   pub within : fields .rdata + fields .rdlength ≤ length p
 
 -- the fields of a question and of a record whose name ends at `e`
@@ -98,7 +98,7 @@ recordMade p at bs e = record {
 }
 
 -- the fields of a question are its own: the name starts where it was read
-question-fields : (p : List ℕ) (at : ℕ) (y : Reading) (f : QuestionAt) → questionFrom p at y ≡ q.Found f → (f .name ≡ at) × (f .span ≡ length (bytesOf y)) × ((e : ℕ) × (y ≡ name (bytesOf y) e))
+pub question-fields : (p : List ℕ) (at : ℕ) (y : Reading) (f : QuestionAt) → questionFrom p at y ≡ q.Found f → (f .name ≡ at) × (f .span ≡ length (bytesOf y)) × ((e : ℕ) × (y ≡ name (bytesOf y) e))
 question-fields p at (name bs e) f h = go (leb (e + 4) (length p)) h
   where
     go : (b : Bool) → cond b (q.Found (questionMade p at bs e)) q.Malformed ≡ q.Found f → (f .name ≡ at) × (f .span ≡ length bs) × ((d : ℕ) × (name bs e ≡ name bs d))
@@ -130,7 +130,7 @@ question-here p at x next h = go (questionRead p at) refl h
         }
     go q.Malformed e g = let z : _≡_ {A = ℕ} 0 1 = cc in absurd (omega arith)
 
-record-fields : (p : List ℕ) (at : ℕ) (y : Reading) (f : RecordAt) → recordFrom p at y ≡ r.Found f
+pub record-fields : (p : List ℕ) (at : ℕ) (y : Reading) (f : RecordAt) → recordFrom p at y ≡ r.Found f
     → (f .owner ≡ at) × (f .span ≡ length (bytesOf y)) × ((e : ℕ) × (y ≡ name (bytesOf y) e)) × (f .rdata + f .rdlength ≤ length p)
 record-fields p at (name bs e) f h = go (leb (e + 10) (length p)) (leb (e + 10 + word16 p (e + 8)) (length p)) refl h
   where
@@ -153,10 +153,10 @@ pub record-here : (p : List ℕ) (at : ℕ) (x : Record) (next : ℕ) → record
 unfolding recordAt recordRead
 record-here p at x next h = go (recordRead p at) refl h
   where
-    on : (f : RecordAt) (y : Rdata) → recordRead p at ≡ r.Found f → rdataAt p (f .rtype) (f .rdata) (f .rdlength) ≡ y → withRdata (bytesOf (nameAt p at)) f y ≡ item x next → RecordHere p at x next
+    on : (f : RecordAt) (y : Rdata) → recordRead p at ≡ r.Found f → rdataAt p f ≡ y → withRdata (bytesOf (nameAt p at)) f y ≡ item x next → RecordHere p at x next
     on f (rdata d) e is g =
         let k = record-fields p at (nameAt p at) f e in
-        let same : recordOf (bytesOf (nameAt p at)) f d ≡ x = cc in
+        let same : recordOf (bytesOf (nameAt p at)) (f .rtype) (f .class) (f .ttl) d ≡ x = cc in
         let bytes : bytesOf (nameAt p at) ≡ x .owner = ap (λ (y : Record). y .owner) same in
         record {
           fields = f;
@@ -175,7 +175,7 @@ record-here p at x next h = go (recordRead p at) refl h
     on f unfit e is g = let z : _≡_ {A = ℕ} 0 1 = cc in absurd (omega arith)
 
     go : (a : RecordRead) → recordRead p at ≡ a → recordMeant p (bytesOf (nameAt p at)) a ≡ item x next → RecordHere p at x next
-    go (r.Found f) e g = on f (rdataAt p (f .rtype) (f .rdata) (f .rdlength)) e refl g
+    go (r.Found f) e g = on f (rdataAt p f) e refl g
     go r.Malformed e g = let z : _≡_ {A = ℕ} 0 1 = cc in absurd (omega arith)
 
 -- What a caller learns at the cursor from the answer of `question_at` or `record_at`, in a section that has been checked.
@@ -224,50 +224,44 @@ pub record Sections (p : List ℕ) (l : Layout) (m : Message) : Type 0 where
   pub authorities : listFrom (recordAt p) (l .authorities .count) (l .authorities .at) ≡ listing (m .authorities) (l .additionals .at)
   pub additionals : listFrom (recordAt p) (l .additionals .count) (l .additionals .at) ≡ listing (m .additionals) (l .end)
 
-module _ (p : List ℕ) (l : Layout) (says : Message) where
-  from-additionals : (qs : List Question) (an ns : List Record) (a b c : ℕ) → listFrom (questionAt p) (word16 p 4) 12 ≡ listing qs a → listFrom (recordAt p) (word16 p 6) a ≡ listing an b
-      → listFrom (recordAt p) (word16 p 8) b ≡ listing ns c → (x : Listing Record) → listFrom (recordAt p) (word16 p 10) c ≡ x → additionalsOf p qs an ns a b c x ≡ read l says → Sections p l says
-  from-additionals qs an ns a b c hq ha hn (listing ar e) hr h =
-      let made : Layout = record {
-        id = word16 p 0;
-        flags = word16 p 2;
-        questions = record { at = 12; count = word16 p 4 };
-        answers = record { at = a; count = word16 p 6 };
-        authorities = record { at = b; count = word16 p 8 };
-        additionals = record { at = c; count = word16 p 10 };
-        end = e;
-      } in
-      let said : Message = record { id = word16 p 0; flags = word16 p 2; questions = qs; answers = an; authorities = ns; additionals = ar } in
-      let i : made ≡ l = cc in
-      let j : said ≡ says = cc in
-      both made l i said says j (record { id = refl; flags = refl; questions = hq; answers = ha; authorities = hn; additionals = hr })
-    where
-      both : (a b : Layout) → a ≡ b → (x y : Message) → x ≡ y → Sections p a x → Sections p b y
-      both a b i x y j s = rw (sym i, sym j) s
-  from-additionals qs an ns a b c hq ha hn cut hr h = let z : _≡_ {A = ℕ} 0 1 = cc in absurd (omega arith)
+-- a section that is followed by a message is whole
+then-read : {A : Type 0} (x : Listing A) (next : List A → ℕ → Reads) (l : Layout) (says : Message) → andThen x next ≡ read l says
+    → (xs : List A) × (e : ℕ) × (x ≡ listing xs e) × (next xs e ≡ read l says)
+unfolding andThen
+then-read (listing xs e) next l says h = (xs, e, refl, h)
+then-read cut next l says h = let z : _≡_ {A = ℕ} 0 1 = cc in absurd (omega arith)
 
-  from-authorities : (qs : List Question) (an : List Record) (a b : ℕ) → listFrom (questionAt p) (word16 p 4) 12 ≡ listing qs a → listFrom (recordAt p) (word16 p 6) a ≡ listing an b
-      → (x : Listing Record) → listFrom (recordAt p) (word16 p 8) b ≡ x → authoritiesOf p qs an a b x ≡ read l says → Sections p l says
-  from-authorities qs an a b hq ha (listing ns c) hn h = from-additionals qs an ns a b c hq ha hn (listFrom (recordAt p) (word16 p 10) c) refl h
-  from-authorities qs an a b hq ha cut hn h = let z : _≡_ {A = ℕ} 0 1 = cc in absurd (omega arith)
+-- the tests before the sections
+past-tests : (p : List ℕ) (l : Layout) (says : Message) → messageAt p ≡ read l says → sectionsOf p ≡ read l says
+unfolding messageAt
+past-tests p l says h = go (wrongLength p) (wrongHeader p) h
+  where
+    go : (a b : Bool) → cond a (refused 4) (cond b (refused 5) (sectionsOf p)) ≡ read l says → sectionsOf p ≡ read l says
+    go true b e = let z : _≡_ {A = ℕ} 0 1 = cc in absurd (omega arith)
+    go false true e = let z : _≡_ {A = ℕ} 0 1 = cc in absurd (omega arith)
+    go false false e = e
 
-  from-answers : (qs : List Question) (a : ℕ) → listFrom (questionAt p) (word16 p 4) 12 ≡ listing qs a → (x : Listing Record) → listFrom (recordAt p) (word16 p 6) a ≡ x
-      → answersOf p qs a x ≡ read l says → Sections p l says
-  from-answers qs a hq (listing an b) ha h = from-authorities qs an a b hq ha (listFrom (recordAt p) (word16 p 8) b) refl h
-  from-answers qs a hq cut ha h = let z : _≡_ {A = ℕ} 0 1 = cc in absurd (omega arith)
-
-  from-questions : (x : Listing Question) → listFrom (questionAt p) (word16 p 4) 12 ≡ x → questionsOf p x ≡ read l says → Sections p l says
-  from-questions (listing qs a) hq h = from-answers qs a hq (listFrom (recordAt p) (word16 p 6) a) refl h
-  from-questions cut hq h = let z : _≡_ {A = ℕ} 0 1 = cc in absurd (omega arith)
-
-  pub sections : messageAt p ≡ read l says → Sections p l says
-  unfolding messageAt
-  sections h = go (ltb (length p) 12 || ltb 8972 (length p)) (plainHeader (word16 p 2)) h
-    where
-      go : (a b : Bool) → cond a (refused 4) (cond b (questionsOf p (listFrom (questionAt p) (word16 p 4) 12)) (refused 5)) ≡ read l says → Sections p l says
-      go true b e = let z : _≡_ {A = ℕ} 0 1 = cc in absurd (omega arith)
-      go false true e = from-questions (listFrom (questionAt p) (word16 p 4) 12) refl e
-      go false false e = let z : _≡_ {A = ℕ} 0 1 = cc in absurd (omega arith)
+pub sections : (p : List ℕ) (l : Layout) (says : Message) → messageAt p ≡ read l says → Sections p l says
+sections p l says h =
+    let q = then-read _ _ l says (past-tests p l says h) in
+    let a = then-read _ _ l says (q .3) in
+    let n = then-read _ _ l says (a .3) in
+    let r = then-read _ _ l says (n .3) in
+    let made : Layout = record {
+      id = word16 p 0;
+      flags = word16 p 2;
+      questions = record { at = 12; count = word16 p 4 };
+      answers = record { at = q .1; count = word16 p 6 };
+      authorities = record { at = a .1; count = word16 p 8 };
+      additionals = record { at = n .1; count = word16 p 10 };
+      end = r .1;
+    } in
+    let said : Message = record { id = word16 p 0; flags = word16 p 2; questions = q .0; answers = a .0; authorities = n .0; additionals = r .0 } in
+    let is : read made said ≡ read l says = r .3 in
+    both made l (cc) said says (cc) (record { id = refl; flags = refl; questions = q .2; answers = a .2; authorities = n .2; additionals = r .2 })
+  where
+    both : (a b : Layout) → a ≡ b → (x y : Message) → x ≡ y → Sections p a x → Sections p b y
+    both a b i x y j s = rw (sym i, sym j) s
 
 -- What a caller of `read_message` learns from its answer.
 pub as-read : (x : Reads) (a : MessageRead) (l : Layout) → a ≡ readOf x → a ≡ m.Read l → (says : Message) × (x ≡ read l says)

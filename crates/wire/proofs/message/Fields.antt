@@ -87,10 +87,10 @@ module _ (p : List ℕ) (at : ℕ) where
   unfolding recordAt
   past-record-bad a h k = rw (sym h ∙ k)
 
-  module _ (a : RecordRead) (f : RecordAt) (h : a ≡ recordRead p at) (k : a ≡ r.Found f) (v : Bool) (e : v ≡ fits (rdataAt p (f .rtype) (f .rdata) (f .rdlength))) where
+  module _ (a : RecordRead) (f : RecordAt) (h : a ≡ recordRead p at) (k : a ≡ r.Found f) (v : Bool) (e : v ≡ fits (rdataAt p f)) where
     pub past-record-fits : v ≡ true → At (f .next) ≡ pastItem (recordAt p at)
     unfolding recordAt
-    past-record-fits t = rw (sym h ∙ k) (go (rdataAt p (f .rtype) (f .rdata) (f .rdlength)) (sym e ∙ t))
+    past-record-fits t = rw (sym h ∙ k) (go (rdataAt p f) (sym e ∙ t))
       where
         go : (x : Rdata) → fits x ≡ true → At (f .next) ≡ pastItem (withRdata (bytesOf (nameAt p at)) f x)
         go (rdata d) g = refl
@@ -98,7 +98,7 @@ module _ (p : List ℕ) (at : ℕ) where
 
     pub past-record-unfit : v ≡ false → Malformed ≡ pastItem (recordAt p at)
     unfolding recordAt
-    past-record-unfit t = rw (sym h ∙ k) (go (rdataAt p (f .rtype) (f .rdata) (f .rdlength)) (sym e ∙ t))
+    past-record-unfit t = rw (sym h ∙ k) (go (rdataAt p f) (sym e ∙ t))
       where
         go : (x : Rdata) → fits x ≡ false → Malformed ≡ pastItem (withRdata (bytesOf (nameAt p at)) f x)
         go (rdata d) g = let z : _≡_ {A = ℕ} 0 1 = cc in absurd (omega arith)

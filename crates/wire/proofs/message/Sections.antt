@@ -8,7 +8,7 @@ use borrow.Author.Tests.{lt-ltb, le-ltb}
 use lib.ListN.{length}
 use Rattle.wire.specs.octets.Octets.{word16}
 use Rattle.wire.specs.message.Message.{Question, Record}
-use Rattle.wire.specs.message.Layout.{Item, Listing, listing, cut, listFrom, questionAt, recordAt, Reads, read, refused, questionsOf, answersOf, authoritiesOf, additionalsOf, plainHeader, messageAt, readOf}
+use Rattle.wire.specs.message.Layout.{Item, Listing, listing, cut, listFrom, questionAt, recordAt, Reads, read, refused, andThen, sectionsOf, plainHeader, messageAt, readOf}
 use Rattle.wire.specs.message.Places.{pastList}
 use Rattle.wire.specs.declared.message.Place.{Place}
 use Rattle.wire.specs.declared.message.Place.the-variants.{At, Malformed}
@@ -36,28 +36,32 @@ module _ {A : Type 0} (part : ℕ → Item A) (n k at : ℕ) (e : n ≡ k) (r : 
 
 module _ (p : List ℕ) (n₀ n₁ n₂ n₃ : ℕ) (e₀ : n₀ ≡ word16 p 4) (e₁ : n₁ ≡ word16 p 6) (e₂ : n₂ ≡ word16 p 8) (e₃ : n₃ ≡ word16 p 10)
     (q : Place) (hq : q ≡ pastList (listFrom (questionAt p) n₀ 12)) where
-  pub questions-cut : q ≡ Malformed → m.Refused 6 ≡ readOf (questionsOf p (listFrom (questionAt p) (word16 p 4) 12))
+  pub questions-cut : q ≡ Malformed → m.Refused 6 ≡ readOf (sectionsOf p)
+  unfolding andThen
   questions-cut e = simp (now-cut (questionAt p) n₀ (word16 p 4) 12 e₀ q hq e)
 
   module _ (a : ℕ) (ea : q ≡ At a) (r₁ : Place) (h₁ : r₁ ≡ pastList (listFrom (recordAt p) n₁ a)) where
     qs : listFrom (questionAt p) (word16 p 4) 12 ≡ listing (now-list (questionAt p) n₀ (word16 p 4) 12 e₀ q hq a ea .0) a
     qs = now-list (questionAt p) n₀ (word16 p 4) 12 e₀ q hq a ea .1
 
-    pub answers-cut : r₁ ≡ Malformed → m.Refused 6 ≡ readOf (questionsOf p (listFrom (questionAt p) (word16 p 4) 12))
+    pub answers-cut : r₁ ≡ Malformed → m.Refused 6 ≡ readOf (sectionsOf p)
+    unfolding andThen
     answers-cut e = simp (qs, now-cut (recordAt p) n₁ (word16 p 6) a e₁ r₁ h₁ e)
 
     module _ (b : ℕ) (eb : r₁ ≡ At b) (r₂ : Place) (h₂ : r₂ ≡ pastList (listFrom (recordAt p) n₂ b)) where
       an : listFrom (recordAt p) (word16 p 6) a ≡ listing (now-list (recordAt p) n₁ (word16 p 6) a e₁ r₁ h₁ b eb .0) b
       an = now-list (recordAt p) n₁ (word16 p 6) a e₁ r₁ h₁ b eb .1
 
-      pub authorities-cut : r₂ ≡ Malformed → m.Refused 6 ≡ readOf (questionsOf p (listFrom (questionAt p) (word16 p 4) 12))
+      pub authorities-cut : r₂ ≡ Malformed → m.Refused 6 ≡ readOf (sectionsOf p)
+      unfolding andThen
       authorities-cut e = simp (qs, an, now-cut (recordAt p) n₂ (word16 p 8) b e₂ r₂ h₂ e)
 
       module _ (c : ℕ) (ec : r₂ ≡ At c) (r₃ : Place) (h₃ : r₃ ≡ pastList (listFrom (recordAt p) n₃ c)) where
         ns : listFrom (recordAt p) (word16 p 8) b ≡ listing (now-list (recordAt p) n₂ (word16 p 8) b e₂ r₂ h₂ c ec .0) c
         ns = now-list (recordAt p) n₂ (word16 p 8) b e₂ r₂ h₂ c ec .1
 
-        pub additionals-cut : r₃ ≡ Malformed → m.Refused 6 ≡ readOf (questionsOf p (listFrom (questionAt p) (word16 p 4) 12))
+        pub additionals-cut : r₃ ≡ Malformed → m.Refused 6 ≡ readOf (sectionsOf p)
+        unfolding andThen
         additionals-cut e = simp (qs, an, ns, now-cut (recordAt p) n₃ (word16 p 10) c e₃ r₃ h₃ e)
 
         pub sections-read : (d : ℕ) → r₃ ≡ At d → (i f : ℕ) → i ≡ word16 p 0 → f ≡ word16 p 2
@@ -69,7 +73,8 @@ module _ (p : List ℕ) (n₀ n₁ n₂ n₃ : ℕ) (e₀ : n₀ ≡ word16 p 4)
               authorities = record { at = b; count = n₂ };
               additionals = record { at = c; count = n₃ };
               end = d;
-            }) ≡ readOf (questionsOf p (listFrom (questionAt p) (word16 p 4) 12))
+            }) ≡ readOf (sectionsOf p)
+        unfolding andThen
         sections-read d ed i f ei ef =
             simp (qs, an, ns, now-list (recordAt p) n₃ (word16 p 10) c e₃ r₃ h₃ d ed .1)
             (λ j. m.Read (record {
@@ -101,6 +106,6 @@ module _ (p : List ℕ) where
       unfolding messageAt
       message-header t = simp (le-ltb _ _ h, le-ltb _ _ l, header ∙ t)
 
-      pub message-sections : v ≡ true → (r : MessageRead) → r ≡ readOf (questionsOf p (listFrom (questionAt p) (word16 p 4) 12)) → r ≡ readOf (messageAt p)
+      pub message-sections : v ≡ true → (r : MessageRead) → r ≡ readOf (sectionsOf p) → r ≡ readOf (messageAt p)
       unfolding messageAt
       message-sections t r s = simp (le-ltb _ _ h, le-ltb _ _ l, header ∙ t) s

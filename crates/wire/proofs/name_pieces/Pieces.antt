@@ -8,7 +8,7 @@ use borrow.Author.Tests.{lt-ltb, le-ltb, le-leb, lt-leb, eq-eqb, ne-eqb, ltb-tru
 use lib.ListN.{length, getD}
 use lib.Dec.{ltb, leb, eqb}
 use mathlib.Mathlib.Data.Bool.Basic.{and-eq-true-eq-eq-true-and-eq-true as both}
-use Rattle.wire.specs.name_pieces.Pieces.{pieceAt, target, labelFits, pointerFits}
+use Rattle.wire.specs.name_pieces.Pieces.{pieceAt, target, goodLabel, goodPointer}
 use Rattle.wire.specs.declared.name_pieces.Piece.{Piece}
 use Rattle.wire.specs.declared.name_pieces.Piece.the-variants.{Root, Label, Pointer, Bad}
 
@@ -31,9 +31,9 @@ passed true false false b4 false false k t = tt
 
 module _ (p : List ℕ) (start at used : ℕ) where
   facts : (x : Piece) → pieceAt p start at used ≡ x
-      → Passed (ltb at (length p)) (eqb (getD p at 0) 0) (ltb (getD p at 0) 64) (labelFits p at used) (ltb (getD p at 0) 192) (pointerFits p start at) (getD p at 0) (target p at) x
+      → Passed (ltb at (length p)) (eqb (getD p at 0) 0) (ltb (getD p at 0) 64) (goodLabel p at used) (ltb (getD p at 0) 192) (goodPointer p start at) (getD p at 0) (target p at) x
   unfolding pieceAt
-  facts x e = rw e at (passed (ltb at (length p)) (eqb (getD p at 0) 0) (ltb (getD p at 0) 64) (labelFits p at used) (ltb (getD p at 0) 192) (pointerFits p start at) (getD p at 0) (target p at))
+  facts x e = rw e at (passed (ltb at (length p)) (eqb (getD p at 0) 0) (ltb (getD p at 0) 64) (goodLabel p at used) (ltb (getD p at 0) 192) (goodPointer p start at) (getD p at 0) (target p at))
 
   pub is-root : pieceAt p start at used ≡ Root → (at < length p) × (getD p at 0 ≡ 0)
   is-root e = let f = facts Root e in (ltb-true _ _ (f .0), eqb-true _ _ (f .1))

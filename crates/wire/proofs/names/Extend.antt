@@ -12,7 +12,7 @@ use lib.Seq.{take-append-le, drop-append-le, length-take-le}
 use lib.Dec.{ltb, leb, eqb}
 use Rattle.wire.specs.declared.name_pieces.Piece.{Piece}
 use Rattle.wire.specs.declared.name_pieces.Piece.the-variants.{Root, Label, Pointer, Bad}
-use Rattle.wire.specs.name_pieces.Pieces.{pieceAt, target, labelFits, pointerFits}
+use Rattle.wire.specs.name_pieces.Pieces.{pieceAt, target, goodLabel, goodPointer}
 use Rattle.wire.specs.names.Names.{Reading, name, malformed, before, ending, readPiece, readFrom, fromRun, nameAt}
 use Rattle.wire.proofs.names.Rest.{unroll}
 use Rattle.wire.proofs.name_pieces.Pieces.{is-root, is-label, is-pointer, piece-past, piece-root, piece-label, piece-pointer}

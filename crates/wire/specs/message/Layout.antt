@@ -2,13 +2,14 @@
 -- after the last record are ignored." Assumes nothing: these are definitions.
 use Prim.Native.Nat.{ℕ, zero, suc, _+_, _/_, _%_}
 use mathlib.Core.List.{List, [], _∷_}
-use mathlib.Core.Bool.{Bool, true, false, cond, _&&_, _||_}
+use mathlib.Core.Bool.{Bool, cond, not, _&&_, _||_}
 use lib.ListN.{length}
 use lib.Dec.{leb, ltb, eqb}
+use Rattle.wire.specs.refusals.Numbers.{LENGTH, HEADER, MALFORMED}
 use Rattle.wire.specs.octets.Octets.{word16, word32}
 use Rattle.wire.specs.names.Names.{Reading, name, malformed, nameAt}
 use Rattle.wire.specs.rdata.Rdata.{Rdata, rdata, unfit, rdataAt}
-use Rattle.wire.specs.message.Message.{Question, Record, Message, ttlOf}
+use Rattle.wire.specs.message.Message.{Question, Record, recordOf, Message, ttlOf}
 use Rattle.wire.specs.declared.message.QuestionAt.{QuestionAt}
 use Rattle.wire.specs.declared.message.QuestionRead.{QuestionRead}
 use Rattle.wire.specs.declared.message.QuestionRead.the-variants as q
@@ -70,15 +71,12 @@ unfoldable pub questionAt : List ℕ → ℕ → Item Question
 questionAt p at = questionMeant (bytesOf (nameAt p at)) (questionRead p at)
 
 -- the record at an offset, its rdata as its type asks
-abbrev pub recordOf : List ℕ → RecordAt → List ℕ → Record
-recordOf bs f d = record { owner = bs; rtype = f .rtype; class = f .class; ttl = f .ttl; rdata = d }
-
 abbrev pub withRdata : List ℕ → RecordAt → Rdata → Item Record
-withRdata bs f (rdata d) = item (recordOf bs f d) (f .next)
+withRdata bs f (rdata d) = item (recordOf bs (f .rtype) (f .class) (f .ttl) d) (f .next)
 withRdata bs f unfit = broken
 
 abbrev pub recordMeant : List ℕ → List ℕ → RecordRead → Item Record
-recordMeant p bs (r.Found f) = withRdata bs f (rdataAt p (f .rtype) (f .rdata) (f .rdlength))
+recordMeant p bs (r.Found f) = withRdata bs f (rdataAt p f)
 recordMeant p bs r.Malformed = broken
 
 unfoldable pub recordAt : List ℕ → ℕ → Item Record
@@ -110,10 +108,18 @@ pub data Reads : Type 0 where
 abbrev pub plainHeader : ℕ → Bool
 plainHeader flags = eqb (flags / 2048 % 16) 0 && eqb (flags % 16) 0
 
--- the sections in turn: each begins where the one before it ends
-abbrev pub additionalsOf : List ℕ → List Question → List Record → List Record → ℕ → ℕ → ℕ → Listing Record → Reads
-additionalsOf p qs an ns a b c (listing ar e) =
-    read
+-- a section and what follows it, which begins where it ends; of a message that is cut there nothing more is read
+unfoldable pub andThen : {A : Type 0} → Listing A → (List A → ℕ → Reads) → Reads
+andThen (listing xs end) next = next xs end
+andThen cut next = refused MALFORMED
+
+-- the four sections by their counts: `a`, `b` and `c` are where the answers, the authorities and the additionals begin
+abbrev pub sectionsOf : List ℕ → Reads
+sectionsOf p =
+    andThen (listFrom (questionAt p) (word16 p 4) 12) (λ qs a.
+    andThen (listFrom (recordAt p) (word16 p 6) a) (λ an b.
+    andThen (listFrom (recordAt p) (word16 p 8) b) (λ ns c.
+    andThen (listFrom (recordAt p) (word16 p 10) c) (λ ar e. read
     (record {
       id = word16 p 0;
       flags = word16 p 2;
@@ -123,26 +129,19 @@ additionalsOf p qs an ns a b c (listing ar e) =
       additionals = record { at = c; count = word16 p 10 };
       end = e;
     })
-    (record { id = word16 p 0; flags = word16 p 2; questions = qs; answers = an; authorities = ns; additionals = ar })
-additionalsOf p qs an ns a b c cut = refused 6
+    (record { id = word16 p 0; flags = word16 p 2; questions = qs; answers = an; authorities = ns; additionals = ar })))))
 
-abbrev pub authoritiesOf : List ℕ → List Question → List Record → ℕ → ℕ → Listing Record → Reads
-authoritiesOf p qs an a b (listing ns c) = additionalsOf p qs an ns a b c (listFrom (recordAt p) (word16 p 10) c)
-authoritiesOf p qs an a b cut = refused 6
+-- 4: "message under 12 or over 8,972 bytes"
+abbrev pub wrongLength : List ℕ → Bool
+wrongLength p = ltb (length p) 12 || ltb 8972 (length p)
 
-abbrev pub answersOf : List ℕ → List Question → ℕ → Listing Record → Reads
-answersOf p qs a (listing an b) = authoritiesOf p qs an a b (listFrom (recordAt p) (word16 p 8) b)
-answersOf p qs a cut = refused 6
+-- 5: "opcode or RCODE not zero"
+abbrev pub wrongHeader : List ℕ → Bool
+wrongHeader p = not (plainHeader (word16 p 2))
 
-abbrev pub questionsOf : List ℕ → Listing Question → Reads
-questionsOf p (listing qs a) = answersOf p qs a (listFrom (recordAt p) (word16 p 6) a)
-questionsOf p cut = refused 6
-
--- 4: "message under 12 or over 8,972 bytes"; 5: "opcode or RCODE not zero, or ..", where the port is the caller's; 6: malformed; in this order
+-- the whole message, refused as 4, 5 or 6, in this order
 unfoldable pub messageAt : List ℕ → Reads
-messageAt p =
-    cond (ltb (length p) 12 || ltb 8972 (length p)) (refused 4)
-    (cond (plainHeader (word16 p 2)) (questionsOf p (listFrom (questionAt p) (word16 p 4) 12)) (refused 5))
+messageAt p = cond (wrongLength p) (refused LENGTH) (cond (wrongHeader p) (refused HEADER) (sectionsOf p))
 
 -- the answer of `read_message`
 abbrev pub readOf : Reads → MessageRead

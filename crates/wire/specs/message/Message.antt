@@ -19,6 +19,10 @@ pub record Record : Type 0 where
   pub ttl : ℕ
   pub rdata : List ℕ
 
+-- a record from its fields
+abbrev pub recordOf : List ℕ → ℕ → ℕ → ℕ → List ℕ → Record
+recordOf owner rtype class ttl d = record { owner = owner; rtype = rtype; class = class; ttl = ttl; rdata = d }
+
 -- a message: the header's ID and flags, and the four sections
 pub record Message : Type 0 where
   pub id : ℕ

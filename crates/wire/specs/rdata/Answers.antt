@@ -1,8 +1,8 @@
 -- What the functions of this module answer.
 use Prim.Native.Nat.{ℕ, _+_}
-use mathlib.Core.List.{List}
+use mathlib.Core.List.{List, []}
 use mathlib.Core.Bool.{Bool, true, false, cond}
-use lib.Dec.{leb, eqb}
+use lib.Dec.{leb}
 use lib.ListN.{length}
 use Rattle.wire.specs.octets.Octets.{word16}
 use Rattle.wire.specs.rdata.Rdata.{Rdata, rdata, unfit}
@@ -13,13 +13,14 @@ abbrev pub fits : Rdata → Bool
 fits (rdata d) = true
 fits unfit = false
 
+-- the bytes of rdata; what is not as its type asks has none
+abbrev pub dataOf : Rdata → List ℕ
+dataOf (rdata d) = d
+dataOf unfit = []
+
 -- the three numbers in front of an SRV's target
 abbrev pub srvOf : List ℕ → SrvNumbers
 srvOf d = record { priority = word16 d 0; weight = word16 d 2; port = word16 d 4 }
-
--- where the target of a PTR or an SRV starts in its rdata
-abbrev pub targetIn : ℕ → ℕ
-targetIn rtype = cond (eqb rtype 33) 6 0
 
 -- where a part of a packet starts in memory: a place is a block and an offset in it. A part that would start past the packet's end starts at its end.
 abbrev pub startIn : List ℕ → ℕ → ℕ × ℕ → ℕ × ℕ

@@ -3,10 +3,12 @@
 -- Assumes nothing: these are definitions.
 use Prim.Native.Nat.{ℕ, zero, suc, _+_}
 use mathlib.Core.List.{List, [], _∷_, _++_}
-use mathlib.Core.Bool.{Bool, true, false, cond, _&&_}
+use mathlib.Core.Bool.{Bool, true, false, cond, _||_}
 use lib.ListN.{length, take, drop}
 use lib.Dec.{leb, eqb}
 use Rattle.wire.specs.names.Names.{Reading, name, malformed, nameAt}
+use Rattle.wire.specs.declared.rdata.Form.{Form}
+use Rattle.wire.specs.declared.message.RecordAt.{RecordAt}
 
 -- Strings, each after its length byte, fill the bytes exactly; `k` bytes of a string are still to come.
 unfoldable pub stringsFill : ℕ → List ℕ → Bool
@@ -29,16 +31,24 @@ abbrev pub endingName : List ℕ → ℕ → Reading → Rdata
 endingName front end (name bs e) = cond (eqb e end) (rdata (front ++ bs)) unfit
 endingName front end malformed = unfit
 
--- The rdata of a type (1 A, 12 PTR, 16 TXT, 28 AAAA, 33 SRV) in `d`, the part of the packet `p` that starts at `at`.
-unfoldable pub rdataIn : List ℕ → ℕ → List ℕ → ℕ → Rdata
-rdataIn p rtype d at =
-    cond (eqb rtype 1) (asItLies (eqb (length d) 4) d)
-    (cond (eqb rtype 12) (endingName [] (at + length d) (nameAt p at))
-    (cond (eqb rtype 16) (asItLies (stringsFill 0 d) d)
-    (cond (eqb rtype 28) (asItLies (eqb (length d) 16) d)
-    (cond (eqb rtype 33) (cond (leb 6 (length d)) (endingName (take 6 d) (at + length d) (nameAt p (at + 6))) unfit)
-    (rdata d)))))
+-- The form of a type's rdata (12 PTR, 33 SRV): whether it holds a name, and how many bytes stand before it. "PTR is one name, SRV is 6 bytes and one
+-- name"; no byte stands behind it.
+abbrev pub formOf : ℕ → Form
+formOf rtype = record { named = eqb rtype 12 || eqb rtype 33; before = cond (eqb rtype 33) 6 0 }
 
--- the rdata of a type in the `len` bytes at an offset; bytes past the packet's end are none
-unfoldable pub rdataAt : List ℕ → ℕ → ℕ → ℕ → Rdata
-rdataAt p rtype at len = cond (leb (at + len) (length p)) (rdataIn p rtype (take len (drop at p)) at) unfit
+-- rdata that holds a name behind so many bytes, in `d`, the part of the packet `p` that starts at `at`
+abbrev pub withName : List ℕ → ℕ → List ℕ → ℕ → Rdata
+withName p at d before = cond (leb before (length d)) (endingName (take before d) (at + length d) (nameAt p (at + before))) unfit
+
+-- The rdata of a record (1 A, 16 TXT, 28 AAAA, and the types that hold a name) in `d`, the part of the packet `p` where it lies.
+unfoldable pub rdataIn : List ℕ → RecordAt → List ℕ → Rdata
+rdataIn p f d =
+    cond (eqb (f .rtype) 1) (asItLies (eqb (length d) 4) d)
+    (cond (eqb (f .rtype) 16) (asItLies (stringsFill 0 d) d)
+    (cond (eqb (f .rtype) 28) (asItLies (eqb (length d) 16) d)
+    (cond (formOf (f .rtype) .named) (withName p (f .rdata) d (formOf (f .rtype) .before))
+    (rdata d))))
+
+-- the rdata of a record as it lies in a packet; bytes past the packet's end are none
+unfoldable pub rdataAt : List ℕ → RecordAt → Rdata
+rdataAt p f = cond (leb (f .rdata + f .rdlength) (length p)) (rdataIn p f (take (f .rdlength) (drop (f .rdata) p))) unfit

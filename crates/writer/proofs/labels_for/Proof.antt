@@ -5,21 +5,17 @@ use Rattle.writer.proofs.labels_for.Statement.{statement}
 use Rattle.writer.proofs.labels_for.Tie as tie
 use Rattle.writer.proofs.labels_for.Reads as reads
 use Rattle.writer.proofs.labels_for.Lts as lts
+use Rattle.wire.proofs.rdata.form_of.Reads as form-of-reads
 use Rattle.writer.proofs.labels_in.Reads as labels-in-reads
-use Rattle.writer.proofs.names_in.Reads as names-in-reads
-use Rattle.writer.proofs.target_in.Reads as target-in-reads
 
-names-in-requires : tie.Need-names-in-requires
-names-in-requires c κs = search needs
+form-of-requires : tie.Need-form-of-requires
+form-of-requires c κs = search needs
 
 returns : tie.Need-returns
-returns c = no-labels _ _ _ (c .before .names-in .ensures) (not-true _ (c .if1 .taken))
-
-target-in-requires : tie.Need-target-in-requires
-target-in-requires c κs = search needs
+returns c = no-labels _ _ _ (c .before .before .form-of .ensures) (not-true _ (c .if1 .taken))
 
 returns-2 : tie.Need-returns-2
-returns-2 c = none-there _ _ _ (c .before .before .before .names-in .ensures) (not-false _ (c .before .before .if1 .left)) _ (c .before .target-in .ensures) (c .if2 .taken)
+returns-2 c = none-there _ _ _ (c .before .before .before .form-of .ensures) (not-false _ (c .before .if1 .left)) (c .if2 .taken)
 
 sub-labels-in : tie.Need-sub-labels-in
 sub-labels-in c = search needs
@@ -34,15 +30,14 @@ labels-in-requires : tie.Need-labels-in-requires
 labels-in-requires c κs = search needs
 
 returns-3 : tie.Need-returns-3
-returns-3 c = by-labels _ _ _ (c .before .before .before .before .before .names-in .ensures) (not-false _ (c .before .before .before .before .if1 .left)) _ (c .before .before .before .target-in .ensures) _ (c .labels-in .ensures)
+returns-3 c = by-labels _ _ _ (c .before .before .before .before .before .form-of .ensures) (not-false _ (c .before .before .before .if1 .left)) _ (c .labels-in .ensures)
 
 pub labels-for-spec : {M : Type 1} → statement M
 labels-for-spec =
     tie.close
     (tie.spec
-    names-in-requires
+    form-of-requires
     returns
-    target-in-requires
     returns-2
     sub-labels-in
     part-labels-in-start

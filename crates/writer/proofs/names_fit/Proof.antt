@@ -5,21 +5,17 @@ use Rattle.writer.proofs.names_fit.Statement.{statement}
 use Rattle.writer.proofs.names_fit.Tie as tie
 use Rattle.writer.proofs.names_fit.Reads as reads
 use Rattle.writer.proofs.names_fit.Lts as lts
-use Rattle.writer.proofs.names_in.Reads as names-in-reads
-use Rattle.writer.proofs.target_in.Reads as target-in-reads
 use Rattle.wire.proofs.names.is_name.Reads as is-name-reads
+use Rattle.wire.proofs.rdata.form_of.Reads as form-of-reads
 
-names-in-requires : tie.Need-names-in-requires
-names-in-requires c κs = search needs
+form-of-requires : tie.Need-form-of-requires
+form-of-requires c κs = search needs
 
 returns : tie.Need-returns
-returns c = no-name _ _ _ (c .before .names-in .ensures) (not-true _ (c .if1 .taken))
-
-target-in-requires : tie.Need-target-in-requires
-target-in-requires c κs = search needs
+returns c = no-name _ _ _ (c .before .before .form-of .ensures) (not-true _ (c .if1 .taken))
 
 returns-2 : tie.Need-returns-2
-returns-2 c = too-short _ _ _ (c .before .before .before .names-in .ensures) (not-false _ (c .before .before .if1 .left)) _ (c .before .target-in .ensures) (c .if2 .taken)
+returns-2 c = too-short _ _ _ (c .before .before .before .form-of .ensures) (not-false _ (c .before .if1 .left)) (c .if2 .taken)
 
 sub-is-name : tie.Need-sub-is-name
 sub-is-name c = search needs
@@ -34,15 +30,14 @@ is-name-requires : tie.Need-is-name-requires
 is-name-requires c κs = search needs
 
 returns-3 : tie.Need-returns-3
-returns-3 c = by-name _ _ _ (c .before .before .before .before .before .names-in .ensures) (not-false _ (c .before .before .before .before .if1 .left)) _ (c .before .before .before .target-in .ensures) (c .before .before .if2 .left) _ (c .is-name .ensures)
+returns-3 c = by-name _ _ _ (c .before .before .before .before .before .form-of .ensures) (not-false _ (c .before .before .before .if1 .left)) (c .before .before .if2 .left) _ (c .is-name .ensures)
 
 pub names-fit-spec : {M : Type 1} → statement M
 names-fit-spec =
     tie.close
     (tie.spec
-    names-in-requires
+    form-of-requires
     returns
-    target-in-requires
     returns-2
     sub-is-name
     part-is-name-start

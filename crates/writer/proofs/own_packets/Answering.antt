@@ -10,8 +10,11 @@ use lib.Seq.{sets, sets-eq, length-sets, length-take-le, drop-at, drop-drop}
 use lib.Dec.{eqb}
 use Rattle.writer.specs.compression.Compression.{labelsIn}
 use Rattle.own.specs.declared.records.Setup.{Setup}
-use Rattle.own.specs.declared.records.Own.{Own}
-use Rattle.own.specs.declared.records.Claim.{Claim}
+use Rattle.claims.specs.records.Own.{recordAt, firstOf}
+use Rattle.claims.specs.declared.records.Claim.{Claim}
+use Rattle.claims.specs.declared.records.Own.{Own}
+use Rattle.claims.specs.declared.records.Set.{Set}
+use Rattle.own.specs.declared.records.OwnBytes.{OwnBytes}
 use Rattle.own.specs.records.Setups.{validSetup}
 use Rattle.own.specs.records.Records.{ownOf, ownName}
 use Rattle.own.proofs.records.Valid.{Valid, valid, own-is-name}
@@ -24,8 +27,8 @@ use Rattle.writer.specs.declared.own_packets.Picked.{Picked}
 use Rattle.writer.specs.declared.own_packets.Written.{Written}
 use Rattle.writer.specs.declared.own_packets.Written.the-variants.{Sent, Nothing, Refused}
 use Rattle.writer.specs.own_packets.Packets.{headerBytes, putAll, packetOf}
-use Rattle.writer.specs.own_packets.Own.{refusalOf, lengthOf, ownRecord, responseRecords, probeRecords, claimIndex, responseOf, probeOf, noneIfEmpty, responsePacket, probePacket, refusal, unlessRefused, sentOf, writtenOf, laidOver}
-use Rattle.writer.specs.own_packets.Ready.{spotAfter, ListReady, Picks}
+use Rattle.writer.specs.own_packets.Own.{refusalOf, lengthOf, ownRecord, responseRecords, probeRecords, responseOf, probeOf, noneIfEmpty, responsePacket, probePacket, refusal, unlessRefused, sentOf, writtenOf, laidOver}
+use Rattle.writer.specs.own_packets.Ready.{spotAfter, ListReady, listed, Picks}
 use Rattle.writer.proofs.own_packets.Owned.{own-front, placed-grown, own-names}
 use Rattle.writer.proofs.own_packets.Room.{response-size, response-labels, probe-size, probe-labels, claim-size, claim-labels}
 
@@ -72,7 +75,7 @@ laid-on v o o₀ o′ n w low k =
     w ∙ ap (λ (l : List ℕ). v ++ l) (ap (λ (q : ℕ). drop q o) t ∙ sym (drop-drop m n o) ∙ ap (drop m) k ∙ drop-drop m n o₀ ∙ ap (λ (q : ℕ). drop q o₀) (sym t))
 
 -- records are only added
-all-low : (s : Setup) (ok : Valid s) (probing : Bool) (w : Writing) (is : List ℕ) → length (w .bytes) ≤ length (putAll putRecord w (map (ownRecord s probing) is) .bytes)
+all-low : (s : Setup) (ok : Valid s) (probing : Bool) (w : Writing) (is : List Own) → length (w .bytes) ≤ length (putAll putRecord w (map (ownRecord s probing) is) .bytes)
 unfolding ownRecord
 all-low s ok probing w [] = omega arith
 all-low s ok probing w (i ∷ is) =
@@ -83,7 +86,7 @@ map-length f [] = refl
 map-length f (x ∷ xs) = ap suc (map-length f xs)
 
 -- the packets as the code writes them
-response-bytes : (s : Setup) (chosen : List Bool)
+response-bytes : (s : Setup) (chosen : Set)
     → responsePacket s chosen
     ≡ noneIfEmpty (responseRecords s chosen) (putAll putRecord (record { bytes = headerBytes 0 0x8400 0 (length (map (ownRecord s false) (responseRecords s chosen))) 0 0; places = [] }) (map (ownRecord s false) (responseRecords s chosen)) .bytes)
 unfolding responsePacket packetOf responseOf
@@ -91,7 +94,7 @@ response-bytes s chosen = refl
 
 probe-bytes : (s : Setup) (claim : Claim)
     → probePacket s claim
-    ≡ putAll putRecord (putQuestion (record { bytes = headerBytes 0 0 1 0 (length (map (ownRecord s true) (probeRecords s claim))) 0; places = [] }) (questionOf (ownName s (claimIndex claim)) 255 1)) (map (ownRecord s true) (probeRecords s claim)) .bytes
+    ≡ putAll putRecord (putQuestion (record { bytes = headerBytes 0 0 1 0 (length (map (ownRecord s true) (probeRecords s claim))) 0; places = [] }) (questionOf (ownName s (firstOf claim)) 255 1)) (map (ownRecord s true) (probeRecords s claim)) .bytes
 unfolding probePacket packetOf probeOf
 probe-bytes s claim = refl
 
@@ -127,15 +130,15 @@ module _ (s : Setup) (o : List ℕ) where
         held : (pl : List ℕ) → heldIn o₁ pl 12 0 ≡ record { bytes = headerBytes 0 flags nq na nn 0; places = [] }
         held pl = let e : take 12 o₁ ≡ headerBytes 0 flags nq na nn 0 = ap (take 12) laid in λ i. record { bytes = e i; places = [] }
 
-      module _ (chosen : List Bool) (list : Picked) (p : Picks (responseRecords s chosen) list) where
+      module _ (chosen : Set) (list : Picked) (p : Picks (responseRecords s chosen) list) where
         pub empty-nothing : list .n ≡ 0 → Answered (refusal s o) (responsePacket s chosen) o Nothing o
         unfolding responsePacket
         empty-nothing z =
-            let e : responseRecords s chosen ≡ [] = sym (p .those) ∙ ap (λ (k : ℕ). take k (list .order)) z in
-            nothing (refusal s o) (responsePacket s chosen) o accepted (ap (λ (l : List ℕ). noneIfEmpty l (packetOf (responseOf s chosen))) e)
+            let e : responseRecords s chosen ≡ [] = sym (p .those) ∙ ap (λ (k : ℕ). map recordAt (take k (list .order))) z in
+            nothing (refusal s o) (responsePacket s chosen) o accepted (ap (λ (l : List Own). noneIfEmpty l (packetOf (responseOf s chosen))) e)
 
         module _ (o₁ : List ℕ) (w₁ : o₁ ≡ sets o 0 (headerBytes 0 0x8400 0 (list .n) 0 0)) (pl : List ℕ) (l32 : length pl ≡ 32) where
-          pub response-ready : ListReady s (take (list .n) (list .order)) 12 0 o₁ pl
+          pub response-ready : ListReady s (listed list) 12 0 o₁ pl
           response-ready = rw (p .those) (record {
             ok = sym is ∙ t;
             room = omega (arith, response-size s ok chosen, same 0x8400 0 (list .n) 0 o₁ w₁);
@@ -144,21 +147,21 @@ module _ (s : Setup) (o : List ℕ) where
           })
 
           module _ (nz : list .n ≡ 0 → ⊥) (r : Spot) (o₂ pl₂ : List ℕ)
-              (g : Grown (putAll putRecord (heldIn o₁ pl 12 0) (map (ownRecord s false) (take (list .n) (list .order)))) o₁ pl r o₂ pl₂)
+              (g : Grown (putAll putRecord (heldIn o₁ pl 12 0) (map (ownRecord s false) (listed list))) o₁ pl r o₂ pl₂)
             where
               pub response-sent : Answered (refusal s o) (responsePacket s chosen) o (Sent (r .end)) o₂
               response-sent =
                   sent (refusal s o) (responsePacket s chosen) o (r .end) o₂ accepted (omega (arith, low, ap length packet)) (g′ .ended ∙ ap length (sym packet))
                   (laid-on (sum .bytes) o₁ o o₂ 12 (g′ .bytes) low (behind 0x8400 0 (list .n) 0 o₁ w₁) ∙ ap (λ (l : List ℕ). l ++ drop (length l) o) (sym packet))
                 where
-                  is′ : List ℕ
+                  is′ : List Own
                   is′ = responseRecords s chosen
 
                   sum : Writing
                   sum = putAll putRecord (record { bytes = headerBytes 0 0x8400 0 (list .n) 0 0; places = [] }) (map (ownRecord s false) is′)
 
-                  e : putAll putRecord (heldIn o₁ pl 12 0) (map (ownRecord s false) (take (list .n) (list .order))) ≡ sum
-                  e = ap₂ (λ (w : Writing) (l : List ℕ). putAll putRecord w (map (ownRecord s false) l)) (held 0x8400 0 (list .n) 0 o₁ w₁ pl) (p .those)
+                  e : putAll putRecord (heldIn o₁ pl 12 0) (map (ownRecord s false) (listed list)) ≡ sum
+                  e = ap₂ (λ (w : Writing) (l : List Own). putAll putRecord w (map (ownRecord s false) l)) (held 0x8400 0 (list .n) 0 o₁ w₁ pl) (p .those)
 
                   g′ : Grown sum o₁ pl r o₂ pl₂
                   g′ = subst (λ (w : Writing). Grown w o₁ pl r o₂ pl₂) e g
@@ -167,35 +170,35 @@ module _ (s : Setup) (o : List ℕ) where
                   low = all-low s ok false (record { bytes = headerBytes 0 0x8400 0 (list .n) 0 0; places = [] }) is′
 
                   number : length is′ ≡ list .n
-                  number = ap length (sym (p .those)) ∙ length-take-le (list .n) (list .order) (omega (arith, p .few, p .five))
+                  number = ap length (sym (p .those)) ∙ map-length recordAt (take (list .n) (list .order)) ∙ length-take-le (list .n) (list .order) (omega (arith, p .few, p .sized))
 
-                  some : (l : List ℕ) → (length l ≡ 0 → ⊥) → (b : List ℕ) → noneIfEmpty l b ≡ b
+                  some : (l : List Own) → (length l ≡ 0 → ⊥) → (b : List ℕ) → noneIfEmpty l b ≡ b
                   some [] z b = absurd (z refl)
                   some (x ∷ xs) z b = refl
 
                   packet : responsePacket s chosen ≡ sum .bytes
                   packet = response-bytes s chosen ∙ some is′ (λ z. nz (sym number ∙ z)) _ ∙ ap (λ (k : ℕ). putAll putRecord (record { bytes = headerBytes 0 0x8400 0 k 0 0; places = [] }) (map (ownRecord s false) is′) .bytes) (map-length (ownRecord s false) is′ ∙ number)
 
-      module _ (claim : Claim) (list : Picked) (p : Picks (probeRecords s claim) list) (k : ℕ) (ek : k ≡ claimIndex claim) (n : Own) (en : n ≡ ownOf (ownName s k)) (o₁ : List ℕ)
+      module _ (claim : Claim) (list : Picked) (p : Picks (probeRecords s claim) list) (k : Own) (ek : k ≡ firstOf claim) (n : OwnBytes) (en : n ≡ ownOf (ownName s k)) (o₁ : List ℕ)
           (w₁ : o₁ ≡ sets o 0 (headerBytes 0 0 1 0 (list .n) 0)) (pl : List ℕ) (l32 : length pl ≡ 32)
         where
-          name-is : take (n .len) (n .bytes) ≡ ownName s (claimIndex claim)
+          name-is : take (n .len) (n .bytes) ≡ ownName s (firstOf claim)
           name-is = own-front (ownName s k) n en ∙ ap (ownName s) ek
 
           question-fits : questionFits 12 0 (take (n .len) (n .bytes)) (length o₁) (length pl) ≡ true
           unfolding nameFits
           question-fits =
-              let a : 12 + length (ownName s (claimIndex claim)) + 4 ≤ length o₁ = omega (arith, claim-size s ok claim, same 0 1 0 (list .n) o₁ w₁) in
-              let b : 12 + length (ownName s (claimIndex claim)) ≤ 16384 = omega (arith, claim-size s ok claim) in
-              let c : 0 + labelsIn (ownName s (claimIndex claim)) + 0 ≤ length pl = omega (arith, claim-labels s ok claim) in
-              ap (λ (l : List ℕ). nameFits 12 0 l 4 0 (length o₁) (length pl)) name-is ∙ simp (own-is-name s ok (claimIndex claim), le-leb _ _ a, le-leb _ _ b, le-leb _ _ c)
+              let a : 12 + length (ownName s (firstOf claim)) + 4 ≤ length o₁ = omega (arith, claim-size s ok claim, same 0 1 0 (list .n) o₁ w₁) in
+              let b : 12 + length (ownName s (firstOf claim)) ≤ 16384 = omega (arith, claim-size s ok claim) in
+              let c : 0 + labelsIn (ownName s (firstOf claim)) + 0 ≤ length pl = omega (arith, claim-labels s ok claim) in
+              ap (λ (l : List ℕ). nameFits 12 0 l 4 0 (length o₁) (length pl)) name-is ∙ simp (own-is-name s ok (firstOf claim), le-leb _ _ a, le-leb _ _ b, le-leb _ _ c)
 
           module _ (placed : Placed) (o₂ pl₂ : List ℕ)
               (pq : Placing (questionFits 12 0 (take (n .len) (n .bytes)) (length o₁) (length pl)) (putQuestion (heldIn o₁ pl 12 0) (questionOf (take (n .len) (n .bytes)) 255 1)) o₁ pl placed o₂ pl₂) (q : Spot)
               (eq : q ≡ spotAfter placed 12 0) (lo : length o₂ ≡ length o₁) (lp : length pl₂ ≡ length pl)
             where
               abbrev vq : Writing
-              vq = putQuestion (record { bytes = headerBytes 0 0 1 0 (list .n) 0; places = [] }) (questionOf (ownName s (claimIndex claim)) 255 1)
+              vq = putQuestion (record { bytes = headerBytes 0 0 1 0 (list .n) 0; places = [] }) (questionOf (ownName s (firstOf claim)) 255 1)
 
               first : Grown vq o₁ pl q o₂ pl₂
               first =
@@ -204,16 +207,16 @@ module _ (s : Setup) (o : List ℕ) where
 
               first-size : length (vq .bytes) ≤ 109
               first-size =
-                  omega (arith, question-size (record { bytes = headerBytes 0 0 1 0 (list .n) 0; places = [] }) (questionOf (ownName s (claimIndex claim)) 255 1) (own-is-name s ok (claimIndex claim)), claim-size s ok claim)
+                  omega (arith, question-size (record { bytes = headerBytes 0 0 1 0 (list .n) 0; places = [] }) (questionOf (ownName s (firstOf claim)) 255 1) (own-is-name s ok (firstOf claim)), claim-size s ok claim)
 
               first-count : length (vq .places) ≤ 4
               first-count =
-                  omega (arith, question-count (record { bytes = headerBytes 0 0 1 0 (list .n) 0; places = [] }) (questionOf (ownName s (claimIndex claim)) 255 1), claim-labels s ok claim)
+                  omega (arith, question-count (record { bytes = headerBytes 0 0 1 0 (list .n) 0; places = [] }) (questionOf (ownName s (firstOf claim)) 255 1), claim-labels s ok claim)
 
               first-low : 12 ≤ length (vq .bytes)
-              first-low = question-low (record { bytes = headerBytes 0 0 1 0 (list .n) 0; places = [] }) (questionOf (ownName s (claimIndex claim)) 255 1)
+              first-low = question-low (record { bytes = headerBytes 0 0 1 0 (list .n) 0; places = [] }) (questionOf (ownName s (firstOf claim)) 255 1)
 
-              pub probe-ready : ListReady s (take (list .n) (list .order)) (q .end) (q .count) o₂ pl₂
+              pub probe-ready : ListReady s (listed list) (q .end) (q .count) o₂ pl₂
               probe-ready = rw (p .those) (record {
                 ok = sym is ∙ t;
                 room = omega (arith, first .ended, first-size, probe-size s ok claim, same 0 1 0 (list .n) o₁ w₁);
@@ -221,20 +224,20 @@ module _ (s : Setup) (o : List ℕ) where
                 slots = omega (arith, first .counted, first-count, probe-labels s ok claim);
               })
 
-              module _ (r : Spot) (o₃ pl₃ : List ℕ) (g : Grown (putAll putRecord (heldIn o₂ pl₂ (q .end) (q .count)) (map (ownRecord s true) (take (list .n) (list .order)))) o₂ pl₂ r o₃ pl₃) where
+              module _ (r : Spot) (o₃ pl₃ : List ℕ) (g : Grown (putAll putRecord (heldIn o₂ pl₂ (q .end) (q .count)) (map (ownRecord s true) (listed list))) o₂ pl₂ r o₃ pl₃) where
                 pub probe-sent : Answered (refusal s o) (probePacket s claim) o (Sent (r .end)) o₃
                 probe-sent =
                     sent (refusal s o) (probePacket s claim) o (r .end) o₃ accepted (omega (arith, low, first-low, ap length packet)) (g′ .ended ∙ ap length (sym packet))
                     (laid-on (sum .bytes) o₂ o o₃ (length (vq .bytes)) (g′ .bytes) low after ∙ ap (λ (l : List ℕ). l ++ drop (length l) o) (sym packet))
                   where
-                    is′ : List ℕ
+                    is′ : List Own
                     is′ = probeRecords s claim
 
                     sum : Writing
                     sum = putAll putRecord vq (map (ownRecord s true) is′)
 
-                    e : putAll putRecord (heldIn o₂ pl₂ (q .end) (q .count)) (map (ownRecord s true) (take (list .n) (list .order))) ≡ sum
-                    e = ap₂ (λ (w : Writing) (l : List ℕ). putAll putRecord w (map (ownRecord s true) l)) (held-so vq o₁ pl q o₂ pl₂ first) (p .those)
+                    e : putAll putRecord (heldIn o₂ pl₂ (q .end) (q .count)) (map (ownRecord s true) (listed list)) ≡ sum
+                    e = ap₂ (λ (w : Writing) (l : List Own). putAll putRecord w (map (ownRecord s true) l)) (held-so vq o₁ pl q o₂ pl₂ first) (p .those)
 
                     g′ : Grown sum o₂ pl₂ r o₃ pl₃
                     g′ = subst (λ (w : Writing). Grown w o₂ pl₂ r o₃ pl₃) e g
@@ -248,9 +251,9 @@ module _ (s : Setup) (o : List ℕ) where
                         ∙ drop-at (vq .bytes) (drop (length (vq .bytes)) o) (length (vq .bytes)) refl
 
                     number : length is′ ≡ list .n
-                    number = ap length (sym (p .those)) ∙ length-take-le (list .n) (list .order) (omega (arith, p .few, p .five))
+                    number = ap length (sym (p .those)) ∙ map-length recordAt (take (list .n) (list .order)) ∙ length-take-le (list .n) (list .order) (omega (arith, p .few, p .sized))
 
                     packet : probePacket s claim ≡ sum .bytes
                     packet =
                         probe-bytes s claim
-                        ∙ ap (λ (m : ℕ). putAll putRecord (putQuestion (record { bytes = headerBytes 0 0 1 0 m 0; places = [] }) (questionOf (ownName s (claimIndex claim)) 255 1)) (map (ownRecord s true) is′) .bytes) (map-length (ownRecord s true) is′ ∙ number)
+                        ∙ ap (λ (m : ℕ). putAll putRecord (putQuestion (record { bytes = headerBytes 0 0 1 0 m 0; places = [] }) (questionOf (ownName s (firstOf claim)) 255 1)) (map (ownRecord s true) is′) .bytes) (map-length (ownRecord s true) is′ ∙ number)

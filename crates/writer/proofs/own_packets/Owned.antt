@@ -1,27 +1,30 @@
 -- Own records into a packet: one of them, and a list of them one after the other. Assumes nothing.
 use mathlib.Core.Path.{_≡_, refl, sym, ap, ap₂, _∙_, subst}
 use mathlib.Core.List.{List, [], _∷_, _++_, map}
-use mathlib.Core.Bool.{Bool, true, false, cond}
+use mathlib.Core.Bool.{Bool, true}
 use Prim.Native.Nat.{ℕ, _+_, _-_, _<_, _≤_}
 use native.Mathlib.Numerals.{add-one}
 use native.Mathlib.Omega.{arith}
 use borrow.Author.Tests.{le-leb}
-use lib.ListN.{length, getD, take, drop, replicate, length-take, take-append-drop, drop-of-length-le}
-use lib.Seq.{sets, take-at, drop-at, drop-cons, length-take-le, drop-drop}
-use lib.Dec.{eqb}
+use lib.ListN.{length, getD, take, drop, replicate, length-take, take-append-drop, drop-of-length-le, length-map, List·getD-map}
+use lib.Seq.{sets, getD-take, take-at, drop-at, drop-cons, length-take-le, drop-drop}
 use Rattle.wire.specs.labels.Labels.{encode}
 use Rattle.wire.proofs.labels.Encoded.{is-name}
 use Rattle.writer.specs.compression.Compression.{labelsIn}
 use Rattle.wire.specs.message.Message.{Record}
 use Rattle.own.specs.declared.records.Setup.{Setup}
-use Rattle.own.specs.declared.records.Own.{Own}
+use Rattle.claims.specs.records.Own.{recordAt, ownType, ownTtl}
+use Rattle.claims.specs.declared.records.Own.{Own}
+use Rattle.claims.specs.declared.records.Own.the-variants.{Ptr, Srv, Txt, A, Aaaa}
+use Rattle.own.specs.declared.records.OwnBytes.{OwnBytes}
 use Rattle.own.specs.records.Setups.{validSetup, instanceLabels}
-use Rattle.own.specs.records.Records.{ownOf, ownName, ownType, ownTtl, ownRdata, srvRdata}
+use Rattle.own.specs.records.Records.{ownOf, ownName, ownRdata, srvRdata}
 use Rattle.own.proofs.records.Valid.{Valid, valid, instance-name, host-name, own-is-name}
 use Rattle.writer.specs.declared.Spot.{Spot}
 use Rattle.writer.specs.declared.Placed.{Placed}
 use Rattle.writer.specs.Items.{Writing, u16, putRecord}
-use Rattle.writer.specs.Writer.{heldIn, spotOf, recordOf, namesFit, labelsFor, nameFits, recordFits, Placing, Grown}
+use Rattle.wire.specs.message.Message.{recordOf}
+use Rattle.writer.specs.Writer.{heldIn, spotOf, namesFit, labelsFor, nameFits, recordFits, Placing, Grown}
 use Rattle.writer.proofs.Use.{is-done, is-grown, record-size, record-count, record-low, places-low, held-so}
 use Rattle.writer.specs.own_packets.Packets.{headerBytes, putAll}
 use Rattle.writer.specs.own_packets.Own.{classIn, ownRecord}
@@ -38,12 +41,12 @@ six o a b c d e f o₁ o₂ o₃ o₄ o₅ o₆ h₁ h₂ h₃ h₄ h₅ h₆ =
     h₆ ∙ ap (λ (m : List ℕ). sets m 10 (u16 f)) s₅
 
 -- the front of own bytes
-module _ (bs : List ℕ) (r : Own) (e : r ≡ ownOf bs) where
+module _ (bs : List ℕ) (r : OwnBytes) (e : r ≡ ownOf bs) where
   pub own-front : take (r .len) (r .bytes) ≡ bs
-  own-front = ap (λ (x : Own). take (x .len) (x .bytes)) e ∙ take-at bs (replicate (400 - length bs) 0) (length bs) refl
+  own-front = ap (λ (x : OwnBytes). take (x .len) (x .bytes)) e ∙ take-at bs (replicate (400 - length bs) 0) (length bs) refl
 
   pub own-long : r .len ≡ length (take (r .len) (r .bytes))
-  own-long = ap (λ (x : Own). x .len) e ∙ ap length (sym own-front)
+  own-long = ap (λ (x : OwnBytes). x .len) e ∙ ap length (sym own-front)
 
   pub own-fits : r .len ≤ length (r .bytes)
   own-fits = omega (arith, own-long, length-take (r .len) (r .bytes))
@@ -55,19 +58,15 @@ placed-grown fits v o pl placed o′ pl′ p t at count r e =
     subst (λ (x : Spot). Grown v o pl x o′ pl′) (sym (e ∙ ap (λ (x : Placed). spotAfter x at count) (is-done fits v o pl placed o′ pl′ p t))) (is-grown fits v o pl placed o′ pl′ p t)
 
 -- an own record has the names that its type asks for
-pub own-names : (s : Setup) → Valid s → (i : ℕ) → namesFit (ownType i) (ownRdata s i) ≡ true
-unfolding namesFit ownType ownRdata srvRdata
-own-names s ok i = go (eqb i 0) (eqb i 1) (eqb i 2) (eqb i 3)
-  where
-    go : (a b c d : Bool)
-        → namesFit (cond a 12 (cond b 33 (cond c 16 (cond d 1 28)))) (cond a (encode (instanceLabels s)) (cond b (srvRdata s) (cond c (take (s .txt .len) (s .txt .bytes)) (cond d (s .a) (s .aaaa))))) ≡ true
-    go true b c d = let k : 0 ≤ length (encode (instanceLabels s)) = omega arith in simp (le-leb 0 (length (encode (instanceLabels s))) k) (is-name (instance-name s ok))
-    go false true c d = let k : 6 ≤ length (srvRdata s) = omega arith in simp (le-leb 6 (length (srvRdata s)) k) (is-name (host-name s ok))
-    go false false true d = refl
-    go false false false true = refl
-    go false false false false = refl
+pub own-names : (s : Setup) → Valid s → (o : Own) → namesFit (ownType o) (ownRdata s o) ≡ true
+unfolding namesFit ownRdata srvRdata
+own-names s ok Ptr = let k : 0 ≤ length (encode (instanceLabels s)) = omega arith in simp (le-leb 0 (length (encode (instanceLabels s))) k) (is-name (instance-name s ok))
+own-names s ok Srv = let k : 6 ≤ length (srvRdata s) = omega arith in simp (le-leb 6 (length (srvRdata s)) k) (is-name (host-name s ok))
+own-names s ok Txt = refl
+own-names s ok A = refl
+own-names s ok Aaaa = refl
 
-module _ (s : Setup) (i at count : ℕ) (o pl : List ℕ) (ready : OwnReady s i at count o pl) where
+module _ (s : Setup) (i : Own) (at count : ℕ) (o pl : List ℕ) (ready : OwnReady s i at count o pl) where
   pub fits : recordFits at count (ownName s i) (ownType i) (ownRdata s i) (length o) (length pl) ≡ true
   unfolding recordFits nameFits
   fits =
@@ -78,7 +77,7 @@ module _ (s : Setup) (i at count : ℕ) (o pl : List ℕ) (ready : OwnReady s i 
       let d : count + labelsIn (ownName s i) + labelsFor (ownType i) (ownRdata s i) ≤ length pl = omega (arith, ready .slots) in
       simp (own-names s ok i, le-leb _ _ a, own-is-name s ok i, le-leb _ _ b, le-leb _ _ c, le-leb _ _ d)
 
-  module _ (n d : Own) (en : n ≡ ownOf (ownName s i)) (ed : d ≡ ownOf (ownRdata s i)) (k : ℕ) (ek : k ≡ ownType i) where
+  module _ (n d : OwnBytes) (en : n ≡ ownOf (ownName s i)) (ed : d ≡ ownOf (ownRdata s i)) (k : ℕ) (ek : k ≡ ownType i) where
     record-fits : recordFits at count (take (n .len) (n .bytes)) k (take (d .len) (d .bytes)) (length o) (length pl) ≡ true
     record-fits =
         (λ j. recordFits at count (own-front (ownName s i) n en j) (ek j) (own-front (ownRdata s i) d ed j) (length o) (length pl)) ∙ fits
@@ -93,7 +92,7 @@ module _ (s : Setup) (i at count : ℕ) (o pl : List ℕ) (ready : OwnReady s i 
         subst (λ (x : Record). Grown (putRecord (heldIn o pl at count) x) o pl r o′ pl′) e (placed-grown _ _ o pl placed o′ pl′ p record-fits at count r er)
 
 -- The list from `j` on is still to be written: then the packet is `v`. What stands behind the packet is as it was.
-pub record Going (s : Setup) (probing : Bool) (is : List ℕ) (v : Writing) (o₀ pl₀ o pl : List ℕ) (at count j : ℕ) : Type 0 where
+pub record Going (s : Setup) (probing : Bool) (is : List Own) (v : Writing) (o₀ pl₀ o pl : List ℕ) (at count j : ℕ) : Type 0 where
   pub rest : putAll putRecord (heldIn o pl at count) (map (ownRecord s probing) (drop j is)) ≡ v
   pub kept : drop at o ≡ drop at o₀
   pub noted : drop count pl ≡ drop count pl₀
@@ -103,17 +102,17 @@ pub record Going (s : Setup) (probing : Bool) (is : List ℕ) (v : Writing) (o�
   pub small : at + sizes s (drop j is) ≤ 16384
   pub slots : count + labelCounts s (drop j is) ≤ length pl₀
 
-pub going : (s : Setup) (probing : Bool) (is o pl : List ℕ) (at count : ℕ) → ListReady s is at count o pl
+pub going : (s : Setup) (probing : Bool) (is : List Own) (o pl : List ℕ) (at count : ℕ) → ListReady s is at count o pl
     → Going s probing is (putAll putRecord (heldIn o pl at count) (map (ownRecord s probing) is)) o pl o pl at count 0
 going s probing is o pl at count ready = record { rest = refl; kept = refl; noted = refl; same = refl; table = refl; room = ready .room; small = ready .small; slots = ready .slots }
 
-module _ (s : Setup) (probing : Bool) (is : List ℕ) (v : Writing) (o₀ pl₀ o pl : List ℕ) (at count j : ℕ) (g : Going s probing is v o₀ pl₀ o pl at count j) where
+module _ (s : Setup) (probing : Bool) (is : List Own) (v : Writing) (o₀ pl₀ o pl : List ℕ) (at count j : ℕ) (g : Going s probing is v o₀ pl₀ o pl at count j) where
   -- nothing is left
   pub gone : length is ≤ j → Grown v o₀ pl₀ (spotOf at count) o pl
   unfolding sizes labelCounts
   gone h =
       let none : drop j is ≡ [] = drop-of-length-le is h in
-      let held : heldIn o pl at count ≡ v = ap (λ (l : List ℕ). putAll putRecord (heldIn o pl at count) (map (ownRecord s probing) l)) (sym none) ∙ g .rest in
+      let held : heldIn o pl at count ≡ v = ap (λ (l : List Own). putAll putRecord (heldIn o pl at count) (map (ownRecord s probing) l)) (sym none) ∙ g .rest in
       let a : take at o ≡ v .bytes = ap (λ (w : Writing). w .bytes) held in
       let b : take count pl ≡ v .places = ap (λ (w : Writing). w .places) held in
       let la : length (take at o) ≡ at = length-take-le at o (omega (arith, g .room, g .same)) in
@@ -128,18 +127,18 @@ module _ (s : Setup) (probing : Bool) (is : List ℕ) (v : Writing) (o₀ pl₀ 
       }
 
   module _ (ok : validSetup s ≡ true) (h : j < length is) where
-    front : drop j is ≡ getD is j 0 ∷ drop (j + 1) is
-    front = drop-cons is j 0 h ∙ ap (λ (k : ℕ). getD is j 0 ∷ drop k is) (sym (add-one j))
+    front : drop j is ≡ getD is j Ptr ∷ drop (j + 1) is
+    front = drop-cons is j Ptr h ∙ ap (λ (k : ℕ). getD is j Ptr ∷ drop k is) (sym (add-one j))
 
-    size-front : sizes s (drop j is) ≡ sizeOf s (getD is j 0) + sizes s (drop (j + 1) is)
+    size-front : sizes s (drop j is) ≡ sizeOf s (getD is j Ptr) + sizes s (drop (j + 1) is)
     unfolding sizes
     size-front = ap (sizes s) front
 
-    count-front : labelCounts s (drop j is) ≡ labelsOf s (getD is j 0) + labelCounts s (drop (j + 1) is)
+    count-front : labelCounts s (drop j is) ≡ labelsOf s (getD is j Ptr) + labelCounts s (drop (j + 1) is)
     unfolding labelCounts
     count-front = ap (labelCounts s) front
 
-    module _ (x : ℕ) (ex : x ≡ getD is j 0) where
+    module _ (x : Own) (ex : x ≡ getD is j Ptr) where
       pub own-ready : OwnReady s x at count o pl
       own-ready = rw ex (record {
         ok = ok;
@@ -153,7 +152,7 @@ module _ (s : Setup) (probing : Bool) (is : List ℕ) (v : Writing) (o₀ pl₀ 
           → Going s probing is v o₀ pl₀ o′ pl′ (r .end) (r .count) (j + 1)
       unfolding ownRecord
       step r o′ pl′ w lo lp = record {
-        rest = ap (λ (u : Writing). putAll putRecord u (map (ownRecord s probing) (drop (j + 1) is))) (held-so v₁ o pl r o′ pl′ w ∙ ap (λ (k : ℕ). putRecord (heldIn o pl at count) (ownRecord s probing k)) ex) ∙ ap (λ (l : List ℕ). putAll putRecord (heldIn o pl at count) (map (ownRecord s probing) l)) (sym front) ∙ g .rest;
+        rest = ap (λ (u : Writing). putAll putRecord u (map (ownRecord s probing) (drop (j + 1) is))) (held-so v₁ o pl r o′ pl′ w ∙ ap (λ (k : Own). putRecord (heldIn o pl at count) (ownRecord s probing k)) ex) ∙ ap (λ (l : List Own). putAll putRecord (heldIn o pl at count) (map (ownRecord s probing) l)) (sym front) ∙ g .rest;
         kept = behind at o o₀ (v₁ .bytes) o′ (r .end) (w .bytes) (w .ended) low (g .kept);
         noted = behind count pl pl₀ (v₁ .places) pl′ (r .count) (w .places) (w .counted) low-places (g .noted);
         same = lo ∙ g .same;
@@ -181,10 +180,10 @@ module _ (s : Setup) (probing : Bool) (is : List ℕ) (v : Writing) (o₀ pl₀ 
           counts : length (v₁ .places) ≤ length (take count pl) + labelsOf s x
           counts = record-count (heldIn o pl at count) (ownRecord s probing x) (own-is-name s ok′ x) (own-names s ok′ x)
 
-          same-size : sizeOf s x ≡ sizeOf s (getD is j 0)
+          same-size : sizeOf s x ≡ sizeOf s (getD is j Ptr)
           same-size = ap (sizeOf s) ex
 
-          same-count : labelsOf s x ≡ labelsOf s (getD is j 0)
+          same-count : labelsOf s x ≡ labelsOf s (getD is j Ptr)
           same-count = ap (labelsOf s) ex
 
           low : at ≤ length (v₁ .bytes)
@@ -198,3 +197,11 @@ module _ (s : Setup) (probing : Bool) (is : List ℕ) (v : Writing) (o₀ pl₀ 
               let m : ℕ = length b - n in
               let t : length b ≡ n + m = omega arith in
               ap₂ drop ee w ∙ drop-at b (drop (length b) l) (length b) refl ∙ ap (λ (q : ℕ). drop q l) t ∙ sym (drop-drop m n l) ∙ ap (drop m) k ∙ drop-drop m n l₀ ∙ ap (λ (q : ℕ). drop q l₀) (sym t ∙ sym ee)
+
+-- the record of the index at a place of the order
+pub listed-at : (order : List ℕ) (n j : ℕ) (x : Own) → x ≡ recordAt (getD order j 0) → j < n → x ≡ getD (map recordAt (take n order)) j Ptr
+unfolding recordAt
+listed-at order n j x e h = e ∙ sym (List·getD-map recordAt (take n order) j 0 ∙ ap recordAt (getD-take n order j 0 h))
+
+pub listed-length : (order : List ℕ) (n : ℕ) → n ≤ length order → length (map recordAt (take n order)) ≡ n
+listed-length order n h = length-map (take n order) recordAt ∙ length-take-le n order h

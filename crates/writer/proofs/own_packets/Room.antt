@@ -4,22 +4,27 @@ use mathlib.Core.List.{List, [], _∷_}
 use mathlib.Core.Bool.{Bool, true, false, cond, _&&_}
 use Prim.Native.Nat.{ℕ, _+_, _-_, _≤_}
 use native.Mathlib.Omega.{arith}
-use lib.ListN.{length, getD}
+use lib.ListN.{length}
 use Rattle.wire.specs.labels.Labels.{encode}
 use Rattle.writer.specs.compression.Compression.{labelsIn}
 use Rattle.writer.proofs.compression.Written.{labels-in}
+use Rattle.claims.specs.records.Own.{all, ownType, firstOf, claimed, has}
+use Rattle.claims.specs.records.Sets.{picked}
+use Rattle.claims.specs.declared.records.Claim.{Claim}
+use Rattle.claims.specs.declared.records.Claim.the-variants.{Instance, Host}
+use Rattle.claims.specs.declared.records.Own.{Own}
+use Rattle.claims.specs.declared.records.Own.the-variants.{Ptr, Srv, Txt, A, Aaaa}
+use Rattle.claims.specs.declared.records.Set.{Set}
 use Rattle.own.specs.declared.records.Setup.{Setup}
-use Rattle.own.specs.declared.records.Claim.{Claim}
-use Rattle.own.specs.declared.records.Claim.the-variants.{Instance, Host}
 use Rattle.own.specs.records.Setups.{serviceLabels, instanceLabels, hostLabels}
-use Rattle.own.specs.records.Records.{hasRecord, ownLabels, ownName, ownType, ownRdata, srvRdata}
+use Rattle.own.specs.records.Records.{hasRecord, ownLabels, ownName, ownRdata, srvRdata}
 use Rattle.own.proofs.records.Valid.{Valid, service-most, instance-most, host-most, service-name, instance-name, host-name}
 use Rattle.writer.specs.Writer.{labelsFor}
-use Rattle.writer.specs.own_packets.Own.{picked, responseRecords, probeRecords, claimIndex}
+use Rattle.writer.specs.own_packets.Own.{responseRecords, probeRecords}
 use Rattle.writer.specs.own_packets.Ready.{sizeOf, labelsOf, sizes, labelCounts}
 
 -- picking leaves out
-sizes-picked : (s : Setup) (f : ℕ → Bool) (is : List ℕ) → sizes s (picked f is) ≤ sizes s is
+sizes-picked : (s : Setup) (f : Own → Bool) (is : List Own) → sizes s (picked f is) ≤ sizes s is
 unfolding sizes picked
 sizes-picked s f [] = omega arith
 sizes-picked s f (i ∷ is) = go (f i) (sizes-picked s f is)
@@ -28,7 +33,7 @@ sizes-picked s f (i ∷ is) = go (f i) (sizes-picked s f is)
     go true h = omega arith
     go false h = omega arith
 
-labels-picked : (s : Setup) (f : ℕ → Bool) (is : List ℕ) → labelCounts s (picked f is) ≤ labelCounts s is
+labels-picked : (s : Setup) (f : Own → Bool) (is : List Own) → labelCounts s (picked f is) ≤ labelCounts s is
 unfolding labelCounts picked
 labels-picked s f [] = omega arith
 labels-picked s f (i ∷ is) = go (f i) (labels-picked s f is)
@@ -38,23 +43,23 @@ labels-picked s f (i ∷ is) = go (f i) (labels-picked s f is)
     go false h = omega arith
 
 module _ (s : Setup) (ok : Valid s) where
-  ptr-size : sizeOf s 0 ≤ 132
+  ptr-size : sizeOf s Ptr ≤ 132
   unfolding ownName ownLabels ownRdata
   ptr-size = omega (arith, service-most s ok, instance-most s ok)
 
-  srv-size : sizeOf s 1 ≤ 180
+  srv-size : sizeOf s Srv ≤ 180
   unfolding ownName ownLabels ownRdata srvRdata
   srv-size = omega (arith, instance-most s ok, host-most s ok)
 
-  txt-size : sizeOf s 2 ≤ 503
+  txt-size : sizeOf s Txt ≤ 503
   unfolding ownName ownLabels ownRdata
   txt-size = omega (arith, instance-most s ok, ok .txt .1)
 
-  a-size : sizeOf s 3 ≤ 85
+  a-size : sizeOf s A ≤ 85
   unfolding ownName ownLabels ownRdata
   a-size = omega (arith, host-most s ok, ok .four)
 
-  aaaa-size : sizeOf s 4 ≤ 97
+  aaaa-size : sizeOf s Aaaa ≤ 97
   unfolding ownName ownLabels ownRdata
   aaaa-size = omega (arith, host-most s ok, ok .sixteen)
 
@@ -70,51 +75,51 @@ module _ (s : Setup) (ok : Valid s) where
   unfolding hostLabels
   host-labels = labels-in 0 (host-name s ok .labels)
 
-  ptr-labels : labelsOf s 0 ≡ 7
-  unfolding ownName ownLabels ownRdata ownType labelsFor
+  ptr-labels : labelsOf s Ptr ≡ 7
+  unfolding ownName ownLabels ownRdata labelsFor
   ptr-labels = omega (arith, service-labels, instance-labels)
 
-  srv-labels : labelsOf s 1 ≡ 6
-  unfolding ownName ownLabels ownRdata ownType labelsFor srvRdata
+  srv-labels : labelsOf s Srv ≡ 6
+  unfolding ownName ownLabels ownRdata labelsFor srvRdata
   srv-labels = omega (arith, instance-labels, host-labels)
 
-  txt-labels : labelsOf s 2 ≡ 4
-  unfolding ownName ownLabels ownRdata ownType labelsFor
+  txt-labels : labelsOf s Txt ≡ 4
+  unfolding ownName ownLabels ownRdata labelsFor
   txt-labels = omega (arith, instance-labels)
 
-  a-labels : labelsOf s 3 ≡ 2
-  unfolding ownName ownLabels ownRdata ownType labelsFor
+  a-labels : labelsOf s A ≡ 2
+  unfolding ownName ownLabels ownRdata labelsFor
   a-labels = omega (arith, host-labels)
 
-  aaaa-labels : labelsOf s 4 ≡ 2
-  unfolding ownName ownLabels ownRdata ownType labelsFor
+  aaaa-labels : labelsOf s Aaaa ≡ 2
+  unfolding ownName ownLabels ownRdata labelsFor
   aaaa-labels = omega (arith, host-labels)
 
   -- all five, with their names whole
-  pub response-size : (chosen : List Bool) → sizes s (responseRecords s chosen) ≤ 997
+  pub response-size : (chosen : Set) → sizes s (responseRecords s chosen) ≤ 997
   unfolding responseRecords sizes
-  response-size chosen = omega (arith, sizes-picked s (λ (i : ℕ). getD chosen i false && hasRecord s i) (0 ∷ 1 ∷ 2 ∷ 3 ∷ 4 ∷ []), ptr-size, srv-size, txt-size, a-size, aaaa-size)
+  response-size chosen = omega (arith, sizes-picked s (λ (o : Own). has o chosen && hasRecord s o) all, ptr-size, srv-size, txt-size, a-size, aaaa-size)
 
-  pub response-labels : (chosen : List Bool) → labelCounts s (responseRecords s chosen) ≤ 21
+  pub response-labels : (chosen : Set) → labelCounts s (responseRecords s chosen) ≤ 21
   unfolding responseRecords labelCounts
-  response-labels chosen = omega (arith, labels-picked s (λ (i : ℕ). getD chosen i false && hasRecord s i) (0 ∷ 1 ∷ 2 ∷ 3 ∷ 4 ∷ []), ptr-labels, srv-labels, txt-labels, a-labels, aaaa-labels)
+  response-labels chosen = omega (arith, labels-picked s (λ (o : Own). has o chosen && hasRecord s o) all, ptr-labels, srv-labels, txt-labels, a-labels, aaaa-labels)
 
   pub probe-size : (claim : Claim) → sizes s (probeRecords s claim) ≤ 683
   unfolding probeRecords sizes
-  probe-size Instance = omega (arith, sizes-picked s (hasRecord s) (2 ∷ 1 ∷ []), srv-size, txt-size)
-  probe-size Host = omega (arith, sizes-picked s (hasRecord s) (3 ∷ 4 ∷ []), a-size, aaaa-size)
+  probe-size Instance = omega (arith, sizes-picked s (hasRecord s) (claimed Instance), srv-size, txt-size)
+  probe-size Host = omega (arith, sizes-picked s (hasRecord s) (claimed Host), a-size, aaaa-size)
 
   pub probe-labels : (claim : Claim) → labelCounts s (probeRecords s claim) ≤ 10
   unfolding probeRecords labelCounts
-  probe-labels Instance = omega (arith, labels-picked s (hasRecord s) (2 ∷ 1 ∷ []), srv-labels, txt-labels)
-  probe-labels Host = omega (arith, labels-picked s (hasRecord s) (3 ∷ 4 ∷ []), a-labels, aaaa-labels)
+  probe-labels Instance = omega (arith, labels-picked s (hasRecord s) (claimed Instance), srv-labels, txt-labels)
+  probe-labels Host = omega (arith, labels-picked s (hasRecord s) (claimed Host), a-labels, aaaa-labels)
 
-  pub claim-size : (claim : Claim) → length (ownName s (claimIndex claim)) ≤ 93
+  pub claim-size : (claim : Claim) → length (ownName s (firstOf claim)) ≤ 93
   unfolding ownName ownLabels
   claim-size Instance = instance-most s ok
   claim-size Host = omega (arith, host-most s ok)
 
-  pub claim-labels : (claim : Claim) → labelsIn (ownName s (claimIndex claim)) ≤ 4
+  pub claim-labels : (claim : Claim) → labelsIn (ownName s (firstOf claim)) ≤ 4
   unfolding ownName ownLabels
   claim-labels Instance = omega (arith, instance-labels)
   claim-labels Host = omega (arith, host-labels)

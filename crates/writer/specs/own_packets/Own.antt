@@ -2,47 +2,39 @@
 use Prim.Native.Nat.{ℕ}
 use mathlib.Core.List.{List, [], _∷_, _++_, map}
 use mathlib.Core.Bool.{Bool, true, false, cond, _&&_}
-use lib.ListN.{length, drop, getD}
+use Rattle.claims.specs.records.Own.{all, ownType, ownClass, ownTtl, firstOf, claimed, has}
+use Rattle.claims.specs.records.Sets.{picked}
+use Rattle.claims.specs.declared.records.Claim.{Claim}
+use Rattle.claims.specs.declared.records.Own.{Own}
+use Rattle.claims.specs.declared.records.Set.{Set}
+use lib.ListN.{length, drop}
 use lib.Dec.{ltb, eqb}
 use Rattle.wire.specs.message.Message.{Question, Record, Message}
 use Rattle.own.specs.declared.records.Setup.{Setup}
-use Rattle.own.specs.declared.records.Claim.{Claim}
-use Rattle.own.specs.declared.records.Claim.the-variants.{Instance, Host}
 use Rattle.own.specs.records.Setups.{validSetup}
-use Rattle.own.specs.records.Records.{hasRecord, ownName, ownType, ownClass, ownTtl, ownRdata}
+use Rattle.own.specs.records.Records.{hasRecord, ownName, ownRdata}
 use Rattle.writer.specs.own_packets.Packets.{packetOf}
 use Rattle.writer.specs.declared.own_packets.Written.{Written}
 use Rattle.writer.specs.declared.own_packets.Written.the-variants.{Sent, Nothing, Refused}
 
 -- "class 0x8001, PTR 1" in a response, "class 1" in a probe
-abbrev pub classIn : Bool → ℕ → ℕ
-classIn probing i = cond probing 1 (ownClass i)
+abbrev pub classIn : Bool → Own → ℕ
+classIn probing o = cond probing 1 (ownClass o)
 
--- the own record of an index, in a probe or in a response
-unfoldable pub ownRecord : Setup → Bool → ℕ → Record
-ownRecord s probing i = record { owner = ownName s i; rtype = ownType i; class = classIn probing i; ttl = ownTtl i; rdata = ownRdata s i }
-
--- those of some indices that pass a test
-unfoldable pub picked : (ℕ → Bool) → List ℕ → List ℕ
-picked test [] = []
-picked test (i ∷ is) = cond (test i) (i ∷ picked test is) (picked test is)
+-- an own record, in a probe or in a response
+unfoldable pub ownRecord : Setup → Bool → Own → Record
+ownRecord s probing o = record { owner = ownName s o; rtype = ownType o; class = classIn probing o; ttl = ownTtl o; rdata = ownRdata s o }
 
 -- "Records in responses go in the order PTR, SRV, TXT, A, AAAA": those that are chosen and that the set-up has
-unfoldable pub responseRecords : Setup → List Bool → List ℕ
-responseRecords s chosen = picked (λ i. getD chosen i false && hasRecord s i) (0 ∷ 1 ∷ 2 ∷ 3 ∷ 4 ∷ [])
+unfoldable pub responseRecords : Setup → Set → List Own
+responseRecords s chosen = picked (λ o. has o chosen && hasRecord s o) all
 
--- "the claim's records in Authority, by rising type": TXT (16) and SRV (33), A (1) and AAAA (28)
-unfoldable pub probeRecords : Setup → Claim → List ℕ
-probeRecords s Instance = picked (hasRecord s) (2 ∷ 1 ∷ [])
-probeRecords s Host = picked (hasRecord s) (3 ∷ 4 ∷ [])
-
--- an index whose record the claim's name owns
-abbrev pub claimIndex : Claim → ℕ
-claimIndex Instance = 1
-claimIndex Host = 3
+-- "the claim's records in Authority, by rising type"
+unfoldable pub probeRecords : Setup → Claim → List Own
+probeRecords s claim = picked (hasRecord s) (claimed claim)
 
 -- "ID 0. Responses have flags 0x8400, probes 0."
-unfoldable pub responseOf : Setup → List Bool → Message
+unfoldable pub responseOf : Setup → Set → Message
 responseOf s chosen = record { id = 0; flags = 0x8400; questions = []; answers = map (ownRecord s false) (responseRecords s chosen); authorities = []; additionals = [] }
 
 -- "A probe is one question (type 255, class 1) with the claim's records in Authority .., class 1."
@@ -50,18 +42,18 @@ unfoldable pub probeOf : Setup → Claim → Message
 probeOf s claim = record {
   id = 0;
   flags = 0;
-  questions = record { name = ownName s (claimIndex claim); rtype = 255; class = 1 } ∷ [];
+  questions = record { name = ownName s (firstOf claim); rtype = 255; class = 1 } ∷ [];
   answers = [];
   authorities = map (ownRecord s true) (probeRecords s claim);
   additionals = [];
 }
 
 -- the packet, or none where there is no record to send
-abbrev pub noneIfEmpty : List ℕ → List ℕ → List ℕ
+abbrev pub noneIfEmpty : List Own → List ℕ → List ℕ
 noneIfEmpty [] packet = []
-noneIfEmpty (i ∷ is) packet = packet
+noneIfEmpty (o ∷ os) packet = packet
 
-unfoldable pub responsePacket : Setup → List Bool → List ℕ
+unfoldable pub responsePacket : Setup → Set → List ℕ
 responsePacket s chosen = noneIfEmpty (responseRecords s chosen) (packetOf (responseOf s chosen))
 
 unfoldable pub probePacket : Setup → Claim → List ℕ

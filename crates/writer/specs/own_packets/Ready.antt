@@ -1,13 +1,15 @@
 -- What the private functions that write own records ask for and leave: room for each record with its names whole.
 use Prim.Native.Nat.{ℕ, _+_, _≤_, _<_}
 use mathlib.Core.Path.{_≡_}
-use mathlib.Core.List.{List, [], _∷_}
+use mathlib.Core.List.{List, [], _∷_, map}
 use mathlib.Core.Bool.{true}
 use lib.ListN.{length, take}
 use Rattle.writer.specs.compression.Compression.{labelsIn}
+use Rattle.claims.specs.records.Own.{records, recordAt, ownType}
+use Rattle.claims.specs.declared.records.Own.{Own}
 use Rattle.own.specs.declared.records.Setup.{Setup}
 use Rattle.own.specs.records.Setups.{validSetup}
-use Rattle.own.specs.records.Records.{ownName, ownType, ownRdata}
+use Rattle.own.specs.records.Records.{ownName, ownRdata}
 use Rattle.writer.specs.declared.Spot.{Spot}
 use Rattle.writer.specs.declared.Placed.{Placed}
 use Rattle.writer.specs.declared.Placed.the-variants.{Done, Full}
@@ -29,35 +31,38 @@ spotAfter (Done spot) at count = spot
 spotAfter Full at count = spotOf at count
 
 -- the bytes and the labels of an own record, its names whole
-abbrev pub sizeOf : Setup → ℕ → ℕ
-sizeOf s i = length (ownName s i) + 10 + length (ownRdata s i)
+abbrev pub sizeOf : Setup → Own → ℕ
+sizeOf s o = length (ownName s o) + 10 + length (ownRdata s o)
 
-abbrev pub labelsOf : Setup → ℕ → ℕ
-labelsOf s i = labelsIn (ownName s i) + labelsFor (ownType i) (ownRdata s i)
+abbrev pub labelsOf : Setup → Own → ℕ
+labelsOf s o = labelsIn (ownName s o) + labelsFor (ownType o) (ownRdata s o)
 
 -- those of a list of records
-unfoldable pub sizes : Setup → List ℕ → ℕ
+unfoldable pub sizes : Setup → List Own → ℕ
 sizes s [] = 0
-sizes s (i ∷ is) = sizeOf s i + sizes s is
+sizes s (o ∷ os) = sizeOf s o + sizes s os
 
-unfoldable pub labelCounts : Setup → List ℕ → ℕ
+unfoldable pub labelCounts : Setup → List Own → ℕ
 labelCounts s [] = 0
-labelCounts s (i ∷ is) = labelsOf s i + labelCounts s is
+labelCounts s (o ∷ os) = labelsOf s o + labelCounts s os
 
-pub record OwnReady (s : Setup) (i at count : ℕ) (out places : List ℕ) : Type 0 where
+pub record OwnReady (s : Setup) (o : Own) (at count : ℕ) (out places : List ℕ) : Type 0 where
   pub ok : validSetup s ≡ true
-  pub room : at + sizeOf s i ≤ length out
-  pub small : at + sizeOf s i ≤ 16384
-  pub slots : count + labelsOf s i ≤ length places
+  pub room : at + sizeOf s o ≤ length out
+  pub small : at + sizeOf s o ≤ 16384
+  pub slots : count + labelsOf s o ≤ length places
 
-pub record ListReady (s : Setup) (is : List ℕ) (at count : ℕ) (out places : List ℕ) : Type 0 where
+pub record ListReady (s : Setup) (os : List Own) (at count : ℕ) (out places : List ℕ) : Type 0 where
   pub ok : validSetup s ≡ true
-  pub room : at + sizes s is ≤ length out
-  pub small : at + sizes s is ≤ 16384
-  pub slots : count + labelCounts s is ≤ length places
+  pub room : at + sizes s os ≤ length out
+  pub small : at + sizes s os ≤ 16384
+  pub slots : count + labelCounts s os ≤ length places
 
--- the indices `is`, in an array of five
-pub record Picks (is : List ℕ) (r : Picked) : Type 0 where
-  pub few : r .n ≤ 5
-  pub those : take (r .n) (r .order) ≡ is
-  pub five : length (r .order) ≡ 5
+-- the records of the indices
+abbrev pub listed : Picked → List Own
+listed r = map recordAt (take (r .n) (r .order))
+
+pub record Picks (os : List Own) (r : Picked) : Type 0 where
+  pub few : r .n ≤ records
+  pub those : listed r ≡ os
+  pub sized : length (r .order) ≡ records

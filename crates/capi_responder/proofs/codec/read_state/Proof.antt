@@ -8,8 +8,8 @@ use Rattle.capi_responder.proofs.codec.read_state.Tie as tie
 setup-at-requires : tie.Need-setup-at-requires
 setup-at-requires c κs = search needs
 
-life-at-requires : tie.Need-life-at-requires
-life-at-requires c κs = search needs
+progress-at-requires : tie.Need-progress-at-requires
+progress-at-requires c κs = search needs
 
 returns : tie.Need-returns
 unfolding decode
@@ -24,4 +24,4 @@ returns-2 c = let e : _ = ne-eqb _ stateSize (c .before .if1 .left) in simp e (c
 
 pub read-state-spec : {M : Type 1} → statement M
 read-state-spec =
-    tie.close (tie.spec setup-at-requires life-at-requires returns blank-state-requires returns-2)
+    tie.close (tie.spec setup-at-requires progress-at-requires returns blank-state-requires returns-2)

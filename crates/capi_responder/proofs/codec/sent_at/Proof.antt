@@ -1,38 +1,30 @@
-use Rattle.claims.specs.declared.Sent.the-variants.{Never, At}
+use mathlib.Core.Path.{ap, _∙_}
+use Prim.Native.Nat.{ℕ, _<_}
+use native.Mathlib.Omega.{arith}
+use Rattle.claims.specs.records.Own.{records}
+use Rattle.claims.proofs.records.Sets.{index-low}
 use Rattle.capi_responder.specs.codec.Layout as layout
-use Rattle.capi_responder.specs.codec.Parts.{sentAt}
-use Rattle.capi_responder.proofs.codec.Cases.{time-set, time-unset}
+use Rattle.capi_responder.specs.codec.Parts.{whenAt, sentAt}
 use borrow.Author.Needs.{needs}
 use Rattle.capi_responder.proofs.codec.sent_at.Statement.{statement}
 use Rattle.capi_responder.proofs.codec.sent_at.Tie as tie
 
-mul-at : tie.Need-mul-at
-mul-at c = search needs
+index-of-requires : tie.Need-index-of-requires
+index-of-requires c κs = search needs
 
-add-at : tie.Need-add-at
-add-at c = search needs
+mul-when-at : tie.Need-mul-when-at
+mul-when-at c = let h : c .index-of .result < records = rw (c .index-of .ensures) (index-low (c .before .before .args .o)) in omega arith
 
-flag-requires : tie.Need-flag-requires
-flag-requires c κs = search needs
+add-when-at : tie.Need-add-when-at
+add-when-at c = let h : c .index-of .result < records = rw (c .index-of .ensures) (index-low (c .before .before .args .o)) in omega arith
 
-add-be64 : tie.Need-add-be64
-add-be64 c = search needs
-
-be64-requires : tie.Need-be64-requires
-be64-requires c κs = search needs
+when-at-requires : tie.Need-when-at-requires
+when-at-requires c κs = let h : c .index-of .result < records = rw (c .index-of .ensures) (index-low (c .before .before .args .o)) in omega arith
 
 returns : tie.Need-returns
 unfolding sentAt
-returns c =
-    let a = c .before .before .before .before .args in
-    time-set At Never (a .b .now) (layout.multicast (a .i)) _ (c .before .before .flag .ensures) _ (c .before .if1 .taken) (c .be64 .ensures)
-
-returns-2 : tie.Need-returns-2
-unfolding sentAt
-returns-2 c =
-    let a = c .before .before .before .args in
-    time-unset At Never (a .b .now) (layout.multicast (a .i)) _ (c .before .flag .ensures) (c .if1 .left)
+returns c = c .when-at .ensures ∙ ap (λ (k : ℕ). whenAt (c .before .before .before .args .b .now) (layout.multicast k)) (c .before .index-of .ensures)
 
 pub sent-at-spec : {M : Type 1} → statement M
 sent-at-spec =
-    tie.close (tie.spec mul-at add-at flag-requires add-be64 be64-requires returns returns-2)
+    tie.close (tie.spec index-of-requires mul-when-at add-when-at when-at-requires returns)

@@ -16,7 +16,7 @@ returns : tie.Need-returns
 returns c =
     let e : _ = eq-eqb _ 0 (c .before .if1 .taken) in
     let read = c .before .before .before .read-state .ensures in
-    simp e (c .state-number .ensures ∙ ap (λ (s : State). stateNumber (s .life .instance)) read)
+    simp e (c .state-number .ensures ∙ ap (λ (s : State). stateNumber (s .progress .instance)) read)
 
 state-number-requires-2 : tie.Need-state-number-requires-2
 state-number-requires-2 c κs = search needs
@@ -25,7 +25,7 @@ returns-2 : tie.Need-returns-2
 returns-2 c =
     let e : _ = ne-eqb _ 0 (c .before .if1 .left) in
     let read = c .before .before .before .read-state .ensures in
-    simp e (c .state-number2 .ensures ∙ ap (λ (s : State). stateNumber (s .life .host)) read)
+    simp e (c .state-number2 .ensures ∙ ap (λ (s : State). stateNumber (s .progress .host)) read)
 
 pub kurgashel-claim-spec : {M : Type 1} → statement M
 kurgashel-claim-spec =

@@ -21,12 +21,12 @@ enum-known-time c = search needs
 
 returns : tie.Need-returns
 returns c =
-    let d = ap (λ (s : State). nextDue (s .life)) (c .before .before .before .before .read-state .ensures) in
+    let d = ap (λ (s : State). nextDue (s .progress)) (c .before .before .before .before .read-state .ensures) in
     sym (ap stepFor (sym (c .before .before .next-due .ensures ∙ d) ∙ c .enum-told .given .1))
 
 returns-2 : tie.Need-returns-2
 returns-2 c =
-    let d = ap (λ (s : State). nextDue (s .life)) (c .before .before .before .before .before .read-state .ensures) in
+    let d = ap (λ (s : State). nextDue (s .progress)) (c .before .before .before .before .before .read-state .ensures) in
     sym (ap stepFor (sym (c .before .before .before .next-due .ensures ∙ d) ∙ c .before .time .given .1))
 
 pub kurgashel-due-spec : {M : Type 1} → statement M

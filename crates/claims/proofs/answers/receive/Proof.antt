@@ -12,8 +12,8 @@ after-requires-2 c κs = search needs
 wanted-requires : tie.Need-wanted-requires
 wanted-requires c κs = search needs
 
-without-ptr-requires : tie.Need-without-ptr-requires
-without-ptr-requires c κs = search needs
+at-once-requires : tie.Need-at-once-requires
+at-once-requires c κs = search needs
 
 heard-by-requires : tie.Need-heard-by-requires
 heard-by-requires c κs = search needs
@@ -24,6 +24,9 @@ heard-by-requires-2 c κs = search needs
 mark-all-requires : tie.Need-mark-all-requires
 mark-all-requires c κs = search needs
 
+is-in-requires : tie.Need-is-in-requires
+is-in-requires c κs = search needs
+
 after-requires-3 : tie.Need-after-requires-3
 after-requires-3 c κs = search needs
 
@@ -32,7 +35,7 @@ set-reply-requires c κs = search needs
 
 returns : tie.Need-returns
 unfolding receiveOf
-returns c = simp (c .set-reply .ensures, c .before .after3 .ensures, c .before .before .mark-all .ensures, c .before .before .before .heard-by2 .ensures, c .before .before .before .before .heard-by .ensures, c .before .before .before .before .before .without-ptr .ensures, c .before .before .before .before .before .before .wanted .ensures, c .before .before .before .before .before .before .before .after2 .ensures, c .before .before .before .before .before .before .before .before .after .ensures)
+returns c = simp (c .set-reply .ensures, c .before .after3 .ensures, c .before .before .is-in .ensures, c .before .before .before .mark-all .ensures, c .before .before .before .before .heard-by2 .ensures, c .before .before .before .before .before .heard-by .ensures, c .before .before .before .before .before .before .at-once .ensures, c .before .before .before .before .before .before .before .wanted .ensures, c .before .before .before .before .before .before .before .before .after2 .ensures, c .before .before .before .before .before .before .before .before .before .after .ensures)
 
 pub receive-spec : {M : Type 1} → statement M
 receive-spec =
@@ -41,10 +44,11 @@ receive-spec =
     after-requires
     after-requires-2
     wanted-requires
-    without-ptr-requires
+    at-once-requires
     heard-by-requires
     heard-by-requires-2
     mark-all-requires
+    is-in-requires
     after-requires-3
     set-reply-requires
     returns)

@@ -1,21 +1,60 @@
-use Rattle.claims.specs.answers.Answers.{wantedOf}
+use Rattle.claims.specs.records.Own.{records, recordAt, has, each}
+use Rattle.claims.proofs.records.Filled.{filled, none-filled, next-filled, set-filled}
+use Prim.Native.Nat.{_≤_, _-_}
+use mathlib.Core.Path.{_≡_}
+use mathlib.Core.Bool.{false, _&&_}
+use native.Mathlib.Omega.{arith}
+use Rattle.claims.specs.answers.Answers.{isWanted, wantedOf}
 use borrow.Author.Needs.{needs}
 use Rattle.claims.proofs.answers.wanted.Statement.{statement}
 use Rattle.claims.proofs.answers.wanted.Tie as tie
 
-due-records-requires : tie.Need-due-records-requires
-due-records-requires c κs = search needs
+abbrev Inv-loop : tie.InvT-loop
+Inv-loop progress f now aaaa flags₀ i₀ flags i = (i ≤ records) × (flags ≡ filled false (isWanted progress f now aaaa) i)
 
-omitted-records-requires : tie.Need-omitted-records-requires
-omitted-records-requires c κs = search needs
+abbrev μ-loop : tie.MeasureT-loop
+μ-loop progress f now aaaa flags₀ i₀ flags i = records - i
 
-minus-requires : tie.Need-minus-requires
-minus-requires c κs = search needs
+loop-holds : tie.Need-loop-holds Inv-loop μ-loop
+loop-holds c = (omega arith, none-filled false _)
 
-returns : tie.Need-returns
+record-at-requires : tie.Need-record-at-requires Inv-loop μ-loop
+record-at-requires c κs = search needs
+
+is-wanted-requires : tie.Need-is-wanted-requires Inv-loop μ-loop
+is-wanted-requires c κs = search needs
+
+array-write-flags : tie.Need-array-write-flags Inv-loop μ-loop
+array-write-flags c = search needs
+
+add-i : tie.Need-add-i Inv-loop μ-loop
+add-i c = search needs
+
+loop-less : tie.Need-loop-less Inv-loop μ-loop
+loop-less c = search needs
+
+loop-again : tie.Need-loop-again Inv-loop μ-loop
+loop-again c = (omega arith, next-filled false _ _ _ _ (c .before .before .before .loop .inv .1) (simp (c .is-wanted .ensures, c .before .record-at .ensures)))
+
+set-of-requires : tie.Need-set-of-requires Inv-loop μ-loop
+set-of-requires c κs = search needs
+
+returns : tie.Need-returns Inv-loop μ-loop
 unfolding wantedOf
-returns c = simp (c .minus .ensures, c .before .omitted-records .ensures, c .before .before .due-records .ensures)
+returns c = set-filled _ _ _ _ (c .set-of .ensures) (omega arith) (c .before .before .loop .inv .0) (c .before .before .loop .inv .1)
 
 pub wanted-spec : {M : Type 1} → statement M
 wanted-spec =
-    tie.close (tie.spec due-records-requires omitted-records-requires minus-requires returns)
+    tie.close
+    (tie.spec
+    Inv-loop
+    μ-loop
+    loop-holds
+    record-at-requires
+    is-wanted-requires
+    array-write-flags
+    add-i
+    loop-less
+    loop-again
+    set-of-requires
+    returns)

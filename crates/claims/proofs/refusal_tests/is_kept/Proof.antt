@@ -12,15 +12,15 @@ claim-kept-requires-2 c κs = search needs
 multicasts-kept-requires : tie.Need-multicasts-kept-requires
 multicasts-kept-requires c κs = search needs
 
-reply-kept-requires : tie.Need-reply-kept-requires
-reply-kept-requires c κs = search needs
+is-within-requires : tie.Need-is-within-requires
+is-within-requires c κs = search needs
 
 all-five-requires : tie.Need-all-five-requires
 all-five-requires c κs = search needs
 
 returns : tie.Need-returns
 unfolding kept
-returns c = simp (c .all-five .ensures, c .before .before .before .before .claim-kept .ensures, c .before .before .before .claim-kept2 .ensures, c .before .before .multicasts-kept .ensures, c .before .reply-kept .ensures)
+returns c = simp (c .all-five .ensures, c .before .is-within .ensures, c .before .before .multicasts-kept .ensures, c .before .before .before .claim-kept2 .ensures, c .before .before .before .before .claim-kept .ensures)
 
 pub is-kept-spec : {M : Type 1} → statement M
 is-kept-spec =
@@ -29,6 +29,6 @@ is-kept-spec =
     claim-kept-requires
     claim-kept-requires-2
     multicasts-kept-requires
-    reply-kept-requires
+    is-within-requires
     all-five-requires
     returns)

@@ -1,34 +1,69 @@
-use Rattle.claims.specs.steps.Steps.{unsentOf}
+use Rattle.claims.specs.records.Own.{records, recordAt, has, each}
+use Rattle.claims.proofs.records.Filled.{filled, none-filled, next-filled, set-filled}
+use Prim.Native.Nat.{_≤_, _-_}
+use mathlib.Core.Path.{_≡_}
+use mathlib.Core.Bool.{false, _&&_}
+use native.Mathlib.Omega.{arith}
+use Rattle.claims.specs.Time.{sentOf}
+use Rattle.claims.specs.steps.Steps.{unsent, unsentOf}
 use borrow.Author.Needs.{needs}
 use Rattle.claims.proofs.steps.unsent_of.Statement.{statement}
 use Rattle.claims.proofs.steps.unsent_of.Tie as tie
 
-is-unsent-requires : tie.Need-is-unsent-requires
+abbrev Inv-loop : tie.InvT-loop
+Inv-loop set sent now flags₀ i₀ flags i = (i ≤ records) × (flags ≡ filled false (λ o. unsent (has o set) (sentOf o sent) now) i)
+
+abbrev μ-loop : tie.MeasureT-loop
+μ-loop set sent now flags₀ i₀ flags i = records - i
+
+loop-holds : tie.Need-loop-holds Inv-loop μ-loop
+loop-holds c = (omega arith, none-filled false _)
+
+record-at-requires : tie.Need-record-at-requires Inv-loop μ-loop
+record-at-requires c κs = search needs
+
+is-in-requires : tie.Need-is-in-requires Inv-loop μ-loop
+is-in-requires c κs = search needs
+
+sent-of-requires : tie.Need-sent-of-requires Inv-loop μ-loop
+sent-of-requires c κs = search needs
+
+is-unsent-requires : tie.Need-is-unsent-requires Inv-loop μ-loop
 is-unsent-requires c κs = search needs
 
-is-unsent-requires-2 : tie.Need-is-unsent-requires-2
-is-unsent-requires-2 c κs = search needs
+array-write-flags : tie.Need-array-write-flags Inv-loop μ-loop
+array-write-flags c = search needs
 
-is-unsent-requires-3 : tie.Need-is-unsent-requires-3
-is-unsent-requires-3 c κs = search needs
+add-i : tie.Need-add-i Inv-loop μ-loop
+add-i c = search needs
 
-is-unsent-requires-4 : tie.Need-is-unsent-requires-4
-is-unsent-requires-4 c κs = search needs
+loop-less : tie.Need-loop-less Inv-loop μ-loop
+loop-less c = search needs
 
-is-unsent-requires-5 : tie.Need-is-unsent-requires-5
-is-unsent-requires-5 c κs = search needs
+loop-again : tie.Need-loop-again Inv-loop μ-loop
+loop-again c = (omega arith, next-filled false _ _ _ _ (c .before .before .before .before .before .loop .inv .1) (simp (c .is-unsent .ensures, c .before .sent-of .ensures, c .before .before .is-in .ensures, c .before .before .before .record-at .ensures)))
 
-returns : tie.Need-returns
+set-of-requires : tie.Need-set-of-requires Inv-loop μ-loop
+set-of-requires c κs = search needs
+
+returns : tie.Need-returns Inv-loop μ-loop
 unfolding unsentOf
-returns c = simp (c .before .before .before .before .is-unsent .ensures, c .before .before .before .is-unsent2 .ensures, c .before .before .is-unsent3 .ensures, c .before .is-unsent4 .ensures, c .is-unsent5 .ensures)
+returns c = set-filled _ _ _ _ (c .set-of .ensures) (omega arith) (c .before .before .loop .inv .0) (c .before .before .loop .inv .1)
 
 pub unsent-of-spec : {M : Type 1} → statement M
 unsent-of-spec =
     tie.close
     (tie.spec
+    Inv-loop
+    μ-loop
+    loop-holds
+    record-at-requires
+    is-in-requires
+    sent-of-requires
     is-unsent-requires
-    is-unsent-requires-2
-    is-unsent-requires-3
-    is-unsent-requires-4
-    is-unsent-requires-5
+    array-write-flags
+    add-i
+    loop-less
+    loop-again
+    set-of-requires
     returns)

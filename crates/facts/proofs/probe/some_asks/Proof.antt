@@ -1,12 +1,16 @@
 -- `facts::probe::some_asks` meets its contract. Assumes nothing.
-use Rattle.facts.proofs.probe.Turns.{some-found, some-on, some-broken, some-done}
-use Rattle.facts.proofs.probe.Walk.{question-found, question-broken}
-use mathlib.Core.Path.{_∙_}
+use Rattle.wire.specs.message.Readable.{questionShown}
+use Rattle.wire.proofs.message.Walk.{some-found, some-on, some-broken, some-done, question-found, question-broken}
+use mathlib.Core.Path.{ap, _∙_}
+use mathlib.Core.Bool.{Bool}
+use Rattle.facts.specs.probe.Walked.{asksAt}
 use borrow.Author.Needs.{needs}
 use mathlib.Core.Path.{_≡_}
 use native.Mathlib.Omega.{arith}
 use Rattle.wire.specs.message.Layout.{questionAt}
-use Rattle.facts.specs.probe.Probe.{some, asksAll, readable}
+use Rattle.wire.specs.Lists.{some}
+use Rattle.wire.specs.message.Readable.{readable}
+use Rattle.facts.specs.probe.Probe.{asksAll}
 use Rattle.facts.proofs.probe.some_asks.Statement.{statement}
 use Rattle.facts.proofs.probe.some_asks.Tie as tie
 
@@ -29,7 +33,7 @@ asks-requires : tie.Need-asks-requires Inv-loop μ-loop
 asks-requires c κs = search needs
 
 returns : tie.Need-returns Inv-loop μ-loop
-returns c = let a = c .before .before .before .before .before .before .before .before .before .before .args in let l = c .before .before .before .before .before .before .before .loop in let m = question-found (a .p .now) (l .here) _ (c .before .before .before .before .before .question-at .ensures) _ (c .before .before .before .q .given .1) (a .name .now) in some-found (asksAll (a .name .now)) (questionAt (a .p .now)) _ (l .left) (l .here) (l .inv) (omega arith) (m .said) _ (m .here) _ (c .before .asks .ensures ∙ m .asked) (c .if1 .taken)
+returns c = let a = c .before .before .before .before .before .before .before .before .before .before .args in let l = c .before .before .before .before .before .before .before .loop in let m = question-found (a .p .now) (l .here) _ (c .before .before .before .before .before .question-at .ensures) _ (c .before .before .before .q .given .1) in some-found (asksAll (a .name .now)) (questionAt (a .p .now)) _ (l .left) (l .here) (l .inv) (omega arith) (questionShown (a .p .now) (c .before .before .before .q .given .0 .0)) _ (m .here) _ (c .before .asks .ensures ∙ ap (λ (b : Bool). asksAt b (c .before .before .before .q .given .0 .0)) (m .named (a .name .now))) (c .if1 .taken)
 
 enum-told : tie.Need-enum-told Inv-loop μ-loop
 enum-told c = search needs
@@ -44,7 +48,7 @@ loop-less : tie.Need-loop-less Inv-loop μ-loop
 loop-less c = search needs
 
 loop-again : tie.Need-loop-again Inv-loop μ-loop
-loop-again c = let a = c .before .before .before .before .before .before .before .before .before .before .args in let l = c .before .before .before .before .before .before .before .loop in let m = question-found (a .p .now) (l .here) _ (c .before .before .before .before .before .question-at .ensures) _ (c .before .before .before .q .given .1) (a .name .now) in some-on (asksAll (a .name .now)) (questionAt (a .p .now)) _ (l .left) (l .here) (l .inv) (omega arith) (m .said) _ (m .here) _ (c .before .asks .ensures ∙ m .asked) (c .if1 .left)
+loop-again c = let a = c .before .before .before .before .before .before .before .before .before .before .args in let l = c .before .before .before .before .before .before .before .loop in let m = question-found (a .p .now) (l .here) _ (c .before .before .before .before .before .question-at .ensures) _ (c .before .before .before .q .given .1) in some-on (asksAll (a .name .now)) (questionAt (a .p .now)) _ (l .left) (l .here) (l .inv) (omega arith) (questionShown (a .p .now) (c .before .before .before .q .given .0 .0)) _ (m .here) _ (c .before .asks .ensures ∙ ap (λ (b : Bool). asksAt b (c .before .before .before .q .given .0 .0)) (m .named (a .name .now))) (c .if1 .left)
 
 returns-3 : tie.Need-returns-3 Inv-loop μ-loop
 returns-3 c = let a = c .before .before .before .before .args in let l = c .before .loop in some-done (asksAll (a .name .now)) (questionAt (a .p .now)) _ (l .left) (l .here) (l .inv) (omega arith)

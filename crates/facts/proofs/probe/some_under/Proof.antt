@@ -1,12 +1,14 @@
 -- `facts::probe::some_under` meets its contract. Assumes nothing.
-use Rattle.facts.proofs.probe.Turns.{some-found, some-on, some-broken, some-done}
-use Rattle.facts.proofs.probe.Walk.{record-found, record-broken}
+use Rattle.wire.specs.message.Readable.{recordShown}
+use Rattle.wire.proofs.message.Walk.{some-found, some-on, some-broken, some-done, record-found, record-broken}
 use mathlib.Core.Path.{_∙_}
 use borrow.Author.Needs.{needs}
 use mathlib.Core.Path.{_≡_}
 use native.Mathlib.Omega.{arith}
 use Rattle.wire.specs.message.Layout.{recordAt}
-use Rattle.facts.specs.probe.Probe.{some, under, readable}
+use Rattle.wire.specs.Lists.{some}
+use Rattle.wire.specs.message.Readable.{readable}
+use Rattle.facts.specs.probe.Probe.{under}
 use Rattle.facts.proofs.probe.some_under.Statement.{statement}
 use Rattle.facts.proofs.probe.some_under.Tie as tie
 
@@ -29,7 +31,7 @@ name-is-requires : tie.Need-name-is-requires Inv-loop μ-loop
 name-is-requires c κs = search needs
 
 returns : tie.Need-returns Inv-loop μ-loop
-returns c = let a = c .before .before .before .before .before .before .before .before .before .before .args in let l = c .before .before .before .before .before .before .before .loop in let m = record-found (a .p .now) (l .here) _ (c .before .before .before .before .before .whole-record .ensures) _ (c .before .before .before .f .given .1) (a .name .now) in some-found (under (a .name .now)) (recordAt (a .p .now)) _ (l .left) (l .here) (l .inv) (omega arith) (m .said) _ (m .here) _ (c .before .name-is .ensures ∙ m .named) (c .if1 .taken)
+returns c = let a = c .before .before .before .before .before .before .before .before .before .before .args in let l = c .before .before .before .before .before .before .before .loop in let m = record-found (a .p .now) (l .here) _ (c .before .before .before .before .before .whole-record .ensures) _ (c .before .before .before .f .given .1) in some-found (under (a .name .now)) (recordAt (a .p .now)) _ (l .left) (l .here) (l .inv) (omega arith) (recordShown (a .p .now) (c .before .before .before .f .given .0 .0)) _ (m .here) _ (c .before .name-is .ensures ∙ m .named (a .name .now)) (c .if1 .taken)
 
 enum-told : tie.Need-enum-told Inv-loop μ-loop
 enum-told c = search needs
@@ -44,7 +46,7 @@ loop-less : tie.Need-loop-less Inv-loop μ-loop
 loop-less c = search needs
 
 loop-again : tie.Need-loop-again Inv-loop μ-loop
-loop-again c = let a = c .before .before .before .before .before .before .before .before .before .before .args in let l = c .before .before .before .before .before .before .before .loop in let m = record-found (a .p .now) (l .here) _ (c .before .before .before .before .before .whole-record .ensures) _ (c .before .before .before .f .given .1) (a .name .now) in some-on (under (a .name .now)) (recordAt (a .p .now)) _ (l .left) (l .here) (l .inv) (omega arith) (m .said) _ (m .here) _ (c .before .name-is .ensures ∙ m .named) (c .if1 .left)
+loop-again c = let a = c .before .before .before .before .before .before .before .before .before .before .args in let l = c .before .before .before .before .before .before .before .loop in let m = record-found (a .p .now) (l .here) _ (c .before .before .before .before .before .whole-record .ensures) _ (c .before .before .before .f .given .1) in some-on (under (a .name .now)) (recordAt (a .p .now)) _ (l .left) (l .here) (l .inv) (omega arith) (recordShown (a .p .now) (c .before .before .before .f .given .0 .0)) _ (m .here) _ (c .before .name-is .ensures ∙ m .named (a .name .now)) (c .if1 .left)
 
 returns-3 : tie.Need-returns-3 Inv-loop μ-loop
 returns-3 c = let a = c .before .before .before .before .args in let l = c .before .loop in some-done (under (a .name .now)) (recordAt (a .p .now)) _ (l .left) (l .here) (l .inv) (omega arith)

@@ -1,15 +1,16 @@
 -- `facts::tiebreak::count_under` meets its contract. Assumes nothing.
 use Rattle.wire.specs.names.Answers.{nameIs}
-use Rattle.facts.specs.tiebreak.Counts.{tieRecordAt}
-use Rattle.facts.proofs.tiebreak.Turns.{count-done, count-broken, count-turn, met-bounds, fit-met}
-use Rattle.facts.proofs.probe.Walk.{record-found, record-broken}
+use mathlib.Core.Path.{ap}
+use Rattle.wire.specs.rdata.Answers.{fits}
+use Rattle.facts.proofs.tiebreak.Turns.{count-done, count-broken, count-turn, met-bounds}
+use Rattle.wire.proofs.message.Walk.{record-found, record-broken}
 use borrow.Author.Needs.{needs}
 use mathlib.Core.Path.{_≡_}
 use native.Mathlib.Omega.{arith}
 use Prim.Native.Nat.{_+_, _<_, _≤_}
 use Rattle.wire.specs.message.Layout.{recordAt}
-use Rattle.facts.specs.probe.Probe.{readable}
-use Rattle.facts.specs.tiebreak.Lists.{listUnder, ownRecord}
+use Rattle.wire.specs.message.Readable.{readable, recordShown}
+use Rattle.facts.specs.tiebreak.Lists.{tieRecord, listUnder, ownRecord}
 use Rattle.facts.specs.tiebreak.Counts.{countAll, noneCounted}
 use Rattle.facts.proofs.tiebreak.count_under.Statement.{statement}
 use Rattle.facts.proofs.tiebreak.count_under.Tie as tie
@@ -30,7 +31,7 @@ enum-known-f : tie.Need-enum-known-f Inv-loop μ-loop
 enum-known-f c = search needs
 
 count-met-requires : tie.Need-count-met-requires Inv-loop μ-loop
-count-met-requires c κs = let a = c .before .before .before .before .before .before .before .before .before .args in let m = record-found (a .p .now) (c .before .before .before .before .before .loop .here) _ (c .before .before .before .whole-record .ensures) _ (c .before .f .given .1) (a .name .now) in (fit-met _ _ _ _ m, (omega arith, omega arith, omega arith))
+count-met-requires c κs = let a = c .before .before .before .before .before .before .before .before .before .args in let m = record-found (a .p .now) (c .before .before .before .before .before .loop .here) _ (c .before .before .before .whole-record .ensures) _ (c .before .f .given .1) in (ap fits (m .content), (omega arith, omega arith, omega arith))
 
 enum-told : tie.Need-enum-told Inv-loop μ-loop
 enum-told c = search needs
@@ -49,8 +50,8 @@ loop-again c = let a = c .before .before .before .before .before .before .before
     let l = c .before .before .before .before .before .before .loop in
     let f = c .before .before .f .given .0 .0 in
     let own = ownRecord (a .rtype) (a .own .now) in
-    let m = record-found (a .p .now) (l .here) _ (c .before .before .before .before .whole-record .ensures) f (c .before .before .f .given .1) (a .name .now) in
-    let k = met-bounds (tieRecordAt (a .p .now) f) own (l .c) (nameIs (a .p .now) (f .owner) (a .name .now)) (c .count-met .result) (c .count-met .ensures) (l .left) (a .s .count) (omega arith) (l .inv .0) (l .inv .1) (l .inv .2) in (
+    let m = record-found (a .p .now) (l .here) _ (c .before .before .before .before .whole-record .ensures) f (c .before .before .f .given .1) in
+    let k = met-bounds (tieRecord (recordShown (a .p .now) f)) own (l .c) (nameIs (a .p .now) (f .owner) (a .name .now)) (c .count-met .result) (c .count-met .ensures) (l .left) (a .s .count) (omega arith) (l .inv .0) (l .inv .1) (l .inv .2) in (
       k .0,
       k .1,
       k .2,

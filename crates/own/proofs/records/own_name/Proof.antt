@@ -1,38 +1,74 @@
-use Rattle.own.proofs.records.Laying.{own-service, own-instance, own-host}
+use Rattle.own.specs.records.Records.{ownLabels, ownName}
 use borrow.Author.Needs.{needs}
 use Rattle.own.proofs.records.own_name.Statement.{statement}
 use Rattle.own.proofs.records.own_name.Tie as tie
-use Rattle.own.proofs.records.own_name.Reads as reads
-use Rattle.own.proofs.records.own_name.Lts as lts
-use Rattle.own.proofs.records.put_host_name.Reads as put-host-name-reads
-use Rattle.own.proofs.records.put_instance_name.Reads as put-instance-name-reads
-use Rattle.own.proofs.records.put_service_name.Reads as put-service-name-reads
 
-put-service-name-requires : tie.Need-put-service-name-requires
-put-service-name-requires c κs = search needs
+enum-told : tie.Need-enum-told
+enum-told c = search needs
+
+service-name-requires : tie.Need-service-name-requires
+service-name-requires c κs = search needs
+
+enum-told-2 : tie.Need-enum-told-2
+enum-told-2 c = search needs
+
+instance-name-requires : tie.Need-instance-name-requires
+instance-name-requires c κs = search needs
+
+enum-told-3 : tie.Need-enum-told-3
+enum-told-3 c = search needs
+
+instance-name-requires-2 : tie.Need-instance-name-requires-2
+instance-name-requires-2 c κs = search needs
+
+enum-told-4 : tie.Need-enum-told-4
+enum-told-4 c = search needs
+
+host-name-requires : tie.Need-host-name-requires
+host-name-requires c κs = search needs
+
+enum-told-5 : tie.Need-enum-told-5
+enum-told-5 c = search needs
+
+host-name-requires-2 : tie.Need-host-name-requires-2
+host-name-requires-2 c κs = search needs
 
 returns : tie.Need-returns
-returns c = own-service _ _ _ _ (c .before .before .if1 .taken) (c .put-service-name .ensures)
-
-put-instance-name-requires : tie.Need-put-instance-name-requires
-put-instance-name-requires c κs = search needs
+unfolding ownName ownLabels
+returns c = rw (c .before .enum-told .given .1) (c .service-name .ensures)
 
 returns-2 : tie.Need-returns-2
-returns-2 c = own-instance _ _ _ _ (c .before .before .before .if1 .left) (c .before .before .if2 .taken) (c .put-instance-name .ensures)
-
-put-host-name-requires : tie.Need-put-host-name-requires
-put-host-name-requires c κs = search needs
+unfolding ownName ownLabels
+returns-2 c = rw (c .before .enum-told2 .given .1) (c .instance-name .ensures)
 
 returns-3 : tie.Need-returns-3
-returns-3 c = own-host _ _ _ _ (c .before .before .before .if1 .left) (c .before .before .if2 .left) (c .put-host-name .ensures)
+unfolding ownName ownLabels
+returns-3 c = rw (c .before .enum-told3 .given .1) (c .instance-name2 .ensures)
+
+returns-4 : tie.Need-returns-4
+unfolding ownName ownLabels
+returns-4 c = rw (c .before .enum-told4 .given .1) (c .host-name .ensures)
+
+returns-5 : tie.Need-returns-5
+unfolding ownName ownLabels
+returns-5 c = rw (c .before .enum-told5 .given .1) (c .host-name2 .ensures)
 
 pub own-name-spec : {M : Type 1} → statement M
 own-name-spec =
     tie.close
     (tie.spec
-    put-service-name-requires
+    enum-told
+    service-name-requires
+    enum-told-2
+    instance-name-requires
+    enum-told-3
+    instance-name-requires-2
+    enum-told-4
+    host-name-requires
+    enum-told-5
+    host-name-requires-2
     returns
-    put-instance-name-requires
     returns-2
-    put-host-name-requires
-    returns-3)
+    returns-3
+    returns-4
+    returns-5)

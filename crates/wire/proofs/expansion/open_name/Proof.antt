@@ -1,15 +1,11 @@
-use Rattle.wire.proofs.expansion.Views.{span-fits, span-long}
 use native.Mathlib.Omega.{arith}
-use mathlib.Core.Path.{sym}
-use lib.ListN.{length-take, length-drop}
-use lib.Seq.{length-take-le}
-use Rattle.wire.proofs.expansion.Views.{front-long, opened-bad, span-small, opened-found}
+use Rattle.wire.proofs.expansion.Views.{span-fits, span-long, span-small, opened-bad, opened-found}
 use borrow.Author.Needs.{needs}
 use Rattle.wire.proofs.expansion.open_name.Statement.{statement}
 use Rattle.wire.proofs.expansion.open_name.Tie as tie
 use Rattle.wire.proofs.expansion.open_name.Reads as reads
 use Rattle.wire.proofs.expansion.open_name.Lts as lts
-use Rattle.wire.proofs.expansion.put.Reads as put-reads
+use Rattle.wire.proofs.buffer.put.Reads as put-reads
 use Rattle.wire.proofs.names.expand.Reads as expand-reads
 
 add-from : tie.Need-add-from
@@ -20,6 +16,9 @@ expand-requires c κs = search needs
 
 enum-known-name : tie.Need-enum-known-name
 enum-known-name c = search needs
+
+slice-aggregate-put : tie.Need-slice-aggregate-put
+slice-aggregate-put c = search needs
 
 sub-put : tie.Need-sub-put
 sub-put c = search needs
@@ -33,23 +32,26 @@ part-put-end c = search needs
 put-requires : tie.Need-put-requires
 put-requires c κs = search needs
 
-array-share-prefix-b : tie.Need-array-share-prefix-b
-array-share-prefix-b c = let a = c .before .before .before .before .before .before .before .before .before .before .args in span-fits (a .p .now) (a .at) (a .head) (omega arith) (omega arith) _ (c .before .before .before .before .before .before .before .before .expand .ensures) _ (c .before .before .before .before .before .name .given .1)
+slice-aggregate-put-2 : tie.Need-slice-aggregate-put-2
+slice-aggregate-put-2 c = search needs
 
-slice-aggregate-put : tie.Need-slice-aggregate-put
-slice-aggregate-put c = let a = c .before .before .before .before .before .before .before .before .before .before .before .args in span-long (a .p .now) (a .at) (a .head) (omega arith) (omega arith) _ (c .before .before .before .before .before .before .before .before .before .expand .ensures) _ (c .before .before .before .before .before .before .name .given .1)
+array-share-prefix-b : tie.Need-array-share-prefix-b
+array-share-prefix-b c = let a = c .before .before .before .before .before .before .before .before .before .before .before .args in span-fits (a .p .now) (a .at) (a .head) (omega arith) (omega arith) _ (c .before .before .before .before .before .before .before .before .before .expand .ensures) _ (c .before .before .before .before .before .before .name .given .1)
+
+slice-aggregate-put-3 : tie.Need-slice-aggregate-put-3
+slice-aggregate-put-3 c = let a = c .before .before .before .before .before .before .before .before .before .before .before .before .args in span-long (a .p .now) (a .at) (a .head) (omega arith) (omega arith) _ (c .before .before .before .before .before .before .before .before .before .before .expand .ensures) _ (c .before .before .before .before .before .before .before .name .given .1)
 
 put-requires-2 : tie.Need-put-requires-2
-put-requires-2 c κs = let a = c .before .before .before .before .before .before .before .before .before .before .before .args in omega (arith, span-long (a .p .now) (a .at) (a .head) (omega arith) (omega arith) _ (c .before .before .before .before .before .before .before .before .before .expand .ensures) _ (c .before .before .before .before .before .before .name .given .1), span-small (a .p .now) (a .at) (a .head) (omega arith) (omega arith) _ (c .before .before .before .before .before .before .before .before .before .expand .ensures) _ (c .before .before .before .before .before .before .name .given .1))
+put-requires-2 c κs = search needs
 
-add-t15 : tie.Need-add-t15
-add-t15 c = let a = c .before .before .before .before .before .before .before .before .before .before .before .before .args in omega (arith, span-small (a .p .now) (a .at) (a .head) (omega arith) (omega arith) _ (c .before .before .before .before .before .before .before .before .before .before .expand .ensures) _ (c .before .before .before .before .before .before .before .name .given .1))
+add-t16 : tie.Need-add-t16
+add-t16 c = let a = c .before .before .before .before .before .before .before .before .before .before .before .before .before .before .args in omega (arith, span-small (a .p .now) (a .at) (a .head) (omega arith) (omega arith) _ (c .before .before .before .before .before .before .before .before .before .before .before .before .expand .ensures) _ (c .before .before .before .before .before .before .before .before .before .name .given .1))
 
 enum-told : tie.Need-enum-told
 enum-told c = search needs
 
 returns : tie.Need-returns
-returns c = let a = c .before .before .before .before .before .before .before .before .before .before .before .before .args in opened-found (a .p .now) (a .at) (a .head) (omega arith) (omega arith) _ (c .before .before .before .before .before .before .before .before .before .before .expand .ensures) _ (c .before .before .before .before .before .before .before .name .given .1) _ _ (c .before .before .before .put .ensures) (c .put2 .ensures)
+returns c = let a = c .before .before .before .before .before .before .before .before .before .before .before .before .before .before .args in opened-found (a .p .now) (a .at) (a .head) (omega arith) (omega arith) _ (c .before .before .before .before .before .before .before .before .before .before .before .before .expand .ensures) _ (c .before .before .before .before .before .before .before .before .before .name .given .1) _ _ (c .before .before .before .before .before .put .ensures) (c .before .put2 .ensures)
 
 returns-2 : tie.Need-returns-2
 returns-2 c = let a = c .before .before .before .before .before .args in opened-bad (a .p .now) (a .at) (a .head) (omega arith) (omega arith) _ (c .before .before .before .expand .ensures) (c .enum-told .given .1)
@@ -61,14 +63,16 @@ open-name-spec =
     add-from
     expand-requires
     enum-known-name
+    slice-aggregate-put
     sub-put
     part-put-start
     part-put-end
     put-requires
+    slice-aggregate-put-2
     array-share-prefix-b
-    slice-aggregate-put
+    slice-aggregate-put-3
     put-requires-2
-    add-t15
+    add-t16
     enum-told
     returns
     returns-2)

@@ -15,7 +15,7 @@ rdata-fits-requires : tie.Need-rdata-fits-requires
 rdata-fits-requires c κs = search needs
 
 returns : tie.Need-returns
-returns c = let a = c .before .before .before .before .args in is-nothing (a .p .now) (a .rtype) (a .at) (a .len) (a .other .now) _ (c .before .rdata-fits .ensures) (not-true _ (c .if1 .taken))
+returns c = let a = c .before .before .before .before .args in is-nothing (a .p .now) (a .f) (a .other .now) _ (c .before .rdata-fits .ensures) (not-true _ (c .if1 .taken))
 
 open-requires : tie.Need-open-requires
 open-requires c κs = search needs
@@ -30,7 +30,7 @@ same-bytes-requires : tie.Need-same-bytes-requires
 same-bytes-requires c κs = search needs
 
 returns-2 : tie.Need-returns-2
-returns-2 c = let a = c .before .before .before .before .before .before .before .before .before .args in is-viewed (a .p .now) (a .rtype) (a .at) (a .len) _ (c .before .before .before .before .before .before .rdata-fits .ensures) (not-false _ (c .before .before .before .before .before .if1 .left)) _ (c .before .before .before .before .open .ensures) _ (c .before .view .ensures .0) (a .other .now) _ (c .same-bytes .ensures)
+returns-2 c = let a = c .before .before .before .before .before .before .before .before .before .args in is-viewed (a .p .now) (a .f) _ (c .before .before .before .before .before .before .rdata-fits .ensures) (not-false _ (c .before .before .before .before .before .if1 .left)) _ (c .before .before .before .before .open .ensures) _ (c .before .view .ensures .0) (a .other .now) _ (c .same-bytes .ensures)
 
 pub rdata-is-spec : {M : Type 1} → statement M
 rdata-is-spec =

@@ -16,7 +16,7 @@ rdata-fits-requires : tie.Need-rdata-fits-requires
 rdata-fits-requires c κs = search needs
 
 returns : tie.Need-returns
-returns c = let a = c .before .before .before .before .args in same-nothing (a .q .now) (a .rtype) (a .from) (a .size) (rdataAt (a .p .now) (a .rtype) (a .at) (a .len)) _ (c .before .rdata-fits .ensures) (not-true _ (c .if1 .taken))
+returns c = let a = c .before .before .before .before .args in same-nothing (a .q .now) (a .g) (rdataAt (a .p .now) (a .f)) _ (c .before .rdata-fits .ensures) (not-true _ (c .if1 .taken))
 
 open-requires : tie.Need-open-requires
 open-requires c κs = search needs
@@ -31,7 +31,7 @@ rdata-is-requires : tie.Need-rdata-is-requires
 rdata-is-requires c κs = search needs
 
 returns-2 : tie.Need-returns-2
-returns-2 c = let a = c .before .before .before .before .before .before .before .before .before .args in same-viewed (a .q .now) (a .rtype) (a .from) (a .size) (rdataAt (a .p .now) (a .rtype) (a .at) (a .len)) _ (c .before .before .before .before .before .before .rdata-fits .ensures) (not-false _ (c .before .before .before .before .before .if1 .left)) _ (c .before .before .before .before .open .ensures) _ (c .before .view .ensures .0) _ (c .rdata-is .ensures)
+returns-2 c = let a = c .before .before .before .before .before .before .before .before .before .args in same-viewed (a .q .now) (a .g) (rdataAt (a .p .now) (a .f)) _ (c .before .before .before .before .before .before .rdata-fits .ensures) (not-false _ (c .before .before .before .before .before .if1 .left)) _ (c .before .before .before .before .open .ensures) _ (c .before .view .ensures .0) _ (c .rdata-is .ensures)
 
 pub same-rdata-spec : {M : Type 1} → statement M
 same-rdata-spec =

@@ -1,30 +1,27 @@
 use mathlib.Core.Path.{_∙_}
-use Rattle.wire.proofs.expansion.Views.{view-ptr, view-srv, view-plain, start-ptr, start-srv, start-plain}
+use Rattle.wire.proofs.expansion.Views.{view-named, view-plain}
 use borrow.Author.Needs.{needs}
 use Rattle.wire.proofs.expansion.view.Statement.{statement}
 use Rattle.wire.proofs.expansion.view.Tie as tie
 use Rattle.wire.proofs.expansion.view.Reads as reads
 use Rattle.wire.proofs.expansion.view.Lts as lts
+use Rattle.wire.proofs.rdata.form_of.Reads as form-of-reads
 use Rattle.wire.proofs.rdata.part.Reads as part-reads
+
+form-of-requires : tie.Need-form-of-requires
+form-of-requires c κs = search needs
 
 part-requires : tie.Need-part-requires
 part-requires c κs = search needs
 
 returns : tie.Need-returns
-returns c = let a = c .before .before .before .before .args in (c .part .ensures .0 ∙ view-ptr (a .p .now) (a .rtype) (a .at) (a .len) (a .opened .now) (a .n) (c .before .if1 .taken), c .part .ensures .1 ∙ start-ptr (a .p .now) (a .rtype) (a .at) (a .len) (a .p .ptr) (a .opened .now) (a .opened .ptr) (c .before .if1 .taken))
+returns c = let a = c .before .before .before .before .before .args in let v = view-named (a .p .now) (a .f) _ (c .before .before .form-of .ensures) (a .opened .now) (a .n) (a .p .ptr) (a .opened .ptr) (c .before .if1 .taken) in (c .part .ensures .0 ∙ v .0, c .part .ensures .1 ∙ v .1)
 
 part-requires-2 : tie.Need-part-requires-2
 part-requires-2 c κs = search needs
 
 returns-2 : tie.Need-returns-2
-returns-2 c = let a = c .before .before .before .before .before .args in (c .part2 .ensures .0 ∙ view-srv (a .p .now) (a .rtype) (a .at) (a .len) (a .opened .now) (a .n) (c .before .if2 .taken), c .part2 .ensures .1 ∙ start-srv (a .p .now) (a .rtype) (a .at) (a .len) (a .p .ptr) (a .opened .now) (a .opened .ptr) (c .before .if2 .taken))
-
-part-requires-3 : tie.Need-part-requires-3
-part-requires-3 c κs = search needs
-
-returns-3 : tie.Need-returns-3
-returns-3 c = let a = c .before .before .before .before .before .args in (c .part3 .ensures .0 ∙ view-plain (a .p .now) (a .rtype) (a .at) (a .len) (a .opened .now) (a .n) (c .before .before .if1 .left) (c .before .if2 .left), c .part3 .ensures .1 ∙ start-plain (a .p .now) (a .rtype) (a .at) (a .len) (a .p .ptr) (a .opened .now) (a .opened .ptr) (c .before .before .if1 .left) (c .before .if2 .left))
+returns-2 c = let a = c .before .before .before .before .before .args in let v = view-plain (a .p .now) (a .f) _ (c .before .before .form-of .ensures) (a .opened .now) (a .n) (a .p .ptr) (a .opened .ptr) (c .before .if1 .left) in (c .part2 .ensures .0 ∙ v .0, c .part2 .ensures .1 ∙ v .1)
 
 pub view-spec : {M : Type 1} → statement M
-view-spec =
-    tie.close (tie.spec part-requires returns part-requires-2 returns-2 part-requires-3 returns-3)
+view-spec = tie.close (tie.spec form-of-requires part-requires returns part-requires-2 returns-2)

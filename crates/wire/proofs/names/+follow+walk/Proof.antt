@@ -1,7 +1,6 @@
 use mathlib.Core.Path.{_≡_, sym, _∙_}
 use native.Mathlib.Omega.{arith}
 use borrow.Author.Needs.{needs}
-use lib.ListN.{length-take, length-drop}
 use Rattle.wire.proofs.name_pieces.Pieces.{is-root, label-in, label-room, pointer-in, pointer-back}
 use Rattle.wire.proofs.names.Walked.{wrote-bad, wrote-root, wrote-label, wrote-pointer, followed, followed-bad}
 use Prim.Native.Nat.{ℕ, _+_, _*_, _-_, _<_}
@@ -15,7 +14,7 @@ use Rattle.wire.proofs.names.walk.Kinds as walk-kinds
 use Rattle.wire.proofs.names.+follow+walk.Lts-walk as walk-lts
 use Rattle.wire.proofs.names.chase.Reads as chase-reads
 use Rattle.wire.proofs.name_pieces.piece_at.Reads as piece-at-reads
-use Rattle.wire.proofs.names.put.Reads as put-reads
+use Rattle.wire.proofs.buffer.put.Reads as put-reads
 use Rattle.wire.proofs.names.+follow+walk.{statement}
 use Rattle.wire.proofs.names.+follow+walk.Tie.{close}
 
@@ -100,7 +99,7 @@ walk-part-put-end : (t : ℕ) → walk-lts.Need-part-put-end (walk-claims t) (wa
 walk-part-put-end t c = omega (arith, label-in _ _ _ _ _ (sym (c .before .before .before .before .piece-at .ensures) ∙ c .before .before .n .given .1))
 
 walk-put-requires : (t : ℕ) → walk-lts.Need-put-requires (walk-claims t) (walk-at t) walk.Post
-walk-put-requires t c κs = simp (length-take, length-drop) (omega (arith, label-room _ _ _ _ _ (sym (c .before .before .before .before .before .piece-at .ensures) ∙ c .before .before .before .n .given .1)))
+walk-put-requires t c κs = search needs
 
 walk-add-walk : (t : ℕ) → walk-lts.Need-add-walk (walk-claims t) (walk-at t) walk.Post
 walk-add-walk t c = omega arith

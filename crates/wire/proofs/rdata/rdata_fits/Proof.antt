@@ -8,13 +8,13 @@ use Rattle.wire.proofs.rdata.rdata_fits.Lts as lts
 use Rattle.wire.proofs.rdata.part_fits.Reads as part-fits-reads
 
 returns : tie.Need-returns
-returns c = fits-past _ _ _ _ (omega arith)
+returns c = fits-past _ _ (omega arith)
 
 sub-if2 : tie.Need-sub-if2
 sub-if2 c = search needs
 
 returns-2 : tie.Need-returns-2
-returns-2 c = fits-past _ _ _ _ (omega arith)
+returns-2 c = fits-past _ _ (omega arith)
 
 add-end : tie.Need-add-end
 add-end c = search needs
@@ -32,7 +32,7 @@ part-fits-requires : tie.Need-part-fits-requires
 part-fits-requires c κs = search needs
 
 returns-3 : tie.Need-returns-3
-returns-3 c = fits-within _ _ _ _ (omega arith) _ (c .part-fits .ensures)
+returns-3 c = fits-within _ _ (omega arith) _ (c .part-fits .ensures)
 
 pub rdata-fits-spec : {M : Type 1} → statement M
 rdata-fits-spec =

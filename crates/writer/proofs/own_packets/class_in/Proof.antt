@@ -1,12 +1,9 @@
 use mathlib.Core.Path.{sym, _∙_, ap}
 use mathlib.Core.Bool.{Bool, cond}
-use Rattle.own.specs.records.Records.{ownClass}
+use Rattle.claims.specs.records.Own.{ownClass}
 use borrow.Author.Needs.{needs}
 use Rattle.writer.proofs.own_packets.class_in.Statement.{statement}
 use Rattle.writer.proofs.own_packets.class_in.Tie as tie
-use Rattle.writer.proofs.own_packets.class_in.Reads as reads
-use Rattle.writer.proofs.own_packets.class_in.Lts as lts
-use Rattle.own.proofs.fields.own_class.Reads as own-class-reads
 
 returns : tie.Need-returns
 returns c = search needs
@@ -15,7 +12,7 @@ own-class-requires : tie.Need-own-class-requires
 own-class-requires c κs = search needs
 
 returns-2 : tie.Need-returns-2
-returns-2 c = c .own-class .ensures ∙ sym (ap (λ (b : Bool). cond b 1 (ownClass (c .before .before .args .i))) (c .before .if1 .left))
+returns-2 c = c .own-class .ensures ∙ sym (ap (λ (b : Bool). cond b 1 (ownClass (c .before .before .args .o))) (c .before .if1 .left))
 
 pub class-in-spec : {M : Type 1} → statement M
 class-in-spec = tie.close (tie.spec returns own-class-requires returns-2)

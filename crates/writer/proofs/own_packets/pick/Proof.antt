@@ -1,25 +1,26 @@
 use borrow.Author.Tests.{not-true, not-false}
-use borrow.Author.Needs.{needs}
 use Prim.Native.Nat.{_-_}
 use native.Mathlib.Omega.{arith}
+use Rattle.claims.specs.records.Own.{records}
 use Rattle.writer.proofs.own_packets.Picking.{Picking, picking, picked-all, not-chosen, not-there, taken}
+use borrow.Author.Needs.{needs}
 use Rattle.writer.proofs.own_packets.pick.Statement.{statement}
 use Rattle.writer.proofs.own_packets.pick.Tie as tie
-use Rattle.writer.proofs.own_packets.pick.Reads as reads
-use Rattle.writer.proofs.own_packets.pick.Lts as lts
-use Rattle.own.proofs.fields.has_record.Reads as has-record-reads
 
 abbrev Inv-loop : tie.InvT-loop
 Inv-loop s chosen order₀ n₀ i₀ order n i = Picking s chosen order n i
 
 abbrev μ-loop : tie.MeasureT-loop
-μ-loop s chosen order₀ n₀ i₀ order n i = 5 - i
+μ-loop s chosen order₀ n₀ i₀ order n i = records - i
 
 loop-holds : tie.Need-loop-holds Inv-loop μ-loop
 loop-holds c = picking _ _
 
-array-read-if1 : tie.Need-array-read-if1 Inv-loop μ-loop
-array-read-if1 c = search needs
+record-at-requires : tie.Need-record-at-requires Inv-loop μ-loop
+record-at-requires c κs = search needs
+
+is-in-requires : tie.Need-is-in-requires Inv-loop μ-loop
+is-in-requires c κs = search needs
 
 add-i : tie.Need-add-i Inv-loop μ-loop
 add-i c = search needs
@@ -28,7 +29,7 @@ loop-less : tie.Need-loop-less Inv-loop μ-loop
 loop-less c = search needs
 
 loop-again : tie.Need-loop-again Inv-loop μ-loop
-loop-again c = not-chosen _ _ _ _ _ (c .before .before .loop .inv) (omega arith) (not-true _ (c .if1 .taken))
+loop-again c = not-chosen _ _ _ _ _ (c .before .before .before .before .loop .inv) (omega arith) _ (c .before .before .record-at .ensures) _ (c .before .is-in .ensures) (not-true _ (c .if1 .taken))
 
 has-record-requires : tie.Need-has-record-requires Inv-loop μ-loop
 has-record-requires c κs = search needs
@@ -40,7 +41,7 @@ loop-less-2 : tie.Need-loop-less-2 Inv-loop μ-loop
 loop-less-2 c = search needs
 
 loop-again-2 : tie.Need-loop-again-2 Inv-loop μ-loop
-loop-again-2 c = not-there _ _ _ _ _ (c .before .before .before .before .loop .inv) (omega arith) _ (c .before .has-record .ensures) (not-true _ (c .if2 .taken))
+loop-again-2 c = not-there _ _ _ _ _ (c .before .before .before .before .before .before .loop .inv) (omega arith) _ (c .before .before .before .before .record-at .ensures) _ (c .before .has-record .ensures) (not-true _ (c .if2 .taken))
 
 mul-order : tie.Need-mul-order Inv-loop μ-loop
 mul-order c = search needs
@@ -58,7 +59,7 @@ loop-less-3 : tie.Need-loop-less-3 Inv-loop μ-loop
 loop-less-3 c = search needs
 
 loop-again-3 : tie.Need-loop-again-3 Inv-loop μ-loop
-loop-again-3 c = taken _ _ _ _ _ (c .before .before .before .before .loop .inv) (omega arith) (not-false _ (c .before .before .if1 .left)) _ (c .before .has-record .ensures) (not-false _ (c .if2 .left))
+loop-again-3 c = taken _ _ _ _ _ (c .before .before .before .before .before .before .loop .inv) (omega arith) _ (c .before .before .before .before .record-at .ensures) _ (c .before .before .before .is-in .ensures) (not-false _ (c .before .before .if1 .left)) _ (c .before .has-record .ensures) (not-false _ (c .if2 .left))
 
 returns : tie.Need-returns Inv-loop μ-loop
 returns c = picked-all _ _ _ _ _ (c .before .loop .inv) (omega arith)
@@ -70,7 +71,8 @@ pick-spec =
     Inv-loop
     μ-loop
     loop-holds
-    array-read-if1
+    record-at-requires
+    is-in-requires
     add-i
     loop-less
     loop-again

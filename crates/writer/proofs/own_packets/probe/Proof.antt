@@ -7,16 +7,6 @@ use Rattle.writer.proofs.own_packets.Answering.{refuse-3, refuse-7, pro
 use borrow.Author.Needs.{needs}
 use Rattle.writer.proofs.own_packets.probe.Statement.{statement}
 use Rattle.writer.proofs.own_packets.probe.Tie as tie
-use Rattle.writer.proofs.own_packets.probe.Reads as reads
-use Rattle.writer.proofs.own_packets.probe.Lts as lts
-use Rattle.writer.proofs.own_packets.claim_index.Reads as claim-index-reads
-use Rattle.writer.proofs.own_packets.pick_claim.Reads as pick-claim-reads
-use Rattle.writer.proofs.own_packets.put_header.Reads as put-header-reads
-use Rattle.writer.proofs.own_packets.spot_after.Reads as spot-after-reads
-use Rattle.writer.proofs.own_packets.write_list.Reads as write-list-reads
-use Rattle.own.proofs.setups.check_setup.Reads as check-setup-reads
-use Rattle.own.proofs.records.own_name.Reads as own-name-reads
-use Rattle.writer.proofs.put_question.Reads as put-question-reads
 
 returns : tie.Need-returns
 returns c = refuse-3 (c .before .before .args .s) (c .before .before .args .out .now) _ (c .if1 .taken)
@@ -30,8 +20,8 @@ returns-2 c = refuse-7 (c .before .before .before .before .args .s) (c .before .
 pick-claim-requires : tie.Need-pick-claim-requires
 pick-claim-requires c κs = search needs
 
-claim-index-requires : tie.Need-claim-index-requires
-claim-index-requires c κs = search needs
+first-of-requires : tie.Need-first-of-requires
+first-of-requires c κs = search needs
 
 own-name-requires : tie.Need-own-name-requires
 own-name-requires c κs = search needs
@@ -43,10 +33,10 @@ slice-aggregate-put-question : tie.Need-slice-aggregate-put-question
 slice-aggregate-put-question c = search needs
 
 array-share-prefix-name : tie.Need-array-share-prefix-name
-array-share-prefix-name c = own-fits (ownName (c .before .before .before .before .before .before .before .before .before .before .before .before .before .before .args .s) (c .before .before .before .before .before .before .before .before .claim-index .result)) _ (c .before .before .before .before .before .before .before .own-name .ensures)
+array-share-prefix-name c = own-fits (ownName (c .before .before .before .before .before .before .before .before .before .before .before .before .before .before .args .s) (c .before .before .before .before .before .before .before .before .first-of .result)) _ (c .before .before .before .before .before .before .before .own-name .ensures)
 
 slice-aggregate-put-question-2 : tie.Need-slice-aggregate-put-question-2
-slice-aggregate-put-question-2 c = own-long (ownName (c .before .before .before .before .before .before .before .before .before .before .before .before .before .before .before .args .s) (c .before .before .before .before .before .before .before .before .before .claim-index .result)) _ (c .before .before .before .before .before .before .before .before .own-name .ensures)
+slice-aggregate-put-question-2 c = own-long (ownName (c .before .before .before .before .before .before .before .before .before .before .before .before .before .before .before .args .s) (c .before .before .before .before .before .before .before .before .before .first-of .result)) _ (c .before .before .before .before .before .before .before .before .own-name .ensures)
 
 put-question-requires : tie.Need-put-question-requires
 put-question-requires c κs = search needs
@@ -58,13 +48,13 @@ slice-aggregate-write-list : tie.Need-slice-aggregate-write-list
 slice-aggregate-write-list c = search needs
 
 write-list-requires : tie.Need-write-list-requires
-write-list-requires c κs = (probe-ready (c .before .before .before .before .before .before .before .before .before .before .before .before .before .before .before .before .before .before .before .before .before .before .args .s) (c .before .before .before .before .before .before .before .before .before .before .before .before .before .before .before .before .before .before .before .before .before .before .args .out .now) (c .before .before .before .before .before .before .before .before .before .before .before .before .before .before .before .before .before .before .before .before .if1 .left) _ (c .before .before .before .before .before .before .before .before .before .before .before .before .before .before .before .before .before .before .before .check-setup .ensures) (not-false _ (c .before .before .before .before .before .before .before .before .before .before .before .before .before .before .before .before .before .before .if2 .left)) (c .before .before .before .before .before .before .before .before .before .before .before .before .before .before .before .before .before .before .before .before .before .before .args .claim) _ (c .before .before .before .before .before .before .before .before .before .before .before .before .before .before .before .before .before .pick-claim .ensures) _ (c .before .before .before .before .before .before .before .before .before .before .before .before .before .before .before .before .claim-index .ensures) _ (c .before .before .before .before .before .before .before .before .before .before .before .before .before .before .before .own-name .ensures) _ (c .before .before .before .before .before .before .before .before .before .before .before .before .put-header .ensures) (replicate 32 0) refl _ _ _ (c .before .before .before .before .before .before .put-question .ensures) _ (c .before .before .spot-after .ensures) (c .before .before .before .before .before .before .put-question .kept .0) (c .before .before .before .before .before .before .put-question .kept .1 .1 .0), (c .before .before .before .before .before .before .before .before .before .before .before .before .before .before .before .before .before .pick-claim .ensures .few, c .before .before .before .before .before .before .before .before .before .before .before .before .before .before .before .before .before .pick-claim .ensures .five))
+write-list-requires c κs = (probe-ready (c .before .before .before .before .before .before .before .before .before .before .before .before .before .before .before .before .before .before .before .before .before .before .args .s) (c .before .before .before .before .before .before .before .before .before .before .before .before .before .before .before .before .before .before .before .before .before .before .args .out .now) (c .before .before .before .before .before .before .before .before .before .before .before .before .before .before .before .before .before .before .before .before .if1 .left) _ (c .before .before .before .before .before .before .before .before .before .before .before .before .before .before .before .before .before .before .before .check-setup .ensures) (not-false _ (c .before .before .before .before .before .before .before .before .before .before .before .before .before .before .before .before .before .before .if2 .left)) (c .before .before .before .before .before .before .before .before .before .before .before .before .before .before .before .before .before .before .before .before .before .before .args .claim) _ (c .before .before .before .before .before .before .before .before .before .before .before .before .before .before .before .before .before .pick-claim .ensures) _ (c .before .before .before .before .before .before .before .before .before .before .before .before .before .before .before .before .first-of .ensures) _ (c .before .before .before .before .before .before .before .before .before .before .before .before .before .before .before .own-name .ensures) _ (c .before .before .before .before .before .before .before .before .before .before .before .before .put-header .ensures) (replicate 32 0) refl _ _ _ (c .before .before .before .before .before .before .put-question .ensures) _ (c .before .before .spot-after .ensures) (c .before .before .before .before .before .before .put-question .kept .0) (c .before .before .before .before .before .before .put-question .kept .1 .1 .0), (c .before .before .before .before .before .before .before .before .before .before .before .before .before .before .before .before .before .pick-claim .ensures .few, c .before .before .before .before .before .before .before .before .before .before .before .before .before .before .before .before .before .pick-claim .ensures .sized))
 
 same-length : tie.Need-same-length
 same-length c = search needs
 
 returns-3 : tie.Need-returns-3
-returns-3 c = probe-sent (c .before .before .before .before .before .before .before .before .before .before .before .before .before .before .before .before .before .before .before .before .before .before .before .before .before .before .args .s) (c .before .before .before .before .before .before .before .before .before .before .before .before .before .before .before .before .before .before .before .before .before .before .before .before .before .before .args .out .now) (c .before .before .before .before .before .before .before .before .before .before .before .before .before .before .before .before .before .before .before .before .before .before .before .before .if1 .left) _ (c .before .before .before .before .before .before .before .before .before .before .before .before .before .before .before .before .before .before .before .before .before .before .before .check-setup .ensures) (not-false _ (c .before .before .before .before .before .before .before .before .before .before .before .before .before .before .before .before .before .before .before .before .before .before .if2 .left)) (c .before .before .before .before .before .before .before .before .before .before .before .before .before .before .before .before .before .before .before .before .before .before .before .before .before .before .args .claim) _ (c .before .before .before .before .before .before .before .before .before .before .before .before .before .before .before .before .before .before .before .before .before .pick-claim .ensures) _ (c .before .before .before .before .before .before .before .before .before .before .before .before .before .before .before .before .before .before .before .before .claim-index .ensures) _ (c .before .before .before .before .before .before .before .before .before .before .before .before .before .before .before .before .before .before .before .own-name .ensures) _ (c .before .before .before .before .before .before .before .before .before .before .before .before .before .before .before .before .put-header .ensures) (replicate 32 0) refl _ _ _ (c .before .before .before .before .before .before .before .before .before .before .put-question .ensures) _ (c .before .before .before .before .before .before .spot-after .ensures) (c .before .before .before .before .before .before .before .before .before .before .put-question .kept .0) (c .before .before .before .before .before .before .before .before .before .before .put-question .kept .1 .1 .0) _ _ _ (c .before .before .before .write-list .ensures)
+returns-3 c = probe-sent (c .before .before .before .before .before .before .before .before .before .before .before .before .before .before .before .before .before .before .before .before .before .before .before .before .before .before .args .s) (c .before .before .before .before .before .before .before .before .before .before .before .before .before .before .before .before .before .before .before .before .before .before .before .before .before .before .args .out .now) (c .before .before .before .before .before .before .before .before .before .before .before .before .before .before .before .before .before .before .before .before .before .before .before .before .if1 .left) _ (c .before .before .before .before .before .before .before .before .before .before .before .before .before .before .before .before .before .before .before .before .before .before .before .check-setup .ensures) (not-false _ (c .before .before .before .before .before .before .before .before .before .before .before .before .before .before .before .before .before .before .before .before .before .before .if2 .left)) (c .before .before .before .before .before .before .before .before .before .before .before .before .before .before .before .before .before .before .before .before .before .before .before .before .before .before .args .claim) _ (c .before .before .before .before .before .before .before .before .before .before .before .before .before .before .before .before .before .before .before .before .before .pick-claim .ensures) _ (c .before .before .before .before .before .before .before .before .before .before .before .before .before .before .before .before .before .before .before .before .first-of .ensures) _ (c .before .before .before .before .before .before .before .before .before .before .before .before .before .before .before .before .before .before .before .own-name .ensures) _ (c .before .before .before .before .before .before .before .before .before .before .before .before .before .before .before .before .put-header .ensures) (replicate 32 0) refl _ _ _ (c .before .before .before .before .before .before .before .before .before .before .put-question .ensures) _ (c .before .before .before .before .before .before .spot-after .ensures) (c .before .before .before .before .before .before .before .before .before .before .put-question .kept .0) (c .before .before .before .before .before .before .before .before .before .before .put-question .kept .1 .1 .0) _ _ _ (c .before .before .before .write-list .ensures)
 
 pub probe-spec : {M : Type 1} → statement M
 probe-spec =
@@ -74,7 +64,7 @@ probe-spec =
     check-setup-requires
     returns-2
     pick-claim-requires
-    claim-index-requires
+    first-of-requires
     own-name-requires
     put-header-requires
     slice-aggregate-put-question

@@ -5,12 +5,6 @@ use Rattle.writer.proofs.own_packets.Answering.{refuse-3, refuse-7, emp
 use borrow.Author.Needs.{needs}
 use Rattle.writer.proofs.own_packets.respond.Statement.{statement}
 use Rattle.writer.proofs.own_packets.respond.Tie as tie
-use Rattle.writer.proofs.own_packets.respond.Reads as reads
-use Rattle.writer.proofs.own_packets.respond.Lts as lts
-use Rattle.writer.proofs.own_packets.pick.Reads as pick-reads
-use Rattle.writer.proofs.own_packets.put_header.Reads as put-header-reads
-use Rattle.writer.proofs.own_packets.write_list.Reads as write-list-reads
-use Rattle.own.proofs.setups.check_setup.Reads as check-setup-reads
 
 returns : tie.Need-returns
 returns c = refuse-3 (c .before .before .args .s) (c .before .before .args .out .now) _ (c .if1 .taken)
@@ -34,7 +28,7 @@ slice-aggregate-write-list : tie.Need-slice-aggregate-write-list
 slice-aggregate-write-list c = search needs
 
 write-list-requires : tie.Need-write-list-requires
-write-list-requires c κs = (response-ready (c .before .before .before .before .before .before .before .before .before .before .before .before .args .s) (c .before .before .before .before .before .before .before .before .before .before .before .before .args .out .now) (c .before .before .before .before .before .before .before .before .before .before .if1 .left) _ (c .before .before .before .before .before .before .before .before .before .check-setup .ensures) (not-false _ (c .before .before .before .before .before .before .before .before .if2 .left)) _ _ (c .before .before .before .before .before .before .before .pick .ensures) _ (c .before .before .before .before .put-header .ensures) (replicate 32 0) refl, (c .before .before .before .before .before .before .before .pick .ensures .few, c .before .before .before .before .before .before .before .pick .ensures .five))
+write-list-requires c κs = (response-ready (c .before .before .before .before .before .before .before .before .before .before .before .before .args .s) (c .before .before .before .before .before .before .before .before .before .before .before .before .args .out .now) (c .before .before .before .before .before .before .before .before .before .before .if1 .left) _ (c .before .before .before .before .before .before .before .before .before .check-setup .ensures) (not-false _ (c .before .before .before .before .before .before .before .before .if2 .left)) _ _ (c .before .before .before .before .before .before .before .pick .ensures) _ (c .before .before .before .before .put-header .ensures) (replicate 32 0) refl, (c .before .before .before .before .before .before .before .pick .ensures .few, c .before .before .before .before .before .before .before .pick .ensures .sized))
 
 same-length : tie.Need-same-length
 same-length c = search needs

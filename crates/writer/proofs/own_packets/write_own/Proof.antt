@@ -3,15 +3,6 @@ use Rattle.writer.proofs.own_packets.Owned.{own-fits, own-long, own-gro
 use borrow.Author.Needs.{needs}
 use Rattle.writer.proofs.own_packets.write_own.Statement.{statement}
 use Rattle.writer.proofs.own_packets.write_own.Tie as tie
-use Rattle.writer.proofs.own_packets.write_own.Reads as reads
-use Rattle.writer.proofs.own_packets.write_own.Lts as lts
-use Rattle.writer.proofs.own_packets.class_in.Reads as class-in-reads
-use Rattle.writer.proofs.own_packets.spot_after.Reads as spot-after-reads
-use Rattle.own.proofs.records.own_name.Reads as own-name-reads
-use Rattle.own.proofs.records.own_rdata.Reads as own-rdata-reads
-use Rattle.own.proofs.fields.own_ttl.Reads as own-ttl-reads
-use Rattle.own.proofs.fields.own_type.Reads as own-type-reads
-use Rattle.writer.proofs.put_record.Reads as put-record-reads
 
 own-name-requires : tie.Need-own-name-requires
 own-name-requires c κs = search needs
@@ -23,10 +14,10 @@ class-in-requires : tie.Need-class-in-requires
 class-in-requires c κs = search needs
 
 array-share-prefix-name : tie.Need-array-share-prefix-name
-array-share-prefix-name c = own-fits (ownName (c .before .before .before .before .before .before .before .before .before .args .s) (c .before .before .before .before .before .before .before .before .before .args .i)) _ (c .before .before .before .before .before .before .own-name .ensures)
+array-share-prefix-name c = own-fits (ownName (c .before .before .before .before .before .before .before .before .before .args .s) (c .before .before .before .before .before .before .before .before .before .args .o)) _ (c .before .before .before .before .before .before .own-name .ensures)
 
 slice-aggregate-put-record : tie.Need-slice-aggregate-put-record
-slice-aggregate-put-record c = own-long (ownName (c .before .before .before .before .before .before .before .before .before .before .args .s) (c .before .before .before .before .before .before .before .before .before .before .args .i)) _ (c .before .before .before .before .before .before .before .own-name .ensures)
+slice-aggregate-put-record c = own-long (ownName (c .before .before .before .before .before .before .before .before .before .before .args .s) (c .before .before .before .before .before .before .before .before .before .before .args .o)) _ (c .before .before .before .before .before .before .before .own-name .ensures)
 
 own-type-requires : tie.Need-own-type-requires
 own-type-requires c κs = search needs
@@ -35,10 +26,10 @@ own-ttl-requires : tie.Need-own-ttl-requires
 own-ttl-requires c κs = search needs
 
 array-share-prefix-d : tie.Need-array-share-prefix-d
-array-share-prefix-d c = own-fits (ownRdata (c .before .before .before .before .before .before .before .before .before .before .before .before .args .s) (c .before .before .before .before .before .before .before .before .before .before .before .before .args .i)) _ (c .before .before .before .before .before .before .before .own-rdata .ensures)
+array-share-prefix-d c = own-fits (ownRdata (c .before .before .before .before .before .before .before .before .before .before .before .before .args .s) (c .before .before .before .before .before .before .before .before .before .before .before .before .args .o)) _ (c .before .before .before .before .before .before .before .own-rdata .ensures)
 
 slice-aggregate-put-record-2 : tie.Need-slice-aggregate-put-record-2
-slice-aggregate-put-record-2 c = own-long (ownRdata (c .before .before .before .before .before .before .before .before .before .before .before .before .before .args .s) (c .before .before .before .before .before .before .before .before .before .before .before .before .before .args .i)) _ (c .before .before .before .before .before .before .before .before .own-rdata .ensures)
+slice-aggregate-put-record-2 c = own-long (ownRdata (c .before .before .before .before .before .before .before .before .before .before .before .before .before .args .s) (c .before .before .before .before .before .before .before .before .before .before .before .before .before .args .o)) _ (c .before .before .before .before .before .before .before .before .own-rdata .ensures)
 
 put-record-requires : tie.Need-put-record-requires
 put-record-requires c κs = search needs
@@ -53,7 +44,7 @@ same-length-2 : tie.Need-same-length-2
 same-length-2 c = search needs
 
 returns : tie.Need-returns
-returns c = own-grown (c .before .before .before .before .before .before .before .before .before .before .before .before .before .before .before .before .before .before .before .args .s) (c .before .before .before .before .before .before .before .before .before .before .before .before .before .before .before .before .before .before .before .args .i) _ _ _ _ (c .before .before .before .before .before .before .before .before .before .before .before .before .before .before .before .before .before .before .before .pre) _ _ (c .before .before .before .before .before .before .before .before .before .before .before .before .before .before .before .before .own-name .ensures) (c .before .before .before .before .before .before .before .before .before .before .before .before .before .before .own-rdata .ensures) _ (c .before .before .before .before .before .before .before .before .own-type .ensures) _ _ _ (c .before .before .before .before .before .before .before .before .before .before .before .before .class-in .ensures) (c .before .before .before .before .before .before .before .own-ttl .ensures) _ _ _ (c .before .before .before .before .before .put-record .ensures) _ (c .spot-after .ensures)
+returns c = own-grown (c .before .before .before .before .before .before .before .before .before .before .before .before .before .before .before .before .before .before .before .args .s) (c .before .before .before .before .before .before .before .before .before .before .before .before .before .before .before .before .before .before .before .args .o) _ _ _ _ (c .before .before .before .before .before .before .before .before .before .before .before .before .before .before .before .before .before .before .before .pre) _ _ (c .before .before .before .before .before .before .before .before .before .before .before .before .before .before .before .before .own-name .ensures) (c .before .before .before .before .before .before .before .before .before .before .before .before .before .before .own-rdata .ensures) _ (c .before .before .before .before .before .before .before .before .own-type .ensures) _ _ _ (c .before .before .before .before .before .before .before .before .before .before .before .before .class-in .ensures) (c .before .before .before .before .before .before .before .own-ttl .ensures) _ _ _ (c .before .before .before .before .before .put-record .ensures) _ (c .spot-after .ensures)
 
 pub write-own-spec : {M : Type 1} → statement M
 write-own-spec =

@@ -1,0 +1,106 @@
+-- The own records (specification, 'Own records' and 'Writing a packet'), each rule by cases: a record more is a line more in each of these, and nothing
+-- elsewhere. Assumes nothing: these are definitions.
+use Prim.Native.Nat.{ℕ}
+use mathlib.Core.List.{List, [], _∷_}
+use mathlib.Core.Bool.{Bool, true, false}
+use lib.ListN.{getD}
+use Rattle.claims.specs.declared.records.Claim.{Claim}
+use Rattle.claims.specs.declared.records.Claim.the-variants.{Instance, Host}
+use Rattle.claims.specs.declared.records.Own.{Own}
+use Rattle.claims.specs.declared.records.Set.{Set}
+use Rattle.claims.specs.declared.records.Own.the-variants.{Ptr, Srv, Txt, A, Aaaa}
+
+-- "in the order PTR, SRV, TXT, A, AAAA"
+abbrev pub all : List Own
+all = Ptr ∷ Srv ∷ Txt ∷ A ∷ Aaaa ∷ []
+
+abbrev pub records : ℕ
+records = 5
+
+abbrev pub indexOf : Own → ℕ
+indexOf Ptr = 0
+indexOf Srv = 1
+indexOf Txt = 2
+indexOf A = 3
+indexOf Aaaa = 4
+
+-- the record of an index; past the end, the first
+unfoldable pub recordAt : ℕ → Own
+recordAt i = getD all i Ptr
+
+abbrev pub ownType : Own → ℕ
+ownType Ptr = 12
+ownType Srv = 33
+ownType Txt = 16
+ownType A = 1
+ownType Aaaa = 28
+
+-- "class 0x8001, PTR 1"
+abbrev pub ownClass : Own → ℕ
+ownClass Ptr = 1
+ownClass Srv = 0x8001
+ownClass Txt = 0x8001
+ownClass A = 0x8001
+ownClass Aaaa = 0x8001
+
+-- "PTR (.., TTL 4500), SRV (.., TTL 120), TXT (4500), A (120), AAAA (120, ..)"
+abbrev pub ownTtl : Own → ℕ
+ownTtl Ptr = 4500
+ownTtl Srv = 120
+ownTtl Txt = 4500
+ownTtl A = 120
+ownTtl Aaaa = 120
+
+-- "Claims: the instance name with SRV and TXT, the host name with A and AAAA." "(PTR: the instance claim)"
+abbrev pub claimFor : Own → Claim
+claimFor Ptr = Instance
+claimFor Srv = Instance
+claimFor Txt = Instance
+claimFor A = Host
+claimFor Aaaa = Host
+
+-- "AAAA (120, may be missing)"
+abbrev pub present : Own → Bool → Bool
+present Ptr aaaa = true
+present Srv aaaa = true
+present Txt aaaa = true
+present A aaaa = true
+present Aaaa aaaa = aaaa
+
+-- "SRV, TXT, A, AAAA go out at once in one packet."
+abbrev pub goesAtOnce : Own → Bool
+goesAtOnce Ptr = false
+goesAtOnce Srv = true
+goesAtOnce Txt = true
+goesAtOnce A = true
+goesAtOnce Aaaa = true
+
+-- the record is in the set
+abbrev pub has : Own → Set → Bool
+has Ptr set = set .ptr
+has Srv set = set .srv
+has Txt set = set .txt
+has A set = set .a
+has Aaaa set = set .aaaa
+
+-- the set of the records of which a test holds
+abbrev pub each : (Own → Bool) → Set
+each test = record { ptr = test Ptr; srv = test Srv; txt = test Txt; a = test A; aaaa = test Aaaa }
+
+-- The records under a claim's name, with which it is claimed, by rising type: TXT (16) and SRV (33), A (1) and AAAA (28). The first is always there.
+abbrev pub firstOf : Claim → Own
+firstOf Instance = Txt
+firstOf Host = A
+
+abbrev pub secondOf : Claim → Own
+secondOf Instance = Srv
+secondOf Host = Aaaa
+
+abbrev pub claimed : Claim → List Own
+claimed claim = firstOf claim ∷ secondOf claim ∷ []
+
+abbrev pub sameClaim : Claim → Claim → Bool
+sameClaim Instance Instance = true
+sameClaim Instance Host = false
+sameClaim Host Instance = false
+sameClaim Host Host = true

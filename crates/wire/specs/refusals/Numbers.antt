@@ -1,0 +1,37 @@
+-- Refusals (specification, 'Refusal numbers'): "Each call tests those that apply to it in the order 1, 2, 3, 8, 4, 5, 6, 7, 9" and answers the first. A call's
+-- refusals are the list of its tests in that order, each with its number. Assumes nothing: these are definitions.
+use Prim.Native.Nat.{ℕ}
+use mathlib.Core.List.{List, [], _∷_}
+use mathlib.Core.Bool.{Bool, cond}
+
+abbrev pub TIME : ℕ
+TIME = 1
+
+abbrev pub DRAW : ℕ
+DRAW = 2
+
+abbrev pub BUFFER : ℕ
+BUFFER = 3
+
+abbrev pub LENGTH : ℕ
+LENGTH = 4
+
+abbrev pub HEADER : ℕ
+HEADER = 5
+
+abbrev pub MALFORMED : ℕ
+MALFORMED = 6
+
+abbrev pub SETUP : ℕ
+SETUP = 7
+
+abbrev pub TABLE : ℕ
+TABLE = 8
+
+abbrev pub KEY : ℕ
+KEY = 9
+
+-- the number of the first test that holds, 0 where none does
+abbrev pub firstRefusal : List (ℕ × Bool) → ℕ
+firstRefusal [] = 0
+firstRefusal (test ∷ tests) = cond (test .1) (test .0) (firstRefusal tests)
