@@ -99,9 +99,9 @@ class Kit:
 
 
 def first_error(log):
-    """The first line that says what the prover refused, without the path of the copy."""
-    lines = [line for line in log.splitlines() if re.match(r"\S+:\d+:\d+: error", line)]
-    return re.sub(r"^\S*?/((?:src|specs|proofs)/)", r"\1", lines[0]) if lines else ""
+    """The first line that says what the prover refused, without the path of the copy: an error in a proof, or a fact that a function without one leaves."""
+    line = re.search(r"^(?:note: )?(?:what antt said .*?: )?(\S+:\d+:\d+: (?:error|it is not proved|`[^`]*`: `search`: no proof of).*)$", log, re.M)
+    return re.sub(r"^\S*?/((?:src|specs|proofs)/)", r"\1", line.group(1)) if line else ""
 
 
 def judged(status, log):
@@ -111,9 +111,11 @@ def judged(status, log):
         return False, "NOT REFUSED: the crate is still proved with this edit"
     if status != 1 or not re.search(r"^logic=not-proved", log, re.M):
         return False, f"the prover was not reached (exit {status}): {log.strip().splitlines()[0] if log.strip() else 'it said nothing'}"
+    if not error:
+        return False, "refused, and nothing says which fact fails"
     if SHAPE.search(error):
         return False, f"refused by a proof's shape, not by a fact: {error[:200]}"
-    return True, error.split(": error")[0]
+    return True, re.split(r": (?:error|it is|`)", error)[0]
 
 
 def tried(kit, kept, edit):
