@@ -4,10 +4,15 @@
     tests/wrong_programs.py                    every edit
     tests/wrong_programs.py NAME [LABEL ..]    those of a crate, or some of them
     tests/wrong_programs.py --apply            only says whether each edit, of must-fail/ too, still applies: no proof, a second
+    tests/wrong_programs.py --cover            only says which public functions have fewer than two edits in their own text
 
 A copy is checked over a copy of what the proof of its crate left behind (target/rlib), so that only what the edit touches is checked again. So a refusal
 here is a test, and never a verdict of proof: nothing is called proved by it. Every crate has to be proved before (`rt check`). The edits of must-fail/ are
 tried from nothing by `rt ci`; of those that it has tried the first error is judged here as well.
+
+Edits of the bodies of different functions share a copy: a function is proved from the contracts of those that it calls, which none of these edits changes,
+so whether its own body meets its own contract is what it would be alone. Each needs a failed fact in the proof of its own function; one that has none there is
+tried again alone. An edit of anything else (a contract, a constant, a definition) is tried alone.
 
 An edit fails the run where the copy is not refused, where the prover was not reached, where its text no longer stands exactly once in its file, or where
 the refusal only says that the proof no longer has the code's shape (a `Need-..` that is not there)."""
@@ -24,12 +29,47 @@ import time
 ROOT = pathlib.Path(__file__).resolve().parent.parent
 TARGET = ROOT / "target"
 PARTS = ("src", "specs", "proofs")
+# so many edits share a copy
+MOST_TOGETHER = 8
 # what is no failed fact: a name that is not there (the needs of a function are called after its statements), a text that does not parse, a tuple of another size
 SHAPE = re.compile(r"that can be named from here|: error: expected |this tuple has \d+ components")
+# what only follows from another failure
+FOLLOWS = re.compile(r"was not admitted \(")
 
 
 class Unfit(Exception):
     """An edit that cannot be tried, and why."""
+
+
+class Function:
+    """A function in a source file: its lines, and where the proof of it stands."""
+
+    def __init__(self, crate, file, lines, first, last):
+        head = re.match(r"\s*(pub )?(?:extern \"C\" )?fn (\w+)", lines[first])
+        self.public, self.name = bool(head.group(1)), head.group(2)
+        self.file, self.first, self.last = file, first, last
+        self.body = next((n for n in range(first, last + 1) if lines[n].rstrip().endswith("{")), first)
+        module = pathlib.Path(file).with_suffix("").parts[1:]
+        self.module = () if module in (("lib",), ("main",)) else module
+        folder = pathlib.Path(crate, "proofs", *self.module)
+        pair = [f for f in folder.glob("+*") if self.name in f.name.split("+")[1:]]
+        self.proof = pathlib.Path("proofs", *self.module, pair[0].name if pair else self.name)
+
+    def concerns(self, path, line):
+        """Whether an error at this place is about this function's own body."""
+        return pathlib.Path(path).parent == self.proof or (path == self.file and self.first <= line - 1 <= self.last)
+
+
+def functions(crate, file):
+    lines, found, n = (crate / file).read_text().splitlines(), [], 0
+    while n < len(lines):
+        head = re.match(r"(\s*)(?:pub )?(?:extern \"C\" )?fn \w+", lines[n])
+        if head:
+            last = next(k for k in range(n, len(lines)) if lines[k].startswith(head.group(1) + "}"))
+            found.append(Function(crate, file, lines, n, last))
+            n = last
+        n += 1
+    return found
 
 
 def edits(folder, name=None, labels=()):
@@ -44,25 +84,50 @@ def title(edit):
     return f"{crate_of(edit)}/{edit.stem}"
 
 
-def edited(edit):
-    """The files that an edit changes, with their new texts."""
-    crate, texts, name, old, pairs = edit.parent.parent, {}, "", "", 0
+def pairs(edit):
+    """What an edit replaces: file, old text and new text of each."""
+    name = old = ""
     for line in edit.read_text().splitlines():
         if line.startswith("file: "):
             name = line.removeprefix("file: ")
         elif line.startswith("old: "):
             old = line.removeprefix("old: ")
         elif line.startswith("new:"):
-            if name.split("/")[0] not in PARTS or not (crate / name).is_file():
-                raise Unfit(f"no file {name} of the crate")
-            text = texts.setdefault(name, (crate / name).read_text())
-            if not old or text.count(old) != 1:
-                raise Unfit(f"the text to replace stands {text.count(old) if old else 0} times in {name}")
-            texts[name] = text.replace(old, line.removeprefix("new:").removeprefix(" "))
-            old, pairs = "", pairs + 1
-    if not pairs:
+            yield name, old, line.removeprefix("new:").removeprefix(" ")
+            old = ""
+
+
+def applied(edit, texts):
+    """Changes `texts`, the new texts of the crate's files, as an edit says."""
+    crate, count = edit.parent.parent, 0
+    for name, old, new in pairs(edit):
+        if name.split("/")[0] not in PARTS or not (crate / name).is_file():
+            raise Unfit(f"no file {name} of the crate")
+        text = texts.setdefault(name, (crate / name).read_text())
+        if not old or text.count(old) != 1:
+            raise Unfit(f"the text to replace stands {text.count(old) if old else 0} times in {name}")
+        texts[name] = text.replace(old, new)
+        count += 1
+    if not count:
         raise Unfit("nothing is replaced")
     return texts
+
+
+def touched(edit, bodies):
+    """The functions whose text an edit changes, or whose body alone; None for a change of anything else."""
+    crate, found = edit.parent.parent, []
+    for name, old, _ in pairs(edit):
+        here = functions(crate, name) if name.startswith("src/") else []
+        line = (crate / name).read_text().partition(old)[0].count("\n")
+        found += [next((f for f in here if (f.body if bodies else f.first - 1) < line <= f.last), None)]
+    return found
+
+
+def body_of(edit):
+    """The one function whose body an edit changes, if it changes nothing else."""
+    found = touched(edit, True)
+    one = found[0] if found else None
+    return one if one and all(f and (f.file, f.first) == (one.file, one.first) for f in found) else None
 
 
 class Kit:
@@ -79,6 +144,7 @@ class Kit:
             name, colon, uses = line.split("#")[0].partition(":")
             if colon:
                 self.uses[name.strip()] = uses.split()
+        self.kept = self.folder_name()
 
     def words(self, name, source):
         rlib = lambda crate: (TARGET if (ROOT / "crates" / crate).is_dir() else self.own) / "rlib" / f"{crate}.rlib"
@@ -97,49 +163,85 @@ class Kit:
         subprocess.run([*self.words("empty", empty / "src" / "lib.rt"), "--incremental", empty / "kept"], capture_output=True, check=True)
         return next((empty / "kept").iterdir()).name
 
+    def checked(self, name, label, texts):
+        """What the prover answers of a copy of a crate in which some files have other texts: its status, and all that it says, without the copy's path."""
+        copy = TARGET / "wrong" / name / label
+        shutil.rmtree(copy, ignore_errors=True)
+        copy.mkdir(parents=True)
+        for part in PARTS:
+            if (ROOT / "crates" / name / part).is_dir():
+                shutil.copytree(ROOT / "crates" / name / part, copy / part)
+        for file, text in texts.items():
+            (copy / file).write_text(text)
+        # links: the prover replaces a file and never writes into one
+        shutil.copytree(TARGET / "rlib" / f"{name}.rlib" / "toolchain" / "checked", copy / "kept" / self.kept, copy_function=os.link)
+        source = copy / "src" / ("main.rt" if (copy / "src" / "main.rt").is_file() else "lib.rt")
+        run = subprocess.run([*self.words(name, source), "--incremental", copy / "kept"], stdout=subprocess.PIPE, stderr=subprocess.STDOUT, text=True)
+        shutil.rmtree(copy)
+        log = run.stdout.replace(f"{copy}/", "")
+        (TARGET / "wrong" / name / f"{label}.log").write_text(log)
+        return run.returncode, log
 
-def first_error(log):
-    """The first line that says what the prover refused, without the path of the copy: an error in a proof, or a fact that a function without one leaves."""
-    line = re.search(r"^(?:note: )?(?:what antt said .*?: )?(\S+:\d+:\d+: (?:error|it is not proved|`[^`]*`: `search`: no proof of).*)$", log, re.M)
-    return re.sub(r"^\S*?/((?:src|specs|proofs)/)", r"\1", line.group(1)) if line else ""
+
+def errors(log):
+    """The lines that say what the prover refused, an error in a proof or a fact that a function without one leaves: the place, and the line."""
+    for line in re.finditer(r"^(?:note: )?(?:what antt said .*?: )?((\S+?):(\d+):\d+: (?:error|it is not proved|`[^`]*`: `search`: no proof of).*)$", log, re.M):
+        yield re.sub(r"^\S*?/((?:src|specs|proofs)/)", r"\1", line.group(2)), int(line.group(3)), line.group(1)
 
 
-def judged(status, log):
-    """Whether a copy was refused for a fact, and in a word or two why not."""
-    error = first_error(log)
+def judged(status, log, function=None):
+    """Whether a copy was refused for a fact, of this function if one is given, and in a word or two why not."""
     if status == 0:
         return False, "NOT REFUSED: the crate is still proved with this edit"
     if status != 1 or not re.search(r"^logic=not-proved", log, re.M):
         return False, f"the prover was not reached (exit {status}): {log.strip().splitlines()[0] if log.strip() else 'it said nothing'}"
-    if not error:
-        return False, "refused, and nothing says which fact fails"
-    if SHAPE.search(error):
-        return False, f"refused by a proof's shape, not by a fact: {error[:200]}"
-    return True, re.split(r": (?:error|it is|`)", error)[0]
+    for path, line, error in errors(log):
+        if function and (not function.concerns(path, line) or FOLLOWS.search(error)):
+            continue
+        if SHAPE.search(error):
+            return False, f"refused by a proof's shape, not by a fact: {error[:200]}"
+        return True, f"{path}:{line}"
+    return False, "refused, and nothing says which fact fails"
 
 
-def tried(kit, kept, edit):
-    """Checks a copy of the crate with the edit."""
-    name, began = crate_of(edit), time.monotonic()
-    copy = TARGET / "wrong" / name / edit.stem
-    shutil.rmtree(copy, ignore_errors=True)
-    copy.mkdir(parents=True)
+def batches(every):
+    """The edits in groups that share a copy: of one crate, and of the bodies of different functions."""
+    groups, alone = [], []
+    for edit in every:
+        body = body_of(edit)
+        if not body:
+            alone.append([(edit, None)])
+            continue
+        fits = lambda g: crate_of(g[0][0]) == crate_of(edit) and len(g) < MOST_TOGETHER and all(body.proof != f.proof for _, f in g)
+        group = next((g for g in groups if fits(g)), None)
+        if group:
+            group.append((edit, body))
+        else:
+            groups.append([(edit, body)])
+    return groups + alone
+
+
+def tried_alone(kit, edit):
     try:
-        texts = edited(edit)
+        texts = applied(edit, {})
     except Unfit as why:
-        return False, str(why), 0
-    for part in PARTS:
-        if (ROOT / "crates" / name / part).is_dir():
-            shutil.copytree(ROOT / "crates" / name / part, copy / part)
-    for file, text in texts.items():
-        (copy / file).write_text(text)
-    # links: the prover replaces a file and never writes into one
-    shutil.copytree(TARGET / "rlib" / f"{name}.rlib" / "toolchain" / "checked", copy / "kept" / kept, copy_function=os.link)
-    source = copy / "src" / ("main.rt" if (copy / "src" / "main.rt").is_file() else "lib.rt")
-    run = subprocess.run([*kit.words(name, source), "--incremental", copy / "kept"], stdout=subprocess.PIPE, stderr=subprocess.STDOUT, text=True)
-    (TARGET / "wrong" / name / f"{edit.stem}.log").write_text(run.stdout)
-    shutil.rmtree(copy)
-    return *judged(run.returncode, run.stdout), time.monotonic() - began
+        return False, str(why)
+    return judged(*kit.checked(crate_of(edit), edit.stem, texts))
+
+
+def tried(kit, group):
+    """The edits of a group, each with whether it is refused for a fact, and where or why not."""
+    began, results, texts = time.monotonic(), [], {}
+    if len(group) > 1:
+        try:
+            for edit, _ in group:
+                applied(edit, texts)
+            status, log = kit.checked(crate_of(group[0][0]), f"{group[0][0].stem}+{len(group) - 1}", texts)
+            results = [(edit, *judged(status, log, body)) for edit, body in group]
+        except Unfit:
+            pass  # which one it is shows where each is tried alone
+    results = [r for r in results if r[1]] + [(e, *tried_alone(kit, e)) for e, _ in group if e not in [r[0] for r in results if r[1]]]
+    return results, time.monotonic() - began
 
 
 def tried_from_nothing(edit):
@@ -152,12 +254,29 @@ def apply_all():
     every, wrong = edits("must-fail") + edits("wrong"), 0
     for edit in every:
         try:
-            edited(edit)
+            applied(edit, {})
         except Unfit as why:
             wrong += 1
             print(f"{edit.relative_to(ROOT)}: {why}")
     print(f"{len(every) - wrong} of {len(every)} wrong programs apply")
     return wrong == 0 and len(every) > 0
+
+
+def cover_all(name):
+    public = short = 0
+    for crate in sorted((ROOT / "crates").glob(name or "*")):
+        count = {}
+        for edit in edits("must-fail", crate.name) + edits("wrong", crate.name):
+            for key in {(f.file, f.name) for f in touched(edit, False) if f}:
+                count[key] = count.get(key, 0) + 1
+        for source in sorted(crate.glob("src/**/*.rt")):
+            for f in functions(crate, str(source.relative_to(crate))):
+                public += f.public
+                if f.public and count.get((f.file, f.name), 0) < 2:
+                    short += 1
+                    print(f"{'::'.join((crate.name, *f.module, f.name))}: {count.get((f.file, f.name), 0)}")
+    print(f"{public - short} of {public} public functions have two wrong programs or more in their own text")
+    return short == 0
 
 
 def try_all(name, labels, jobs):
@@ -168,12 +287,13 @@ def try_all(name, labels, jobs):
     proved = subprocess.run(["rt", "check", *crates], cwd=ROOT, stdout=subprocess.PIPE, stderr=subprocess.STDOUT, text=True)
     if proved.returncode != 0:
         sys.exit(f"the crates are not proved as they stand:\n{proved.stdout[-2000:]}")
-    kit = Kit()
-    kept, refused, failed = kit.folder_name(), 0, []
+    kit, refused, failed = Kit(), 0, []
     with concurrent.futures.ThreadPoolExecutor(jobs) as pool:
-        for edit, (ok, why, seconds) in zip(every, pool.map(lambda e: tried(kit, kept, e), every)):
-            print(f"{title(edit)}: {'refused, first at ' if ok else ''}{why} ({seconds:.0f} s)", flush=True)
-            refused, failed = refused + ok, failed + ([] if ok else [title(edit)])
+        for results, seconds in pool.map(lambda g: tried(kit, g), batches(every)):
+            for edit, ok, why in results:
+                print(f"{title(edit)}: {'refused, first at ' if ok else ''}{why}", flush=True)
+                refused, failed = refused + ok, failed + ([] if ok else [title(edit)])
+            print(f"  ({len(results)} in {seconds:.0f} s)", flush=True)
     for edit in edits("must-fail", name, labels):
         verdict = tried_from_nothing(edit)
         if verdict and not verdict[0]:
@@ -186,11 +306,13 @@ def try_all(name, labels, jobs):
 def main():
     parser = argparse.ArgumentParser(description="Tries the wrong programs: the prover has to refuse each because a fact fails.")
     parser.add_argument("--apply", action="store_true", help="only say whether each edit still applies")
+    parser.add_argument("--cover", action="store_true", help="only say which public functions have fewer than two")
     parser.add_argument("--jobs", type=int, default=os.cpu_count(), help="so many at a time (the number of cores)")
     parser.add_argument("crate", nargs="?", help="the edits of this crate alone")
     parser.add_argument("label", nargs="*", help="these edits alone")
     words = parser.parse_args()
-    sys.exit(0 if (apply_all() if words.apply else try_all(words.crate, words.label, words.jobs)) else 1)
+    done = apply_all() if words.apply else cover_all(words.crate) if words.cover else try_all(words.crate, words.label, words.jobs)
+    sys.exit(0 if done else 1)
 
 
 if __name__ == "__main__":

@@ -1,4 +1,4 @@
-//! The reader runs in a stack of 64 KiB, whatever the packet, and so do the responder's calls.
+//! The reader runs in a stack of 64 KiB, whatever the packet, and so do the calls of the responder and of the cache.
 
 use bench::packets;
 use bench::responders::Calls;
@@ -56,5 +56,27 @@ fn a_responder_that_receives_each() {
             responder.receive(1000, &packet);
             responder.tick(1000);
         }
+    });
+}
+
+#[test]
+fn a_cache_that_takes_each() {
+    in_64_kib(|| {
+        let mut cache = kurgashel::Cache::default();
+        for packet in [
+            packets::longest_chain().0,
+            packets::label_by_label().0,
+            packets::worst(),
+            packets::address(),
+        ] {
+            cache
+                .take(1000, kurgashel::PORT, &packet)
+                .expect("taken, whatever it holds");
+        }
+        let found = cache
+            .look_up(1000, b"\x04dock\x05local\0", 1, 0)
+            .expect("an answer")
+            .expect("the address that was announced");
+        assert_eq!(found.rdata, [10, 0, 0, 7]);
     });
 }
