@@ -15,8 +15,14 @@ sed 's/Waiting/0/g; s/Probing/1/g; s/Held/3/g' "$root/target/claim_rust.out" | c
 echo "both examples: the names are held after $(grep -n 'host 3' "$root/target/claim_c.out" | head -1 | cut -d: -f1) packets"
 
 # the reader's archive is enough for a program that only reads
-cc -O2 -Wall -Wextra -I"$root/c/include" "$root/c/examples/read.c" "$root/target/staticlib/libkurgashel_reader.a" -o "$root/target/read"
+reader() { cc -O2 -Wall -Wextra -I"$root/c/include" "$1" "$root/target/staticlib/libkurgashel_reader.a" -o "$2"; }
+reader "$root/c/tests/reader.c" "$root/target/reader"
+"$root/target/reader"
+reader "$root/c/examples/read.c" "$root/target/read"
 "$root/target/read" 00008400000000010000000004646f636b056c6f63616c00000180010000007800040a000007 | grep -qx 'answer     dock.local. type 1 class 1 flush ttl 120 0a000007'
-echo "the example over the reader alone: an address is read"
+"$root/target/read" 00008400000000020000000005626f6f74680000210001000000780008000100020fa0c00cc00c0010000100000078000806726f6f6d3d3300 >"$root/target/read.out"
+grep -qx 'answer     booth. type 33 class 1 ttl 120 priority 1 weight 2 port 4000 booth.' "$root/target/read.out"
+grep -qx 'answer     booth. type 16 class 1 ttl 120 "room=3" ""' "$root/target/read.out"
+echo "the example over the reader alone: an address, an SRV and a TXT are read"
 
 cargo test --release --quiet --manifest-path "$root/rust/kurgashel/Cargo.toml"

@@ -31,8 +31,9 @@ TARGET = ROOT / "target"
 PARTS = ("src", "specs", "proofs")
 # so many edits share a copy
 MOST_TOGETHER = 8
-# what is no failed fact: a name that is not there (the needs of a function are called after its statements), a text that does not parse, a tuple of another size
-SHAPE = re.compile(r"that can be named from here|: error: expected |this tuple has \d+ components")
+# what is no failed fact: a name or a field that is not there (the needs of a function, and what is known at each, are called after its statements), a text that does
+# not parse, a tuple of another size
+SHAPE = re.compile(r"that can be named from here|record `[^`]*` has no field|: error: expected |this tuple has \d+ components")
 # what only follows from another failure
 FOLLOWS = re.compile(r"was not admitted \(")
 

@@ -6,17 +6,42 @@
 static uint8_t packet[9000];
 static size_t length;
 
-// A name as labels with dots between them; a byte that does not print is shown in decimal, as zone files have it.
+// A byte that does not print, or that has a meaning here, is shown in decimal, as zone files have it.
+static void show_bytes(const uint8_t *bytes, size_t count, uint8_t meaning) {
+    for (size_t k = 0; k < count; k++)
+        printf(bytes[k] > ' ' && bytes[k] < 127 && bytes[k] != meaning && bytes[k] != '\\' ? "%c" : "\\%03u", bytes[k]);
+}
+
+// A name as labels with dots between them.
 static void show_name(size_t at) {
     struct kurgashel_name name = kurgashel_name(packet, length, at);
     if (name.length == 1)
         putchar('.');
     for (size_t i = 0; i < name.length && name.bytes[i]; i += 1 + name.bytes[i]) {
-        for (size_t k = 1; k <= name.bytes[i]; k++) {
-            uint8_t b = name.bytes[i + k];
-            printf(b > ' ' && b < 127 && b != '.' && b != '\\' ? "%c" : "\\%03u", b);
-        }
+        show_bytes(name.bytes + i + 1, name.bytes[i], '.');
         putchar('.');
+    }
+}
+
+// Addresses and other bytes in hex, names with dots, the strings of a TXT in quotes.
+static void show_rdata(struct kurgashel_record record) {
+    const uint8_t *rdata = packet + record.rdata;
+    if (record.rtype == 12) {
+        show_name(record.rdata);
+    } else if (record.rtype == 33) {
+        struct kurgashel_srv srv = kurgashel_srv(packet, length, record.rdata, record.rdata_length);
+        printf("priority %u weight %u port %u ", srv.priority, srv.weight, srv.port);
+        show_name(srv.target);
+    } else if (record.rtype == 16) {
+        struct kurgashel_txt_string string;
+        for (size_t at = 0; (string = kurgashel_txt_string(rdata, record.rdata_length, at)).found; at = string.next) {
+            printf(at ? " \"" : "\"");
+            show_bytes(rdata + string.text, string.length, '"');
+            putchar('"');
+        }
+    } else {
+        for (size_t k = 0; k < record.rdata_length; k++)
+            printf("%02x", rdata[k]);
     }
 }
 
@@ -26,14 +51,7 @@ static void show_records(const char *section, size_t at, unsigned count) {
         printf("%-10s ", section);
         show_name(record.owner);
         printf(" type %u class %u%s ttl %u ", record.rtype, record.class_ & 32767u, record.class_ >> 15 ? " flush" : "", record.ttl);
-        if (record.rtype == 12 || record.rtype == 33) {
-            if (record.rtype == 33)
-                printf("port %u ", packet[record.rdata + 4] * 256u + packet[record.rdata + 5]);
-            show_name(record.rdata + (record.rtype == 33 ? 6 : 0));
-        } else {
-            for (size_t k = 0; k < record.rdata_length; k++)
-                printf("%02x", packet[record.rdata + k]);
-        }
+        show_rdata(record);
         putchar('\n');
         at = record.next;
     }

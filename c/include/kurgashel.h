@@ -160,9 +160,8 @@ struct kurgashel_question {
 };
 struct kurgashel_question kurgashel_question(const uint8_t *message, size_t message_bytes, size_t at);
 
-/* The record at an offset: class as on the wire, with its top bit; the TTL as it counts, 0 where its top bit is set; the rdata as a part of the message: the
- * address of an A or AAAA record, the strings of a TXT; the target of a PTR is the name at `rdata`, that of an SRV the name at `rdata` + 6, behind priority,
- * weight and port. */
+/* The record at an offset: class as on the wire, with its top bit; the TTL as it counts, 0 where its top bit is set; the rdata as a part of the message, which
+ * the calls below read. The target of a PTR is the name at `rdata`. */
 struct kurgashel_record {
     bool found;
     uint16_t rtype, class_;
@@ -170,6 +169,31 @@ struct kurgashel_record {
     size_t owner, owner_length, rdata, rdata_length, next;
 };
 struct kurgashel_record kurgashel_record(const uint8_t *message, size_t message_bytes, size_t at);
+
+/* The address in the rdata of an A (rtype 1) or an AAAA (rtype 28): 4 or 16 bytes, 0 where there is none, with zeros behind them. */
+struct kurgashel_address {
+    size_t length;
+    uint8_t bytes[16];
+};
+struct kurgashel_address kurgashel_address(const uint8_t *message, size_t message_bytes, uint16_t rtype, size_t rdata, size_t rdata_length);
+
+/* The SRV in the rdata of one: priority, weight, port, the offset of its target's name and the uncompressed length of that. All is 0 where none is found, which
+ * does not happen in a message that is not refused. Of an entry of the cache the rdata itself is the message, since the names in it are uncompressed. */
+struct kurgashel_srv {
+    bool found;
+    uint16_t priority, weight, port;
+    size_t target, target_length;
+};
+struct kurgashel_srv kurgashel_srv(const uint8_t *message, size_t message_bytes, size_t rdata, size_t rdata_length);
+
+/* The string at a place of a TXT, which is the rdata of one: where its text starts, how long that is, and where the next string starts. From the TXT's end on
+ * none is found. Refusal 6 where the string runs past the end, which does not happen in a message that is not refused. */
+struct kurgashel_txt_string {
+    uint8_t refusal;
+    bool found;
+    size_t text, length, next;
+};
+struct kurgashel_txt_string kurgashel_txt_string(const uint8_t *txt, size_t txt_bytes, size_t at);
 
 /* The name at an offset, uncompressed: its length, zero byte included, 0 where it is malformed; and its bytes, with zeros behind them. */
 struct kurgashel_name {

@@ -19,7 +19,7 @@ use Rattle.claims.specs.records.Sets.{picked}
 use Rattle.writer.specs.compression.Compression.{standsAt, placeOf, cutFrom, nameBytes, starts, namePlaces}
 use Rattle.writer.specs.Items.{putName, dataBytes, dataPlaces, putFields}
 use Rattle.writer.specs.own_packets.Packets.{packetOf}
-use Rattle.writer.specs.own_packets.Own as own
+use Rattle.writer.specs.own_packets.Styles as styles
 use Rattle.writer.specs.own_packets.Own.{responsePacket, responseRecords, responseOf}
 use Rattle.readings.specs.Examples.{padded, example}
 
@@ -48,7 +48,7 @@ abbrev pub written : Setup → Bool → Bool → Bool → Bool → Bool → ℕ
 written s ptr srv txt a aaaa = number 1 (responsePacket s (record { ptr = ptr; srv = srv; txt = txt; a = a; aaaa = aaaa }))
 '''
 NAMES = {"dock": ("plain", "a host label that stands nowhere else"), "_tcp": ("shared", "a host label that is a label of the service's name"), "Booth": ("cased", "a host label that differs from the instance's only in case")}
-UNFOLDING = "number hosted example nameAt fromRun readFrom pieceAt sameBytes hasRecord ownLabels ownName srvRdata ownRdata serviceLabels instanceLabels hostLabels responsePacket responseRecords picked responseOf own.ownRecord packetOf putName dataBytes dataPlaces putFields nameBytes namePlaces starts cutFrom placeOf standsAt"
+UNFOLDING = "number hosted example nameAt fromRun readFrom pieceAt sameBytes hasRecord ownLabels ownName srvRdata ownRdata serviceLabels instanceLabels hostLabels responsePacket responseRecords picked responseOf styles.ownRecord packetOf putName dataBytes dataPlaces putFields nameBytes namePlaces starts cutFrom placeOf standsAt"
 
 
 def listed(values):

@@ -2,19 +2,21 @@
 use mathlib.Core.Path.{_≡_, sym, ap, _∙_}
 use mathlib.Core.List.{List, []}
 use mathlib.Core.Bool.{Bool, true, cond}
-use Prim.Native.Nat.{ℕ, _<_, _≤_}
+use Prim.Native.Nat.{ℕ}
 use native.Mathlib.Omega.{arith}
 use lib.ListN.{length}
 use lib.Dec.{eqb}
 use borrow.Author.Tests.{eq-eqb, ne-eqb}
 use Rattle.wire.specs.refusals.Numbers.{firstRefusal}
 use Rattle.wire.specs.message.Message.{Message}
-use Rattle.wire.specs.message.Layout.{Reads, read, refused, messageAt, readOf, refusalOf}
+use Rattle.wire.specs.message.Layout.{messageAt, readOf}
 use Rattle.wire.specs.message.Readable.{messageIn}
-use Rattle.wire.specs.message.Refusals.{messageRefusal}
+use Rattle.wire.specs.message.Refusals.{messageRefusal, messageFrom}
 use Rattle.wire.specs.declared.message.Layout.{Layout}
+use Rattle.wire.specs.declared.message.MessageRead.{MessageRead}
+use Rattle.wire.specs.declared.message.MessageRead.the-variants as m
 use Rattle.wire.proofs.message.Walk.{layout-shows}
-use Rattle.wire.proofs.message.Refused.{refused-as, from-short, from-long, from-elsewhere, from-there}
+use Rattle.wire.proofs.message.Refused.{taken-from, refused-from}
 use Rattle.cache.specs.entries.Cache.{Cache, atStart, entriesRefusal, takeTests, takeRefusal, takeMessage, takeRead, takeIn}
 use Rattle.cache.specs.declared.entries.Entry.{Entry}
 use Rattle.cache.proofs.lookup.Refusing.{not-late, table-first}
@@ -56,35 +58,24 @@ module _ (now : ℕ) (es : List Entry) (store : List ℕ) (port : ℕ) (p : List
     bad-store h r k = refuses 8 (second h) (λ e. omega arith) r k
 
     module _ (slots : length store ≡ 65536) where
-      pub accepts : 12 ≤ length p → length p ≤ 8972 → port ≡ 5353 → (l : Layout) (said : Message) → messageAt p ≡ read l said → (k : Kept) (last : List ℕ) → cacheOf k last ≡ takeMessage now (messageIn p l) (atStart es store)
-          → (_≡_ {A = AfterTake} (record { answer = t.Accepted (record { turned = k .turned; passed = k .passed }); entries = k .entries }) (afterTake now es store port p)) × (last ≡ takeIn now es store port p .store)
-      unfolding afterTake takenOf takeIn
-      accepts least most at-port l said was k last shown =
-          let h : cacheOf k last ≡ takeRead now (atStart es store) (messageAt p) =
-          shown ∙ ap (λ (m : Message). takeMessage now m (atStart es store)) (layout-shows p l said was) ∙ sym (ap (takeRead now (atStart es store)) was) in
-          let n : takeRefusal now es store port p ≡ 0 = third slots ∙ from-there p port least most at-port ∙ ap (λ (x : Reads). refusalOf (readOf x)) was in
-          let e : eqb (takeRefusal now es store port p) 0 ≡ true = eq-eqb _ _ n in
-          let is : cond (eqb (takeRefusal now es store port p) 0) (takeRead now (atStart es store) (messageAt p)) (atStart es store) ≡ cacheOf k last =
-          ap (λ (b : Bool). cond b (takeRead now (atStart es store) (messageAt p)) (atStart es store)) e ∙ sym h in (
-            ap (λ (c : Cache). record { answer = t.Accepted (record { turned = c .turned; passed = c .passed }); entries = c .entries }) (sym is)
-                ∙ ap (λ (b : Bool). record { answer = cond b (t.Accepted (record { turned = takeIn now es store port p .turned; passed = takeIn now es store port p .passed })) (t.Refused (takeRefusal now es store port p)); entries = takeIn now es store port p .entries }) (sym e),
-            ap (λ (c : Cache). c .store) (sym is),
-          )
+      module _ (a : MessageRead) (answered : a ≡ readOf (messageFrom port p)) where
+        pub accepts : (l : Layout) → a ≡ m.Read l → (k : Kept) (last : List ℕ) → cacheOf k last ≡ takeMessage now (messageIn p l) (atStart es store)
+            → (_≡_ {A = AfterTake} (record { answer = t.Accepted (record { turned = k .turned; passed = k .passed }); entries = k .entries }) (afterTake now es store port p)) × (last ≡ takeIn now es store port p .store)
+        unfolding afterTake takenOf takeIn
+        accepts l found k last shown =
+            let f = taken-from p port a answered l found in
+            let h : cacheOf k last ≡ takeRead now (atStart es store) (messageAt p) =
+            shown ∙ ap (λ (says : Message). takeMessage now says (atStart es store)) (layout-shows p l (f .1) (f .2)) ∙ sym (ap (takeRead now (atStart es store)) (f .2)) in
+            let e : eqb (takeRefusal now es store port p) 0 ≡ true = eq-eqb _ _ (third slots ∙ f .0) in
+            let is : cond (eqb (takeRefusal now es store port p) 0) (takeRead now (atStart es store) (messageAt p)) (atStart es store) ≡ cacheOf k last =
+            ap (λ (b : Bool). cond b (takeRead now (atStart es store) (messageAt p)) (atStart es store)) e ∙ sym h in (
+              ap (λ (c : Cache). record { answer = t.Accepted (record { turned = c .turned; passed = c .passed }); entries = c .entries }) (sym is)
+                  ∙ ap (λ (b : Bool). record { answer = cond b (t.Accepted (record { turned = takeIn now es store port p .turned; passed = takeIn now es store port p .passed })) (t.Refused (takeRefusal now es store port p)); entries = takeIn now es store port p .entries }) (sym e),
+              ap (λ (c : Cache). c .store) (sym is),
+            )
 
-    module _ (slots : length store ≡ 65536) (r : AfterTake) where
-      pub short : length p < 12 → r ≡ refusedWith 4 es → (r ≡ afterTake now es store port p) × (store ≡ takeIn now es store port p .store)
-      short h k = refuses 4 (third slots ∙ from-short p port h) (λ e. omega arith) r k
-
-      pub too-big : 8972 < length p → r ≡ refusedWith 4 es → (r ≡ afterTake now es store port p) × (store ≡ takeIn now es store port p .store)
-      too-big h k = refuses 4 (third slots ∙ from-long p port h) (λ e. omega arith) r k
-
-      module _ (least : 12 ≤ length p) (most : length p ≤ 8972) where
-        pub other-port : (port ≡ 5353 → ⊥) → r ≡ refusedWith 5 es → (r ≡ afterTake now es store port p) × (store ≡ takeIn now es store port p .store)
-        other-port h k = refuses 5 (third slots ∙ from-elsewhere p port least most h) (λ e. omega arith) r k
-
-        module _ (at-port : port ≡ 5353) where
-          pub malformed : (n : ℕ) → messageAt p ≡ refused n → r ≡ refusedWith n es → (r ≡ afterTake now es store port p) × (store ≡ takeIn now es store port p .store)
-          malformed n h k = refuses n (third slots ∙ from-there p port least most at-port ∙ ap (λ (x : Reads). refusalOf (readOf x)) h) (λ e. omega (arith, refused-as p n h .0)) r k
+        pub bad-message : (n : ℕ) → a ≡ m.Refused n → (r : AfterTake) → r ≡ refusedWith n es → (r ≡ afterTake now es store port p) × (store ≡ takeIn now es store port p .store)
+        bad-message n h r k = let f = refused-from p port a answered n h in refuses n (third slots ∙ f .0) (f .1) r k
 
 -- what the rules rest on holds where nothing is refused
 pub has-room : (now : ℕ) (es : List Entry) (store : List ℕ) → 0 ≡ entriesRefusal now es → length store ≡ 65536 → Room now store [] 0 0

@@ -19,9 +19,6 @@ ghost use Rattle.cache.specs.Answers.{refusedWith, afterTake};
 use crate::entries::Entry;
 use crate::entries::Slot;
 
-// The port of mDNS.
-pub const MDNS_PORT: u16 = 5353;
-
 // How many records of a message were turned away, all entries being live, and how many passed over, their rdata being too long for a slot.
 pub struct Counts {
     pub turned: u32,
@@ -380,16 +377,7 @@ pub fn take_by_value(
     if store.len() != crate::lookup::STORE {
         return refused(wire::refusals::TABLE, es);
     }
-    if message.len() < wire::message::LEAST_MESSAGE {
-        return refused(wire::refusals::LENGTH, es);
-    }
-    if wire::message::MOST_MESSAGE < message.len() {
-        return refused(wire::refusals::LENGTH, es);
-    }
-    if port != MDNS_PORT {
-        return refused(wire::refusals::HEADER, es);
-    }
-    match wire::message::read_message(message) {
+    match wire::message::read_from(message, port) {
         wire::message::MessageRead::Read(l) => {
             let k = take_message(es, store, time, message, l);
             let entries = k.entries;

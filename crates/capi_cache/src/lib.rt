@@ -1,9 +1,11 @@
 // The cache on a lent table (specification, 'The cache'): entries as a lent slice of structs. Thin functions read and replace one entry; a lookup works
 // in place; taking a message loads the table, works on it by value, and stores it.
 ghost use mathlib.Core.Path.{_≡_};
-ghost use Prim.Native.Nat.{_<_};
+ghost use Prim.Native.Nat.{ℕ, _<_};
+ghost use mathlib.Core.List.{List};
 ghost use lib.ListN.{length, replicate, set, getD};
 ghost use Rattle.cache.specs.entries.Entries.{blank};
+ghost use Rattle.cache.specs.declared.entries.Entry.{Entry};
 ghost use Rattle.cache.specs.entries.Cache.{entriesRefusal, takeIn};
 ghost use Rattle.cache.specs.lookup.Answers.{lookedOf};
 ghost use Rattle.cache.specs.Answers.{takenOf};
@@ -278,7 +280,11 @@ pub extern "C" fn kurgashel_cache_take(
     port: u16,
     message: &[u8],
 ) -> TakenNumbers
-    ensures { λ r. ⌜ (r ≡ takenNumbers (takenOf time (now (table .entry)) (now (store .entry)) port (now (message .entry)))) × ((now (table .exit) ≡ takeIn time (now (table .entry)) (now (store .entry)) port (now (message .entry)) .entries) × (now (store .exit) ≡ takeIn time (now (table .entry)) (now (store .entry)) port (now (message .entry)) .store)) ⌝ }
+    ensures { λ r. ⌜ (let es : List Entry = now (table .entry) in
+        let s : List ℕ = now (store .entry) in
+        let p : List ℕ = now (message .entry) in
+        (r ≡ takenNumbers (takenOf time es s port p))
+        × ((now (table .exit) ≡ takeIn time es s port p .entries) × (now (store .exit) ≡ takeIn time es s port p .store))) ⌝ }
 {
     let refusal = table_refusal(table, time);
     if refusal != 0 {

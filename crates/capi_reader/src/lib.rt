@@ -45,7 +45,7 @@ pub extern "C" fn kurgashel_message_refusal(message: &[u8]) -> u8
 pub extern "C" fn kurgashel_name_end(message: &[u8], at: usize) -> usize
     ensures { λ r. ⌜ r ≡ endOf (nameAt (now (message .entry)) at) ⌝ }
 {
-    match wire::names::name_at(message, at) {
+    match wire::names::read_name(message, at) {
         wire::names::Name::Found(span) => span.end,
         wire::names::Name::Malformed => 0,
     }
@@ -56,7 +56,7 @@ pub extern "C" fn kurgashel_name_end(message: &[u8], at: usize) -> usize
 pub extern "C" fn kurgashel_name_length(message: &[u8], at: usize) -> usize
     ensures { λ r. ⌜ r ≡ lengthOf (nameAt (now (message .entry)) at) ⌝ }
 {
-    let found = wire::names::name_at(message, at);
+    let found = wire::names::read_name(message, at);
     match found {
         wire::names::Name::Found(span) => span.len,
         wire::names::Name::Malformed => 0,

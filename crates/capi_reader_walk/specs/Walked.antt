@@ -8,12 +8,12 @@ use Rattle.capi_reader_walk.specs.declared.Question.{Question}
 use Rattle.capi_reader_walk.specs.declared.Record.{Record}
 
 -- a question and a record as they lie; all is 0 where none is found
-abbrev pub questionOf : QuestionRead → Question
-questionOf (q.Found x) = record { found = true; rtype = x .rtype; class = x .class; name = x .name; «name_length» = x .span; next = x .next }
-questionOf q.Malformed = record { found = false; rtype = 0; class = 0; name = 0; «name_length» = 0; next = 0 }
+abbrev pub walkedQuestion : QuestionRead → Question
+walkedQuestion (q.Found x) = record { found = true; rtype = x .rtype; class = x .class; name = x .name; «name_length» = x .span; next = x .next }
+walkedQuestion q.Malformed = record { found = false; rtype = 0; class = 0; name = 0; «name_length» = 0; next = 0 }
 
-abbrev pub recordOf : RecordRead → Record
-recordOf (r.Found x) = record {
+abbrev pub walkedRecord : RecordRead → Record
+walkedRecord (r.Found x) = record {
   found = true;
   rtype = x .rtype;
   class = x .class;
@@ -24,4 +24,4 @@ recordOf (r.Found x) = record {
   «rdata_length» = x .rdlength;
   next = x .next;
 }
-recordOf r.Malformed = record { found = false; rtype = 0; class = 0; ttl = 0; owner = 0; «owner_length» = 0; rdata = 0; «rdata_length» = 0; next = 0 }
+walkedRecord r.Malformed = record { found = false; rtype = 0; class = 0; ttl = 0; owner = 0; «owner_length» = 0; rdata = 0; «rdata_length» = 0; next = 0 }

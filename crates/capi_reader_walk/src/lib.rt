@@ -1,9 +1,11 @@
-// A message that was read (crate `capi_reader`) is walked, from C and Rust: each section from its offset on, by as many questions or records as it has. These
-// functions are apart from the reading of a whole message, so that the compiler puts the reading of a record into its loop: a short message is then read
+// A message that was read (crate `capi_reader`) is walked, from C and Rust: each section from its offset on, by as many questions or records as it has; and
+// the rdata of a record is read, as the part of the message where it lies. These functions are apart from the reading of a whole message, so that the compiler puts the reading of a record into its loop: a short message is then read
 // in half the time. c/include/kurgashel.h declares them.
 ghost use mathlib.Core.Path.{_≡_};
 ghost use Rattle.wire.specs.message.Layout.{questionRead, recordRead};
-ghost use Rattle.capi_reader_walk.specs.Walked.{questionOf, recordOf};
+ghost use Rattle.wire.specs.rdata.Readers.{stringAt};
+ghost use Rattle.capi_reader_walk.specs.Walked.{walkedQuestion, walkedRecord};
+ghost use Rattle.capi_reader_walk.specs.Parts.{addressOf, addressAt, srvOf, srvAt, stringOf};
 
 // A question: whether one is there, where its name starts and how long that is uncompressed, its type and class, and the offset past it.
 #[repr(C)]
@@ -31,10 +33,38 @@ pub struct Record {
     pub next: usize,
 }
 
+// The address of an A or AAAA record: 4 or 16 bytes, 0 where there is none, and zeros behind them.
+#[repr(C)]
+pub struct Address {
+    pub length: usize,
+    pub bytes: [u8; 16],
+}
+
+// An SRV: whether one is there, its priority, weight and port, and where its target starts and how long that is uncompressed.
+#[repr(C)]
+pub struct Srv {
+    pub found: bool,
+    pub priority: u16,
+    pub weight: u16,
+    pub port: u16,
+    pub target: usize,
+    pub target_length: usize,
+}
+
+// A string of a TXT: the refusal, whether one is there, where its text starts and how long that is, and where the next string starts.
+#[repr(C)]
+pub struct Text {
+    pub refusal: u8,
+    pub found: bool,
+    pub text: usize,
+    pub length: usize,
+    pub next: usize,
+}
+
 // The question at an offset.
 #[no_mangle]
 pub extern "C" fn kurgashel_question(message: &[u8], at: usize) -> Question
-    ensures { λ r. ⌜ r ≡ questionOf (questionRead (now (message .entry)) at) ⌝ }
+    ensures { λ r. ⌜ r ≡ walkedQuestion (questionRead (now (message .entry)) at) ⌝ }
 {
     match wire::message::question_at(message, at) {
         wire::message::QuestionRead::Found(q) => Question {
@@ -59,7 +89,7 @@ pub extern "C" fn kurgashel_question(message: &[u8], at: usize) -> Question
 // The record at an offset. Of a message that is not refused the rdata is as its type asks.
 #[no_mangle]
 pub extern "C" fn kurgashel_record(message: &[u8], at: usize) -> Record
-    ensures { λ r. ⌜ r ≡ recordOf (recordRead (now (message .entry)) at) ⌝ }
+    ensures { λ r. ⌜ r ≡ walkedRecord (recordRead (now (message .entry)) at) ⌝ }
 {
     match wire::message::record_at(message, at) {
         wire::message::RecordRead::Found(f) => Record {
@@ -82,6 +112,90 @@ pub extern "C" fn kurgashel_record(message: &[u8], at: usize) -> Record
             owner_length: 0,
             rdata: 0,
             rdata_length: 0,
+            next: 0,
+        },
+    }
+}
+
+// The address in the rdata of a type, which lies in a part of the message.
+#[no_mangle]
+pub extern "C" fn kurgashel_address(message: &[u8], rtype: u16, at: usize, len: usize) -> Address
+    ensures { λ r. ⌜ r ≡ addressOf (addressAt (now (message .entry)) rtype at len) ⌝ }
+{
+    let d = wire::rdata::part(message, at, len);
+    let mut bytes = [0u8; 16];
+    if d.len() != len {
+        return Address { length: 0, bytes };
+    }
+    let address = wire::rdata::address_in(d, rtype);
+    wire::buffer::put(&mut bytes, 0, address);
+    Address {
+        length: address.len(),
+        bytes,
+    }
+}
+
+// The SRV in the rdata that lies in a part of the message.
+#[no_mangle]
+pub extern "C" fn kurgashel_srv(message: &[u8], at: usize, len: usize) -> Srv
+    ensures { λ r. ⌜ r ≡ srvOf (srvAt (now (message .entry)) at len) ⌝ }
+{
+    let d = wire::rdata::part(message, at, len);
+    if d.len() != len {
+        return Srv {
+            found: false,
+            priority: 0,
+            weight: 0,
+            port: 0,
+            target: 0,
+            target_length: 0,
+        };
+    }
+    match wire::rdata::srv_in(message, at, d) {
+        wire::rdata::SrvRead::Found(s) => Srv {
+            found: true,
+            priority: s.priority,
+            weight: s.weight,
+            port: s.port,
+            target: s.target,
+            target_length: s.span,
+        },
+        wire::rdata::SrvRead::Malformed => Srv {
+            found: false,
+            priority: 0,
+            weight: 0,
+            port: 0,
+            target: 0,
+            target_length: 0,
+        },
+    }
+}
+
+// The string at a place of a TXT: none from its end on, and refusal 6 for one that runs past it.
+#[no_mangle]
+pub extern "C" fn kurgashel_txt_string(txt: &[u8], at: usize) -> Text
+    ensures { λ r. ⌜ r ≡ stringOf (stringAt (now (txt .entry)) at) ⌝ }
+{
+    match wire::rdata::string_at(txt, at) {
+        wire::rdata::StringRead::Found(s) => Text {
+            refusal: 0,
+            found: true,
+            text: s.text,
+            length: s.len,
+            next: s.next,
+        },
+        wire::rdata::StringRead::End => Text {
+            refusal: 0,
+            found: false,
+            text: 0,
+            length: 0,
+            next: 0,
+        },
+        wire::rdata::StringRead::Malformed => Text {
+            refusal: wire::refusals::MALFORMED,
+            found: false,
+            text: 0,
+            length: 0,
             next: 0,
         },
     }

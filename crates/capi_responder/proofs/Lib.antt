@@ -1,5 +1,4 @@
 -- Laws that belong to no one function.
 pub mod States
 pub mod Starting
-pub mod Receiving
-pub mod Ticking
+pub mod Calling

@@ -1,5 +1,5 @@
 -- Start, packet received and tick on lent bytes: the answer in numbers, the bytes that the state then has, and what they say. The contracts are the
--- records `Starts`, `Receives` and `Ticks`. Assumes nothing: these are definitions.
+-- records `Starts` and `Calls`. Assumes nothing: these are definitions.
 use Prim.Native.Nat.{ℕ}
 use mathlib.Core.Path.{_≡_}
 use mathlib.Core.Bool.{Bool, false, cond}
@@ -11,9 +11,8 @@ use Rattle.writer.specs.own_packets.Own.{laidOver}
 use Rattle.responder.specs.declared.State.{State}
 use Rattle.responder.specs.declared.Answer.{Answer}
 use Rattle.responder.specs.declared.Started.{Started}
-use Rattle.responder.specs.declared.Received.{Received}
-use Rattle.responder.specs.declared.Ticked.{Ticked}
-use Rattle.responder.specs.Calls.{blank, refusalOf, lengthOf, startOf, receiveOf, receivedPacket, tickOf, tickedPacket}
+use Rattle.responder.specs.Calls.{blank, refusalOf, lengthOf, startOf}
+use Rattle.responder.specs.Runs.{Call, answerTo, moreAfter, stateAfter, packetOf}
 use Rattle.capi_responder.specs.codec.Layout.{stateSize}
 use Rattle.capi_responder.specs.codec.Codec.{setupOf, decode, withProgress, withSetup}
 use Rattle.capi_responder.specs.declared.Called.{Called}
@@ -48,31 +47,14 @@ pub record Starts (b setup : List ℕ) (time draw : ℕ) (a : Called) (b′ : Li
   pub bytes : b′ ≡ startedBytes b setup time draw
   pub says : decode b′ ≡ startedState b setup time draw
 
--- ---- a packet received
+-- ---- a packet received, and a tick
 
-abbrev pub received : List ℕ → ℕ → ℕ → ℕ → List ℕ → ℕ → Received
-received b now port draw p room = receiveOf (decode b) now port draw p room
+-- the state's bytes after a call
+unfoldable pub bytesAfter : List ℕ → Call → List ℕ
+bytesAfter b c = unlessRefused (answerTo (decode b) c) (withProgress b (stateAfter (decode b) c .progress)) b
 
-unfoldable pub receivedBytes : List ℕ → ℕ → ℕ → ℕ → List ℕ → ℕ → List ℕ
-receivedBytes b now port draw p room =
-    unlessRefused (received b now port draw p room .answer) (withProgress b (received b now port draw p room .state .progress)) b
-
-pub record Receives (b : List ℕ) (time port draw : ℕ) (p out : List ℕ) (a : Called) (b′ out′ : List ℕ) : Type 0 where
-  pub answers : a ≡ calledWith (received b time port draw p (length out) .answer) false
-  pub bytes : b′ ≡ receivedBytes b time port draw p (length out)
-  pub says : decode b′ ≡ received b time port draw p (length out) .state
-  pub writes : out′ ≡ laidOver (receivedPacket (decode b) time port draw p (length out)) out
-
--- ---- a tick
-
-abbrev pub ticked : List ℕ → ℕ → ℕ → Ticked
-ticked b now room = tickOf (decode b) now room
-
-unfoldable pub tickedBytes : List ℕ → ℕ → ℕ → List ℕ
-tickedBytes b now room = unlessRefused (ticked b now room .answer) (withProgress b (ticked b now room .state .progress)) b
-
-pub record Ticks (b : List ℕ) (time : ℕ) (out : List ℕ) (a : Called) (b′ out′ : List ℕ) : Type 0 where
-  pub answers : a ≡ calledWith (ticked b time (length out) .answer) (ticked b time (length out) .more)
-  pub bytes : b′ ≡ tickedBytes b time (length out)
-  pub says : decode b′ ≡ ticked b time (length out) .state
-  pub writes : out′ ≡ laidOver (tickedPacket (decode b) time (length out)) out
+pub record Calls (b : List ℕ) (c : Call) (out : List ℕ) (a : Called) (b′ out′ : List ℕ) : Type 0 where
+  pub answers : a ≡ calledWith (answerTo (decode b) c) (moreAfter (decode b) c)
+  pub bytes : b′ ≡ bytesAfter b c
+  pub says : decode b′ ≡ stateAfter (decode b) c
+  pub writes : out′ ≡ laidOver (packetOf (decode b) c) out

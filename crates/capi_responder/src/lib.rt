@@ -6,8 +6,11 @@ pub mod layout;
 pub mod state;
 
 ghost use mathlib.Core.Path.{_≡_};
+ghost use lib.ListN.{length};
+ghost use Rattle.responder.specs.Handed.{Arrival, Tick};
 ghost use Rattle.responder.specs.Calls.{refusalOf, lengthOf};
-ghost use Rattle.capi_responder.specs.Exported.{calledWith, setupFor, Starts, Receives, Ticks};
+ghost use Rattle.responder.specs.Runs.{received, ticked};
+ghost use Rattle.capi_responder.specs.Exported.{calledWith, setupFor, Starts, Calls};
 use own::records::Setup;
 use responder::Answer;
 
@@ -87,7 +90,9 @@ pub extern "C" fn kurgashel_receive(
     packet: &[u8],
     out: &mut [u8],
 ) -> Called
-    ensures { λ r. ⌜ Receives (now (state .entry)) time port draw (now (packet .entry)) (now (out .entry)) r (now (state .exit)) (now (out .exit)) ⌝ }
+    ensures { λ r. ⌜ (let room = length (now (out .entry)) in
+        let a : Arrival = record { time = time; port = port; draw = draw; packet = now (packet .entry); room = room } in
+        Calls (now (state .entry)) (received a) (now (out .entry)) r (now (state .exit)) (now (out .exit))) ⌝ }
 {
     let heard = responder::receive(
         crate::codec::read_state(state),
@@ -110,7 +115,8 @@ pub extern "C" fn kurgashel_receive(
 // Walks the due steps, and writes the packet of the first that sends.
 #[no_mangle]
 pub extern "C" fn kurgashel_tick(state: &mut [u8], time: u64, out: &mut [u8]) -> Called
-    ensures { λ r. ⌜ Ticks (now (state .entry)) time (now (out .entry)) r (now (state .exit)) (now (out .exit)) ⌝ }
+    ensures { λ r. ⌜ (let t : Tick = record { time = time; room = length (now (out .entry)) } in
+        Calls (now (state .entry)) (ticked t) (now (out .entry)) r (now (state .exit)) (now (out .exit))) ⌝ }
 {
     let walked = responder::tick(crate::codec::read_state(state), time, out);
     let answer = walked.answer;

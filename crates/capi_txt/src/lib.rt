@@ -73,9 +73,13 @@ fn pair_of(answer: Answer) -> Pair
 
 // Looks a key up in the TXT that was received and, when it is absent there, in the factory TXT.
 #[no_mangle]
-pub extern "C" fn kurgashel_txt_lookup(key: &[u8], received: &[u8], factory: &[u8]) -> Pair
+pub extern "C" fn kurgashel_txt_lookup<'k, 'a>(
+    key: &'k [u8],
+    received: &'a [u8],
+    factory: &'a [u8],
+) -> Pair
     ensures { λ r. ⌜ r ≡ pairOf (lookupOf (now (key .entry)) (now (received .entry)) (now (factory .entry))) ⌝ }
 {
-    let answer = txt::lookup(key, received, factory);
+    let answer = txt::answer_for(key, received, factory);
     pair_of(answer)
 }

@@ -8,7 +8,7 @@ use borrow.Author.Tests.{le-leb}
 use Rattle.claims.specs.records.Own.{all, has}
 use Rattle.claims.specs.records.Sets.{everyOf}
 use Rattle.claims.specs.Time.{lastTime, lastDue, afterMs, atMost, sentOf, marked, markedAll}
-use Rattle.claims.specs.Claims.{afterConflict, afterProbe, startOf}
+use Rattle.claims.specs.Claims.{afterConflict, afterProbe, begunAt}
 use Rattle.claims.specs.Refusals.{claimKept, multicastsKept, kept}
 use Rattle.claims.specs.declared.ClaimState.{ClaimState}
 use Rattle.claims.specs.declared.ClaimState.the-variants.{Waiting, Probing1, Probing2, Probing3, Deferred, Announced, Held, Lost}
@@ -91,8 +91,8 @@ module _ (most : ℕ) where
   probe-kept Lost due h l = refl
 
   -- a start that is not refused keeps no time above 2^62 + 1,000
-  pub start-kept : (now draw : ℕ) → now ≤ lastTime → draw ≤ 250 → lastDue ≤ most → kept most (startOf now draw) ≡ true
-  unfolding kept startOf multicastsKept everyOf
+  pub start-kept : (now draw : ℕ) → now ≤ lastTime → draw ≤ 250 → lastDue ≤ most → kept most (begunAt now draw) ≡ true
+  unfolding kept begunAt multicastsKept everyOf
   start-kept now draw h d l =
       let w : leb (afterMs now draw) most ≡ true = le-leb _ _ (after-within now draw most h (omega arith) l) in
       let n : leb now most ≡ true = le-leb now most (omega arith) in

@@ -50,8 +50,8 @@ claimOf Instance progress = progress .instance
 claimOf Host progress = progress .host
 
 -- "Waiting: first probe due at start plus draw." Nothing is multicast yet, and no reply is set.
-unfoldable pub startOf : ℕ → ℕ → Progress
-startOf now draw =
+unfoldable pub begunAt : ℕ → ℕ → Progress
+begunAt now draw =
     record {
       instance = Waiting (afterMs now draw);
       host = Waiting (afterMs now draw);

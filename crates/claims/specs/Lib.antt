@@ -5,4 +5,3 @@ pub mod Refusals
 pub mod steps
 pub mod answers
 pub mod due
-pub mod runs

@@ -5,12 +5,11 @@ pub mod answers;
 pub mod due;
 pub mod records;
 pub mod refusal_tests;
-pub mod runs;
 pub mod steps;
 
 ghost use mathlib.Core.Path.{_≡_};
 ghost use Rattle.claims.specs.Time.{afterMs, age, recently, dueBy, atMost, neverSent, sentOf, marked, markedAll};
-ghost use Rattle.claims.specs.Claims.{stateNumber, dueOf, heldNow, claimOf, startOf, afterConflict, afterProbe};
+ghost use Rattle.claims.specs.Claims.{stateNumber, dueOf, heldNow, claimOf, begunAt, afterConflict, afterProbe};
 use crate::records::Claim;
 use crate::records::Own;
 use crate::records::RECORDS;
@@ -178,7 +177,7 @@ pub fn never_sent() -> Multicasts
 
 // A start: both claims wait for the draw.
 pub fn start(now: u64, draw: u64) -> Progress
-    ensures { λ r. ⌜ r ≡ startOf now draw ⌝ }
+    ensures { λ r. ⌜ r ≡ begunAt now draw ⌝ }
 {
     let due = after(now, draw);
     Progress {

@@ -4,6 +4,8 @@ mod calls;
 
 use calls::Held;
 use libc::STDIN_FILENO;
+ghost use mathlib.Core.Path.{_≡_};
+ghost use Rattle.console.specs.Lines.{Console, afterLine};
 ghost use Prim.Native.Nat.{_+_, _≤_};
 ghost use lib.ListN.{length};
 
@@ -52,7 +54,14 @@ fn answer_line(
     store: &mut [u8; 65536],
     out: &mut [u8; 4096],
     text: &mut [u8; 4096],
-) -> Held {
+) -> Held
+    ensures held { λ r. ⌜ (let c : Console = record { held = held; store = now (store .entry); out = now (out .entry) } in
+        r ≡ afterLine (now (line .entry)) c .held) ⌝ }
+    ensures store { λ _. ⌜ (let c : Console = record { held = held; store = now (store .entry); out = now (out .entry) } in
+        now (store .exit) ≡ afterLine (now (line .entry)) c .store) ⌝ }
+    ensures out { λ _. ⌜ (let c : Console = record { held = held; store = now (store .entry); out = now (out .entry) } in
+        now (out .exit) ≡ afterLine (now (line .entry)) c .out) ⌝ }
+{
     if line.len() == 0 {
         return held;
     }

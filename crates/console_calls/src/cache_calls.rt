@@ -1,5 +1,9 @@
 // The console's calls on the cache: `put NOW PORT PACKET`, `look NOW NAME TYPE FROM`, `slot K` and `clear`. The table goes by value, its byte store
-// is lent. What is written no contract can say: these functions are proved safe and ending.
+// is lent: what both are after a line is promised. What is written no contract can say.
+ghost use mathlib.Core.Path.{_≡_};
+ghost use lib.ListN.{length, replicate};
+ghost use Rattle.cache.specs.entries.Entries.{blank};
+ghost use Rattle.console_calls.specs.cache_calls.Lines.{isCacheCall, isPut, afterPut, afterClear, cacheAfter};
 use crate::output::bad_line;
 use crate::output::bytes;
 use crate::output::finish;
@@ -10,6 +14,8 @@ use cache::Counts;
 use cache::Taken;
 use cache::entries::Entry;
 use cache::lookup::Looked;
+use console_text::fields::are_bytes;
+use console_text::fields::has_arguments;
 use console_text::fields::is_number;
 use console_text::fields::number;
 use console_text::fields::number_of_16;
@@ -21,7 +27,9 @@ const ENTRIES: usize = 64;
 const MOST_TYPE: u64 = 65535;
 
 // An entry of zeros.
-fn unused() -> Entry {
+fn unused() -> Entry
+    ensures { λ r. ⌜ r ≡ blank ⌝ }
+{
     Entry {
         rtype: 0,
         owner: 0,
@@ -32,7 +40,9 @@ fn unused() -> Entry {
 }
 
 // A table of zeros.
-pub fn no_entries() -> [Entry; 64] {
+pub fn no_entries() -> [Entry; 64]
+    ensures { λ r. ⌜ r ≡ replicate 64 blank ⌝ }
+{
     let e = unused();
     [e; 64]
 }
@@ -62,8 +72,10 @@ fn taken(answer: Taken, text: &mut [u8; 4096]) {
 }
 
 // Whether a line is of the form `put NOW PORT PACKET`.
-fn is_put(line: &[u8]) -> bool {
-    if console_text::lines::arguments(line) != 3 {
+fn is_put(line: &[u8]) -> bool
+    ensures { λ r. ⌜ r ≡ isPut (now (line .entry)) ⌝ }
+{
+    if !has_arguments(line, 3) {
         return false;
     }
     if !is_number(line, 1) {
@@ -72,11 +84,14 @@ fn is_put(line: &[u8]) -> bool {
     if !is_number(line, 2) {
         return false;
     }
-    console_text::hex::is_bytes(console_text::lines::field(line, 3))
+    are_bytes(line, 3)
 }
 
 // `put NOW PORT PACKET`: the table after it. A port that is too great is no 5353, as 0 is none.
-fn put(line: &[u8], es: [Entry; 64], store: &mut [u8], text: &mut [u8; 4096]) -> [Entry; 64] {
+fn put(line: &[u8], es: [Entry; 64], store: &mut [u8], text: &mut [u8; 4096]) -> [Entry; 64]
+    ensures table { λ r. ⌜ r ≡ afterPut (now (line .entry)) es (now (store .entry)) .entries ⌝ }
+    ensures store { λ _. ⌜ now (store .exit) ≡ afterPut (now (line .entry)) es (now (store .entry)) .store ⌝ }
+{
     if !is_put(line) {
         bad_line(text);
         return es;
@@ -119,13 +134,13 @@ fn looked(answer: Looked, es: [Entry; 64], store: &[u8], text: &mut [u8; 4096]) 
 
 // Whether a line is of the form `look NOW NAME TYPE FROM`.
 fn is_look(line: &[u8]) -> bool {
-    if console_text::lines::arguments(line) != 4 {
+    if !has_arguments(line, 4) {
         return false;
     }
     if !is_number(line, 1) {
         return false;
     }
-    if !console_text::hex::is_bytes(console_text::lines::field(line, 2)) {
+    if !are_bytes(line, 2) {
         return false;
     }
     if !is_number(line, 3) {
@@ -177,7 +192,7 @@ fn whole(k: usize, e: Entry, slot: &[u8], text: &mut [u8; 4096]) {
 
 // Whether a line is of the form `slot K`, of an entry that the table has.
 fn is_slot(line: &[u8]) -> bool {
-    if console_text::lines::arguments(line) != 1 {
+    if !has_arguments(line, 1) {
         return false;
     }
     if !is_number(line, 1) {
@@ -196,7 +211,9 @@ fn slot(line: &[u8], es: [Entry; 64], store: &[u8], text: &mut [u8; 4096]) {
 }
 
 // Makes every byte of a store 0.
-fn wipe(store: &mut [u8]) {
+fn wipe(store: &mut [u8])
+    ensures { λ _. ⌜ now (store .exit) ≡ replicate (length (now (store .entry))) 0 ⌝ }
+{
     let mut i = 0;
     while i < store.len() {
         store[i] = 0;
@@ -205,8 +222,11 @@ fn wipe(store: &mut [u8]) {
 }
 
 // `clear`: the table after it.
-fn clear(line: &[u8], es: [Entry; 64], store: &mut [u8], text: &mut [u8; 4096]) -> [Entry; 64] {
-    if console_text::lines::arguments(line) != 0 {
+fn clear(line: &[u8], es: [Entry; 64], store: &mut [u8], text: &mut [u8; 4096]) -> [Entry; 64]
+    ensures table { λ r. ⌜ r ≡ afterClear (now (line .entry)) es (now (store .entry)) .entries ⌝ }
+    ensures store { λ _. ⌜ now (store .exit) ≡ afterClear (now (line .entry)) es (now (store .entry)) .store ⌝ }
+{
+    if !has_arguments(line, 0) {
         bad_line(text);
         return es;
     }
@@ -216,7 +236,9 @@ fn clear(line: &[u8], es: [Entry; 64], store: &mut [u8], text: &mut [u8; 4096]) 
 }
 
 // Whether a word is one of these calls.
-pub fn is_call(word: &[u8]) -> bool {
+pub fn is_call(word: &[u8]) -> bool
+    ensures { λ r. ⌜ r ≡ isCacheCall (now (word .entry)) ⌝ }
+{
     if wire::expansion::same_bytes(word, b"put") {
         return true;
     }
@@ -230,10 +252,16 @@ pub fn is_call(word: &[u8]) -> bool {
 }
 
 // Answers one of these calls, and tells the table after it. Any other line is a bad one.
-pub fn call(line: &[u8], es: [Entry; 64], store: &mut [u8], text: &mut [u8; 4096]) -> [Entry; 64] {
+pub fn call(line: &[u8], es: [Entry; 64], store: &mut [u8], text: &mut [u8; 4096]) -> [Entry; 64]
+    ensures table { λ r. ⌜ r ≡ cacheAfter (now (line .entry)) es (now (store .entry)) .entries ⌝ }
+    ensures store { λ _. ⌜ now (store .exit) ≡ cacheAfter (now (line .entry)) es (now (store .entry)) .store ⌝ }
+{
     let word = console_text::lines::field(line, 0);
     if wire::expansion::same_bytes(word, b"put") {
         return put(line, es, store, text);
+    }
+    if wire::expansion::same_bytes(word, b"clear") {
+        return clear(line, es, store, text);
     }
     if wire::expansion::same_bytes(word, b"look") {
         look(line, es, store, text);
@@ -242,9 +270,6 @@ pub fn call(line: &[u8], es: [Entry; 64], store: &mut [u8], text: &mut [u8; 4096
     if wire::expansion::same_bytes(word, b"slot") {
         slot(line, es, store, text);
         return es;
-    }
-    if wire::expansion::same_bytes(word, b"clear") {
-        return clear(line, es, store, text);
     }
     bad_line(text);
     es

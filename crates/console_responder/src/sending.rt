@@ -7,6 +7,7 @@ use console_calls::output::first;
 use console_calls::output::only;
 use console_calls::output::refused;
 use console_calls::output::word;
+use console_text::fields::are_bytes;
 use console_text::fields::is_number;
 use console_text::fields::number;
 use console_text::fields::number_of_16;
@@ -14,14 +15,20 @@ use responder::Answer;
 use responder::Received;
 use responder::State;
 use responder::Ticked;
+ghost use mathlib.Core.Path.{_≡_};
+ghost use mathlib.Core.List.{List};
 ghost use Prim.Native.Nat.{_≤_};
 ghost use lib.ListN.{length};
+ghost use Rattle.console_responder.specs.Forms.{isNumberOrMissing, isRecv, isTick, lentBy};
+ghost use Rattle.console_responder.specs.Lines.{Responder, received, ticked, afterRecv, afterTick};
 
 // The bytes of the out buffer that are lent where a line does not say how many.
-const USUAL_OUT: usize = 1452;
+const USUAL_OUT: usize = writer::own_packets::LEAST_OUT;
 
 // Whether the last field of a line, which may be missing, is a number.
-fn is_number_or_missing(line: &[u8], index: usize) -> bool {
+fn is_number_or_missing(line: &[u8], index: usize) -> bool
+    ensures { λ r. ⌜ r ≡ isNumberOrMissing (now (line .entry)) index ⌝ }
+{
     if console_text::lines::arguments(line) < index {
         return true;
     }
@@ -29,7 +36,9 @@ fn is_number_or_missing(line: &[u8], index: usize) -> bool {
 }
 
 // How many bytes of the out buffer a line asks to lend.
-fn lent(line: &[u8], index: usize) -> usize {
+fn lent(line: &[u8], index: usize) -> usize
+    ensures { λ r. ⌜ r ≡ lentBy (now (line .entry)) index ⌝ }
+{
     if console_text::lines::arguments(line) < index {
         return USUAL_OUT;
     }
@@ -68,6 +77,8 @@ fn receive(
     n: usize,
 ) -> Received
     requires { ⌜ n ≤ length (now out) ⌝ }
+    ensures { λ r. ⌜ (let after : Responder = received held (now (out .entry)) time from draw (now (packet .entry)) n in
+        (r .state ≡ after .state) × (now (out .exit) ≡ after .out)) ⌝ }
 {
     responder::receive(held, time, from, draw, packet, &mut out[..n])
 }
@@ -75,12 +86,16 @@ fn receive(
 // Ticks over the first bytes of the out buffer, `n` of them.
 fn step(held: State, time: u64, out: &mut [u8], n: usize) -> Ticked
     requires { ⌜ n ≤ length (now out) ⌝ }
+    ensures { λ r. ⌜ (let after : Responder = ticked held (now (out .entry)) time n in
+        (r .state ≡ after .state) × (now (out .exit) ≡ after .out)) ⌝ }
 {
     responder::tick(held, time, &mut out[..n])
 }
 
 // Whether a line is of the form of `recv`.
-fn is_recv(line: &[u8]) -> bool {
+fn is_recv(line: &[u8]) -> bool
+    ensures { λ r. ⌜ r ≡ isRecv (now (line .entry)) ⌝ }
+{
     if console_text::lines::arguments(line) < 4 {
         return false;
     }
@@ -96,14 +111,17 @@ fn is_recv(line: &[u8]) -> bool {
     if !is_number(line, 3) {
         return false;
     }
-    if !console_text::hex::is_bytes(console_text::lines::field(line, 4)) {
+    if !are_bytes(line, 4) {
         return false;
     }
     is_number_or_missing(line, 5)
 }
 
 // `recv NOW PORT DRAW PACKET` or `recv NOW PORT DRAW PACKET OUT`. A port that is too great is no 5353, as 0 is none.
-pub fn recv(line: &[u8], held: State, out: &mut [u8], text: &mut [u8; 4096]) -> State {
+pub fn recv(line: &[u8], held: State, out: &mut [u8], text: &mut [u8; 4096]) -> State
+    ensures state { λ r. ⌜ r ≡ afterRecv (now (line .entry)) held (now (out .entry)) .state ⌝ }
+    ensures out { λ _. ⌜ now (out .exit) ≡ afterRecv (now (line .entry)) held (now (out .entry)) .out ⌝ }
+{
     if !is_recv(line) {
         bad_line(text);
         return held;
@@ -133,7 +151,9 @@ pub fn recv(line: &[u8], held: State, out: &mut [u8], text: &mut [u8; 4096]) -> 
 }
 
 // Whether a line is of the form of `tick`.
-fn is_tick(line: &[u8]) -> bool {
+fn is_tick(line: &[u8]) -> bool
+    ensures { λ r. ⌜ r ≡ isTick (now (line .entry)) ⌝ }
+{
     if console_text::lines::arguments(line) < 1 {
         return false;
     }
@@ -147,7 +167,10 @@ fn is_tick(line: &[u8]) -> bool {
 }
 
 // `tick NOW` or `tick NOW OUT`
-pub fn tick(line: &[u8], held: State, out: &mut [u8], text: &mut [u8; 4096]) -> State {
+pub fn tick(line: &[u8], held: State, out: &mut [u8], text: &mut [u8; 4096]) -> State
+    ensures state { λ r. ⌜ r ≡ afterTick (now (line .entry)) held (now (out .entry)) .state ⌝ }
+    ensures out { λ _. ⌜ now (out .exit) ≡ afterTick (now (line .entry)) held (now (out .entry)) .out ⌝ }
+{
     if !is_tick(line) {
         bad_line(text);
         return held;

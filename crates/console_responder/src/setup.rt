@@ -1,9 +1,14 @@
 // The call `start NOW DRAW INSTANCE SERVICE PROTOCOL HOST DOMAIN PORT TXT A AAAA`: a responder in the place of the one before. What has no room in a
 // set-up is handed on in a way that its rules refuse.
+ghost use mathlib.Core.Path.{_≡_};
+ghost use Rattle.console_responder.specs.Forms.{labelTold, serviceTold, stringsTold, exactly, setupTold, isBytesOf, isAaaa, areNames, isStart};
+ghost use Rattle.console_responder.specs.Lines.{unstarted, afterStart};
 use console_calls::output::bad_line;
 use console_calls::output::only;
 use console_calls::output::refused;
 use console_text::fields::MOST_16;
+use console_text::fields::are_bytes;
+use console_text::fields::has_arguments;
 use console_text::fields::is_number;
 use console_text::fields::number;
 use console_text::fields::number_of_16;
@@ -15,26 +20,34 @@ use responder::Answer;
 use responder::State;
 
 // A label: where it is too long, its whole length with the bytes that fit.
-fn label(field: &[u8]) -> Label {
+fn label(field: &[u8]) -> Label
+    ensures { λ r. ⌜ r ≡ labelTold (now (field .entry)) ⌝ }
+{
     let mut bytes = [0u8; 63];
     let len = console_text::hex::fill(field, &mut bytes);
     Label { bytes, len }
 }
 
-fn service(field: &[u8]) -> Service {
+fn service(field: &[u8]) -> Service
+    ensures { λ r. ⌜ r ≡ serviceTold (now (field .entry)) ⌝ }
+{
     let mut bytes = [0u8; 16];
     let len = console_text::hex::fill(field, &mut bytes);
     Service { bytes, len }
 }
 
-fn strings(field: &[u8]) -> Strings {
+fn strings(field: &[u8]) -> Strings
+    ensures { λ r. ⌜ r ≡ stringsTold (now (field .entry)) ⌝ }
+{
     let mut bytes = [0u8; 400];
     let len = console_text::hex::fill(field, &mut bytes);
     Strings { bytes, len }
 }
 
 // The label after the service: zeros, which are no such label, where its length is another.
-fn protocol(field: &[u8]) -> [u8; 4] {
+fn protocol(field: &[u8]) -> [u8; 4]
+    ensures { λ r. ⌜ r ≡ exactly 4 (now (field .entry)) ⌝ }
+{
     let mut bytes = [0u8; 4];
     if console_text::hex::fill(field, &mut bytes) == 4 {
         return bytes;
@@ -43,7 +56,9 @@ fn protocol(field: &[u8]) -> [u8; 4] {
 }
 
 // The last label: zeros, which are no such label, where its length is another.
-fn domain(field: &[u8]) -> [u8; 5] {
+fn domain(field: &[u8]) -> [u8; 5]
+    ensures { λ r. ⌜ r ≡ exactly 5 (now (field .entry)) ⌝ }
+{
     let mut bytes = [0u8; 5];
     if console_text::hex::fill(field, &mut bytes) == 5 {
         return bytes;
@@ -52,7 +67,9 @@ fn domain(field: &[u8]) -> [u8; 5] {
 }
 
 // The set-up that a line tells.
-fn told(line: &[u8]) -> Setup {
+fn told(line: &[u8]) -> Setup
+    ensures { λ r. ⌜ r ≡ setupTold (now (line .entry)) ⌝ }
+{
     let mut a = [0u8; 4];
     console_text::hex::fill(console_text::lines::field(line, 10), &mut a);
     let mut aaaa = [0u8; 16];
@@ -72,33 +89,39 @@ fn told(line: &[u8]) -> Setup {
 }
 
 // The state before the first start: that of a start which is refused, as one from an empty line is.
-pub fn unset() -> State {
+pub fn unset() -> State
+    ensures { λ r. ⌜ r ≡ unstarted ⌝ }
+{
     let started = responder::start(told(b""), 0, 0);
     started.state
 }
 
 // Whether the fields of a line that hold labels and strings are bytes.
-fn are_names(line: &[u8]) -> bool {
-    if !console_text::hex::is_bytes(console_text::lines::field(line, 3)) {
+fn are_names(line: &[u8]) -> bool
+    ensures { λ r. ⌜ r ≡ areNames (now (line .entry)) ⌝ }
+{
+    if !are_bytes(line, 3) {
         return false;
     }
-    if !console_text::hex::is_bytes(console_text::lines::field(line, 4)) {
+    if !are_bytes(line, 4) {
         return false;
     }
-    if !console_text::hex::is_bytes(console_text::lines::field(line, 5)) {
+    if !are_bytes(line, 5) {
         return false;
     }
-    if !console_text::hex::is_bytes(console_text::lines::field(line, 6)) {
+    if !are_bytes(line, 6) {
         return false;
     }
-    if !console_text::hex::is_bytes(console_text::lines::field(line, 7)) {
+    if !are_bytes(line, 7) {
         return false;
     }
-    console_text::hex::is_bytes(console_text::lines::field(line, 9))
+    are_bytes(line, 9)
 }
 
 // Whether a field is bytes, so many of them.
-fn is_bytes_of(field: &[u8], n: usize) -> bool {
+fn is_bytes_of(field: &[u8], n: usize) -> bool
+    ensures { λ r. ⌜ r ≡ isBytesOf (now (field .entry)) n ⌝ }
+{
     if !console_text::hex::is_bytes(field) {
         return false;
     }
@@ -107,7 +130,9 @@ fn is_bytes_of(field: &[u8], n: usize) -> bool {
 }
 
 // Whether a field is an IPv6 address or `-` for none.
-fn is_aaaa(field: &[u8]) -> bool {
+fn is_aaaa(field: &[u8]) -> bool
+    ensures { λ r. ⌜ r ≡ isAaaa (now (field .entry)) ⌝ }
+{
     if is_bytes_of(field, 16) {
         return true;
     }
@@ -115,8 +140,10 @@ fn is_aaaa(field: &[u8]) -> bool {
 }
 
 // Whether a line is of the form of `start`.
-fn is_start(line: &[u8]) -> bool {
-    if console_text::lines::arguments(line) != 11 {
+fn is_start(line: &[u8]) -> bool
+    ensures { λ r. ⌜ r ≡ isStart (now (line .entry)) ⌝ }
+{
+    if !has_arguments(line, 11) {
         return false;
     }
     if !is_number(line, 1) {
@@ -141,7 +168,9 @@ fn is_start(line: &[u8]) -> bool {
 }
 
 // `start NOW DRAW INSTANCE SERVICE PROTOCOL HOST DOMAIN PORT TXT A AAAA`: the state after it.
-pub fn start(line: &[u8], held: State, text: &mut [u8; 4096]) -> State {
+pub fn start(line: &[u8], held: State, text: &mut [u8; 4096]) -> State
+    ensures { λ r. ⌜ r ≡ afterStart (now (line .entry)) held ⌝ }
+{
     if !is_start(line) {
         bad_line(text);
         return held;

@@ -1,6 +1,8 @@
-// The fields of a console line as numbers. A field that there is not is no bytes, and no number.
+// The form of a console line: how many fields it has, which of them are numbers or bytes, and the numbers. A field that there is not is no bytes, and no
+// number.
 ghost use mathlib.Core.Path.{_≡_};
 ghost use Rattle.console_text.specs.fields.Numbers.{isNumberAt, numberAt, number16At};
+ghost use Rattle.console_text.specs.fields.Forms.{hasArguments, areBytesAt};
 
 // The greatest number of 16 bits.
 pub const MOST_16: u64 = 65535;
@@ -34,4 +36,18 @@ pub fn number_of_16(line: &[u8], index: usize) -> u16
         return 0;
     }
     n as u16
+}
+
+// Whether so many fields follow the first of a line.
+pub fn has_arguments(line: &[u8], n: usize) -> bool
+    ensures { λ r. ⌜ r ≡ hasArguments (now (line .entry)) n ⌝ }
+{
+    crate::lines::arguments(line) == n
+}
+
+// Whether a field of a line is bytes.
+pub fn are_bytes(line: &[u8], index: usize) -> bool
+    ensures { λ r. ⌜ r ≡ areBytesAt (now (line .entry)) index ⌝ }
+{
+    crate::hex::is_bytes(crate::lines::field(line, index))
 }

@@ -1,5 +1,7 @@
 -- Laws that belong to no one function.
 mod Tests
-mod Walks
 mod Owned
+mod Asked
+mod Known
+mod Responses
 mod Said

@@ -2,11 +2,11 @@
 -- folded, class by its low 15 bits, rdata equal with names expanded. Assumes nothing: these are definitions.
 use Prim.Native.Nat.{ℕ, _*_}
 use mathlib.Core.List.{List}
-use mathlib.Core.Bool.{Bool, true, false, cond, not, _&&_, _||_}
+use mathlib.Core.Bool.{Bool, true, false, cond, not, _&&_}
 use lib.Dec.{leb, eqb}
 use Rattle.wire.specs.case_folding.Fold.{sameName}
 use Rattle.wire.specs.expansion.Equal.{sameBytes}
-use Rattle.wire.specs.message.Message.{Question, Record, Message, classOf, isResponse, allRecords}
+use Rattle.wire.specs.message.Message.{Record, Message, classOf, isResponse, allRecords}
 use Rattle.claims.specs.records.Own.{ownType, ownTtl, firstOf, secondOf, claimed, each}
 use Rattle.claims.specs.records.Sets.{noRecord}
 use Rattle.claims.specs.declared.records.Claim.{Claim}
@@ -14,21 +14,15 @@ use Rattle.claims.specs.declared.records.Claim.the-variants.{Instance, Host}
 use Rattle.claims.specs.declared.records.Own.{Own}
 use Rattle.own.specs.declared.records.Setup.{Setup}
 use Rattle.own.specs.records.Records.{hasRecord, ownName, ownRdata}
-use Rattle.facts.specs.tiebreak.Later.{TieRecord, tie, isLater}
 use Rattle.wire.specs.Lists.{some}
+use Rattle.facts.specs.Questions.{asksFor}
+use Rattle.facts.specs.tiebreak.Later.{TieRecord, tie, isLater}
 use Rattle.facts.specs.probe.Probe.{isProbe}
 use Rattle.facts.specs.tiebreak.Lists.{theirs, ownList}
 use Rattle.claims.specs.declared.answers.Heard.{Heard}
 use Rattle.claims.specs.declared.answers.Facts.{Facts}
-use Rattle.wire.specs.message.Layout.{Reads, read, refused}
-use Rattle.facts.specs.declared.Scanned.{Scanned}
-use Rattle.facts.specs.declared.Scanned.the-variants.{Said, Refused}
 
 -- "a question of a query has its name, its type or 255, and class 1 or 255"
-abbrev pub asksFor : List ℕ → ℕ → Question → Bool
-asksFor name rtype q =
-    sameName (q .name) name && ((eqb (q .rtype) rtype || eqb (q .rtype) 255) && (eqb (classOf (q .class)) 1 || eqb (classOf (q .class)) 255))
-
 unfoldable pub isAsked : Setup → Own → Message → Bool
 isAsked s o m = some (asksFor (ownName s o) (ownType o)) (m .questions)
 
@@ -93,8 +87,3 @@ queryFacts s m = record {
 -- What a message says: a response can only conflict; a query can ask, know and probe.
 unfoldable pub factsOf : Setup → Message → Facts
 factsOf s m = cond (isResponse (m .flags)) (responseFacts s m) (queryFacts s m)
-
--- what reading a packet comes to: the refusal of the message, or what it says
-abbrev pub scannedOf : Setup → Reads → Scanned
-scannedOf s (read l m) = Said (factsOf s m)
-scannedOf s (refused n) = Refused n

@@ -1,4 +1,5 @@
 pub mod Facts
-pub mod Walked
+pub mod Questions
+pub mod Found
 pub mod probe
 pub mod tiebreak

@@ -1,21 +1,21 @@
 // Reads a message into facts (specification, 'A claim's life' and 'Which answers go out'): which own records are asked for and which are known, whether it
-// is a probe and whose records are later, and whether it conflicts. Each own record is held against each question or record of the message.
+// is a probe and whose records are later, and whether it conflicts. A section of any layout is walked as far as it is well formed; of a layout that
+// `wire::message::read_message` gave that is the message that was read.
 pub mod probe;
 pub mod tiebreak;
 
 ghost use mathlib.Core.Path.{_≡_};
-ghost use mathlib.Core.Bool.{true, _||_};
-ghost use lib.Dec.{eqb};
-ghost use Rattle.wire.specs.message.Layout.{questionAt, recordAt, listFrom, messageAt, read};
-ghost use Rattle.wire.specs.message.Message.{Message, allRecords};
-ghost use Rattle.facts.specs.tiebreak.Later.{isLater};
+ghost use mathlib.Core.Bool.{Bool, _||_};
 ghost use Rattle.wire.specs.Lists.{some};
-ghost use Rattle.wire.specs.message.Readable.{messageIn};
-ghost use Rattle.facts.specs.probe.Probe.{isProbe};
-ghost use Rattle.claims.specs.records.Own.{ownType, ownTtl, each};
-ghost use Rattle.own.specs.records.Records.{ownName, ownRdata};
-ghost use Rattle.facts.specs.Facts.{asksFor, suppresses, conflicts, conflicted, claimName, theirsLater, responseTo, queryTo, factsOf, scannedOf};
-ghost use Rattle.facts.specs.Walked.{isListed, someIn, asksHere, suppressesHere, conflictsHere};
+ghost use Rattle.wire.specs.message.Message.{Record, allRecords};
+ghost use Rattle.wire.specs.message.Layout.{recordAt};
+ghost use Rattle.wire.specs.message.Readable.{readable, messageIn, questionShown, recordShown};
+ghost use Rattle.claims.specs.records.Own.{ownType, has, each};
+ghost use Rattle.own.specs.records.Records.{ownName};
+ghost use Rattle.facts.specs.Questions.{takesIn, asksFor};
+ghost use Rattle.facts.specs.Found.{QuestionFound, RecordFound};
+ghost use Rattle.facts.specs.tiebreak.Later.{isLater};
+ghost use Rattle.facts.specs.Facts.{isAsked, isKnown, suppresses, conflicts, conflicted, theirsLater, responseTo, queryTo, factsOf};
 use claims::answers::Facts;
 use claims::answers::Heard;
 use claims::records::Claim;
@@ -24,20 +24,15 @@ use claims::records::RECORDS;
 use claims::records::Set;
 use own::records::Setup;
 
-// Class 1, and the type and class that ask for all.
+// Own records are of class 1.
 const INTERNET: u16 = 1;
 
+// The type and the class that ask for all.
 const ANY: u16 = 255;
-
-// What reading a packet comes to: the specification's number of the refusal, 4, 5 or 6, or what the message says.
-pub enum Scanned {
-    Said(Facts),
-    Refused(u8),
-}
 
 // Whether a type or class that is asked for takes in another.
 fn takes_in(asked: u16, own: u16) -> bool
-    ensures { λ r. ⌜ r ≡ eqb asked own || eqb asked 255 ⌝ }
+    ensures { λ r. ⌜ r ≡ takesIn asked own ⌝ }
 {
     if asked == own {
         return true;
@@ -46,8 +41,9 @@ fn takes_in(asked: u16, own: u16) -> bool
 }
 
 // Whether a question asks for a record of a name and type.
-fn asks_here(p: &[u8], q: wire::message::QuestionAt, name: &[u8], rtype: u16) -> bool
-    ensures { λ r. ⌜ r ≡ asksHere (now (p .entry)) q (now (name .entry)) rtype ⌝ }
+fn asks(p: &[u8], q: wire::message::QuestionAt, name: &[u8], rtype: u16) -> bool
+    requires { ⌜ QuestionFound (now p) q ⌝ }
+    ensures { λ r. ⌜ r ≡ asksFor (now (name .entry)) rtype (questionShown (now (p .entry)) q) ⌝ }
 {
     if !takes_in(q.rtype, rtype) {
         return false;
@@ -58,31 +54,64 @@ fn asks_here(p: &[u8], q: wire::message::QuestionAt, name: &[u8], rtype: u16) ->
     wire::names::name_is(p, q.name, name)
 }
 
-// Whether a question of a section that has been checked asks for a record of a name and type.
-fn some_asks(p: &[u8], s: wire::message::Section, name: &[u8], rtype: u16) -> bool
-    ensures { λ r. ⌜ (isListed (listFrom (questionAt (now (p .entry))) (s .count) (s .at)) ≡ true → r ≡ someIn (asksFor (now (name .entry)) rtype) (listFrom (questionAt (now (p .entry))) (s .count) (s .at))) ⌝ }
+// Whether an own record is among those asked for before, or a question asks for it.
+fn is_asked(p: &[u8], q: wire::message::QuestionAt, setup: Setup, asked: Set, o: Own) -> bool
+    requires { ⌜ QuestionFound (now p) q ⌝ }
+    ensures { λ r. ⌜ r ≡ has o asked || asksFor (ownName setup o) (ownType o) (questionShown (now (p .entry)) q) ⌝ }
 {
+    if claims::records::is_in(o, asked) {
+        return true;
+    }
+    let own = own::records::own_name(setup, o);
+    let bytes = own.bytes;
+    let len = own.len;
+    asks(
+        p,
+        q,
+        wire::rdata::part(&bytes, 0, len),
+        claims::records::own_type(o),
+    )
+}
+
+// The own records asked for before, and those that a question asks for.
+fn asked_with(p: &[u8], q: wire::message::QuestionAt, setup: Setup, asked: Set) -> Set
+    requires { ⌜ QuestionFound (now p) q ⌝ }
+    ensures { λ r. ⌜ r ≡ each (λ o. has o asked || asksFor (ownName setup o) (ownType o) (questionShown (now (p .entry)) q)) ⌝ }
+{
+    let mut flags = [false; RECORDS];
+    let mut i = 0;
+    while i < RECORDS {
+        flags[i] = is_asked(p, q, setup, asked, claims::records::record_at(i));
+        i += 1;
+    }
+    claims::records::set_of(flags)
+}
+
+// The own records that the questions ask for, in one pass over them.
+fn asked_for(p: &[u8], l: wire::message::Layout, setup: Setup) -> Set
+    ensures { λ r. ⌜ r ≡ each (λ o. isAsked setup o (messageIn (now (p .entry)) l)) ⌝ }
+{
+    let s = l.questions;
+    let mut asked = claims::records::no_record();
     let mut here = s.at;
     let mut left = s.count;
     while 0 < left {
         match wire::message::question_at(p, here) {
             wire::message::QuestionRead::Found(q) => {
-                if asks_here(p, q, name, rtype) {
-                    return true;
-                }
+                asked = asked_with(p, q, setup, asked);
                 here = q.next;
             }
             wire::message::QuestionRead::Malformed => {
-                return false;
+                return asked;
             }
         }
         left -= 1;
     }
-    false
+    asked
 }
 
-// Whether a record as it lies suppresses an own one: equal name, class, type and rdata, and twice its TTL at least the own TTL.
-fn suppresses_here(
+// Whether a record suppresses an own one: equal name, class, type and rdata, and twice its TTL at least the own TTL.
+fn suppresses(
     p: &[u8],
     f: wire::message::RecordAt,
     name: &[u8],
@@ -90,7 +119,8 @@ fn suppresses_here(
     own: &[u8],
     ttl: u32,
 ) -> bool
-    ensures { λ r. ⌜ r ≡ suppressesHere (now (p .entry)) f (now (name .entry)) rtype (now (own .entry)) ttl ⌝ }
+    requires { ⌜ RecordFound (now p) f ⌝ }
+    ensures { λ r. ⌜ r ≡ suppresses (now (name .entry)) rtype (now (own .entry)) ttl (recordShown (now (p .entry)) f) ⌝ }
 {
     if f.rtype != rtype {
         return false;
@@ -107,80 +137,11 @@ fn suppresses_here(
     wire::expansion::rdata_is(p, f, own)
 }
 
-// Whether a record as it lies conflicts with an own one: equal name, class 1 and type, a TTL that is not 0, and other rdata.
-fn conflicts_here(p: &[u8], f: wire::message::RecordAt, name: &[u8], rtype: u16, own: &[u8]) -> bool
-    ensures { λ r. ⌜ r ≡ conflictsHere (now (p .entry)) f (now (name .entry)) rtype (now (own .entry)) ⌝ }
+// The own records that the answers know: each own record against each answer, left at the first that suppresses it.
+fn known_in(p: &[u8], l: wire::message::Layout, setup: Setup) -> Set
+    ensures { λ r. ⌜ r ≡ each (λ o. isKnown setup o (messageIn (now (p .entry)) l)) ⌝ }
 {
-    if f.rtype != rtype {
-        return false;
-    }
-    if f.class % 32768 != INTERNET {
-        return false;
-    }
-    if f.ttl == 0 {
-        return false;
-    }
-    if !wire::names::name_is(p, f.owner, name) {
-        return false;
-    }
-    !wire::expansion::rdata_is(p, f, own)
-}
-
-// Whether a record of a section that has been checked conflicts with an own one.
-fn some_conflicts(p: &[u8], s: wire::message::Section, name: &[u8], rtype: u16, own: &[u8]) -> bool
-    ensures { λ r. ⌜ (isListed (listFrom (recordAt (now (p .entry))) (s .count) (s .at)) ≡ true → r ≡ someIn (conflicts (now (name .entry)) rtype (now (own .entry))) (listFrom (recordAt (now (p .entry))) (s .count) (s .at))) ⌝ }
-{
-    let mut here = s.at;
-    let mut left = s.count;
-    while 0 < left {
-        match wire::message::record_at(p, here) {
-            wire::message::RecordRead::Found(f) => {
-                if conflicts_here(p, f, name, rtype, own) {
-                    return true;
-                }
-                here = f.next;
-            }
-            wire::message::RecordRead::Malformed => {
-                return false;
-            }
-        }
-        left -= 1;
-    }
-    false
-}
-
-// Whether a question of a section that has been checked asks for an own record.
-fn is_asked(p: &[u8], s: wire::message::Section, setup: Setup, o: Own) -> bool
-    ensures { λ r. ⌜ (isListed (listFrom (questionAt (now (p .entry))) (s .count) (s .at)) ≡ true → r ≡ someIn (asksFor (ownName setup o) (ownType o)) (listFrom (questionAt (now (p .entry))) (s .count) (s .at))) ⌝ }
-{
-    let own = own::records::own_name(setup, o);
-    let bytes = own.bytes;
-    let len = own.len;
-    some_asks(
-        p,
-        s,
-        wire::rdata::part(&bytes, 0, len),
-        claims::records::own_type(o),
-    )
-}
-
-// The own records that a section of questions asks for.
-fn asked_for(p: &[u8], s: wire::message::Section, setup: Setup) -> Set
-    ensures { λ r. ⌜ (isListed (listFrom (questionAt (now (p .entry))) (s .count) (s .at)) ≡ true → r ≡ each (λ o. someIn (asksFor (ownName setup o) (ownType o)) (listFrom (questionAt (now (p .entry))) (s .count) (s .at)))) ⌝ }
-{
-    let mut asked = [false; RECORDS];
-    let mut i = 0;
-    while i < RECORDS {
-        asked[i] = is_asked(p, s, setup, claims::records::record_at(i));
-        i += 1;
-    }
-    claims::records::set_of(asked)
-}
-
-// The own records that a section of answers knows: each own record against each answer, left at the first that suppresses it.
-fn known_in(p: &[u8], s: wire::message::Section, setup: Setup) -> Set
-    ensures { λ r. ⌜ (isListed (listFrom (recordAt (now (p .entry))) (s .count) (s .at)) ≡ true → r ≡ each (λ o. someIn (suppresses (ownName setup o) (ownType o) (ownRdata setup o) (ownTtl o)) (listFrom (recordAt (now (p .entry))) (s .count) (s .at)))) ⌝ }
-{
+    let s = l.answers;
     let mut known = [false; RECORDS];
     let mut i = 0;
     'own: while i < RECORDS {
@@ -196,9 +157,9 @@ fn known_in(p: &[u8], s: wire::message::Section, setup: Setup) -> Set
         let mut here = s.at;
         let mut left = s.count;
         while 0 < left {
-            match wire::message::record_at(p, here) {
+            match wire::message::whole_record(p, here) {
                 wire::message::RecordRead::Found(f) => {
-                    if suppresses_here(
+                    if suppresses(
                         p,
                         f,
                         wire::rdata::part(&namebytes, 0, namelen),
@@ -226,9 +187,54 @@ fn known_in(p: &[u8], s: wire::message::Section, setup: Setup) -> Set
     claims::records::set_of(known)
 }
 
-// Whether a record of any section of a message that has been checked conflicts with an own one.
+// Whether a record conflicts with an own one: equal name, class 1 and type, a TTL that is not 0, and other rdata.
+fn conflicts(p: &[u8], f: wire::message::RecordAt, name: &[u8], rtype: u16, own: &[u8]) -> bool
+    requires { ⌜ RecordFound (now p) f ⌝ }
+    ensures { λ r. ⌜ r ≡ conflicts (now (name .entry)) rtype (now (own .entry)) (recordShown (now (p .entry)) f) ⌝ }
+{
+    if f.rtype != rtype {
+        return false;
+    }
+    if f.class % 32768 != INTERNET {
+        return false;
+    }
+    if f.ttl == 0 {
+        return false;
+    }
+    if !wire::names::name_is(p, f.owner, name) {
+        return false;
+    }
+    !wire::expansion::rdata_is(p, f, own)
+}
+
+// Whether a record of a section conflicts with an own one.
+fn some_conflicts(p: &[u8], s: wire::message::Section, name: &[u8], rtype: u16, own: &[u8]) -> bool
+    ensures { λ r. ⌜ (let test : Record → Bool = conflicts (now (name .entry)) rtype (now (own .entry)) in
+        r ≡ some test (readable (recordAt (now (p .entry))) (s .count) (s .at))) ⌝ }
+{
+    let mut here = s.at;
+    let mut left = s.count;
+    while 0 < left {
+        match wire::message::whole_record(p, here) {
+            wire::message::RecordRead::Found(f) => {
+                if conflicts(p, f, name, rtype, own) {
+                    return true;
+                }
+                here = f.next;
+            }
+            wire::message::RecordRead::Malformed => {
+                return false;
+            }
+        }
+        left -= 1;
+    }
+    false
+}
+
+// Whether a record of any section conflicts with an own one.
 fn conflicts_in(p: &[u8], l: wire::message::Layout, name: &[u8], rtype: u16, own: &[u8]) -> bool
-    ensures { λ r. ⌜ ((m : Message) → messageAt (now (p .entry)) ≡ read l m → r ≡ some (conflicts (now (name .entry)) rtype (now (own .entry))) (allRecords m)) ⌝ }
+    ensures { λ r. ⌜ (let test : Record → Bool = conflicts (now (name .entry)) rtype (now (own .entry)) in
+        r ≡ some test (allRecords (messageIn (now (p .entry)) l))) ⌝ }
 {
     let answers = l.answers;
     if some_conflicts(p, answers, name, rtype, own) {
@@ -242,9 +248,9 @@ fn conflicts_in(p: &[u8], l: wire::message::Layout, name: &[u8], rtype: u16, own
     some_conflicts(p, additionals, name, rtype, own)
 }
 
-// Whether a record of a message that has been checked conflicts with an own record that the set-up has.
+// Whether a record of a message conflicts with an own record that the set-up has.
 fn has_conflict(p: &[u8], l: wire::message::Layout, setup: Setup, o: Own) -> bool
-    ensures { λ r. ⌜ ((m : Message) → messageAt (now (p .entry)) ≡ read l m → r ≡ conflicted setup o m) ⌝ }
+    ensures { λ r. ⌜ r ≡ conflicted setup o (messageIn (now (p .entry)) l) ⌝ }
 {
     if !own::records::has_record(setup, o) {
         return false;
@@ -264,9 +270,9 @@ fn has_conflict(p: &[u8], l: wire::message::Layout, setup: Setup, o: Own) -> boo
     )
 }
 
-// What a response that has been checked says to a claim.
+// What a response says to a claim.
 fn response_to(p: &[u8], l: wire::message::Layout, setup: Setup, claim: Claim) -> Heard
-    ensures { λ r. ⌜ ((m : Message) → messageAt (now (p .entry)) ≡ read l m → r ≡ responseTo setup claim m) ⌝ }
+    ensures { λ r. ⌜ r ≡ responseTo setup claim (messageIn (now (p .entry)) l) ⌝ }
 {
     if has_conflict(p, l, setup, claims::records::first_of(claim)) {
         return Heard {
@@ -323,30 +329,23 @@ fn theirs_later(p: &[u8], l: wire::message::Layout, setup: Setup, claim: Claim) 
     ))
 }
 
-// Whether a message is a probe for the name of a claim.
-fn is_probe(p: &[u8], l: wire::message::Layout, setup: Setup, claim: Claim) -> bool
-    ensures { λ r. ⌜ r ≡ isProbe (claimName setup claim) (messageIn (now (p .entry)) l) ⌝ }
+// What a query says to a claim.
+fn query_to(p: &[u8], l: wire::message::Layout, setup: Setup, claim: Claim) -> Heard
+    ensures { λ r. ⌜ r ≡ queryTo setup claim (messageIn (now (p .entry)) l) ⌝ }
 {
     let name = own::records::own_name(setup, claims::records::first_of(claim));
     let namebytes = name.bytes;
     let namelen = name.len;
-    crate::probe::is_probe(p, l, wire::rdata::part(&namebytes, 0, namelen))
-}
-
-// What a query that has been checked says to a claim.
-fn query_to(p: &[u8], l: wire::message::Layout, setup: Setup, claim: Claim) -> Heard
-    ensures { λ r. ⌜ r ≡ queryTo setup claim (messageIn (now (p .entry)) l) ⌝ }
-{
     Heard {
-        probe: is_probe(p, l, setup, claim),
+        probe: crate::probe::is_probe(p, l, wire::rdata::part(&namebytes, 0, namelen)),
         later: theirs_later(p, l, setup, claim),
         conflict: false,
     }
 }
 
-// What a message that has been checked says.
-fn facts(p: &[u8], l: wire::message::Layout, setup: Setup) -> Facts
-    ensures { λ r. ⌜ ((m : Message) → messageAt (now (p .entry)) ≡ read l m → r ≡ factsOf setup m) ⌝ }
+// What the message that a layout shows says to a responder of this set-up.
+pub fn facts(p: &[u8], l: wire::message::Layout, setup: Setup) -> Facts
+    ensures { λ r. ⌜ r ≡ factsOf setup (messageIn (now (p .entry)) l) ⌝ }
 {
     if 32768 <= l.flags {
         return Facts {
@@ -357,23 +356,11 @@ fn facts(p: &[u8], l: wire::message::Layout, setup: Setup) -> Facts
             host: response_to(p, l, setup, Claim::Host),
         };
     }
-    let questions = l.questions;
-    let answers = l.answers;
     Facts {
         response: false,
-        asked: asked_for(p, questions, setup),
-        known: known_in(p, answers, setup),
+        asked: asked_for(p, l, setup),
+        known: known_in(p, l, setup),
         instance: query_to(p, l, setup, Claim::Instance),
         host: query_to(p, l, setup, Claim::Host),
-    }
-}
-
-// Reads a packet: refused as 4, 5 or 6, in this order, or what the message says to a responder of this set-up.
-pub fn scan_packet(p: &[u8], setup: Setup) -> Scanned
-    ensures { λ r. ⌜ r ≡ scannedOf setup (messageAt (now (p .entry))) ⌝ }
-{
-    match wire::message::read_message(p) {
-        wire::message::MessageRead::Read(l) => Scanned::Said(facts(p, l, setup)),
-        wire::message::MessageRead::Refused(number) => Scanned::Refused(number),
     }
 }

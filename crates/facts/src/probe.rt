@@ -2,34 +2,9 @@
 // is in the module `tiebreak`.
 ghost use mathlib.Core.Path.{_≡_};
 ghost use Rattle.wire.specs.message.Layout.{questionAt, recordAt};
-ghost use Rattle.wire.specs.names.Answers.{nameIs};
 ghost use Rattle.wire.specs.Lists.{some};
 ghost use Rattle.wire.specs.message.Readable.{readable, messageIn};
 ghost use Rattle.facts.specs.probe.Probe.{under, asksAll, isProbe};
-ghost use Rattle.facts.specs.probe.Walked.{asksAt};
-
-// Own records are of class 1.
-const INTERNET: u16 = 1;
-
-// The type and the class that ask for all.
-const ANY: u16 = 255;
-
-// Whether a question asks for all that a name has, in class 1 or in any.
-fn asks(p: &[u8], q: wire::message::QuestionAt, name: &[u8]) -> bool
-    ensures { λ r. ⌜ r ≡ asksAt (nameIs (now (p .entry)) (q .name) (now (name .entry))) q ⌝ }
-{
-    if q.rtype != ANY {
-        return false;
-    }
-    let class = q.class % 32768;
-    if class == INTERNET {
-        return wire::names::name_is(p, q.name, name);
-    }
-    if class == ANY {
-        return wire::names::name_is(p, q.name, name);
-    }
-    false
-}
 
 // Whether a question of a section asks for all that a name has.
 fn some_asks(p: &[u8], s: wire::message::Section, name: &[u8]) -> bool
@@ -40,7 +15,7 @@ fn some_asks(p: &[u8], s: wire::message::Section, name: &[u8]) -> bool
     while 0 < left {
         match wire::message::question_at(p, here) {
             wire::message::QuestionRead::Found(q) => {
-                if asks(p, q, name) {
+                if crate::asks(p, q, name, crate::ANY) {
                     return true;
                 }
                 here = q.next;

@@ -13,9 +13,6 @@ ghost use Rattle.facts.specs.tiebreak.Later.{TieRecord, numberOf, isLate
 ghost use Rattle.facts.specs.tiebreak.Lists.{tieRecord, listIn, ownRecord, ownList, theirs};
 ghost use Rattle.facts.specs.tiebreak.Counts.{countOne, countMet, countAll, noneCounted, placed, beyond};
 
-// Own records are of class 1.
-const INTERNET: u16 = 1;
-
 // How one list stands to another. the specification's numbers are -1, 0 and 1.
 pub enum Verdict {
     Earlier,
@@ -93,7 +90,7 @@ fn compare_with_own(p: &[u8], f: wire::message::RecordAt, rtype: u16, own: &[u8]
     let n = o.len;
     let seen = wire::expansion::view(p, &b, n, f);
     let class = f.class % 32768;
-    compare_records(class, f.rtype, seen, INTERNET, rtype, own)
+    compare_records(class, f.rtype, seen, crate::INTERNET, rtype, own)
 }
 
 // Counts with one record more, which compares so with the own one.
@@ -261,7 +258,7 @@ pub fn tiebreak(
     if !own.both {
         return against_one(p, s, name, a, first);
     }
-    match compare_records(INTERNET, a, first, INTERNET, b, second) {
+    match compare_records(crate::INTERNET, a, first, crate::INTERNET, b, second) {
         Verdict::Earlier => against_two(p, s, name, a, first, b, second),
         Verdict::Same => against_two(p, s, name, a, first, b, second),
         Verdict::Later => against_two(p, s, name, b, second, a, first),

@@ -7,19 +7,19 @@ use Rattle.link.specs.Premises.{deliveryTime, lateness}
 use Rattle.link.specs.Laws.{probeGap, defenceGap, Stage, probing, held, Unclaimed}
 
 -- The claim became held at entry n: three probes were sent, the step was due, and entry n multicasts the record.
-pub record Won (Party : Type 0) (stage : Party → ℕ → Stage) (now : ℕ → ℕ) (Acts Says : Party → ℕ → Type 0) (d : Party) (n : ℕ) : Type 0 where
+pub record Won (stage : ℕ → Stage) (now : ℕ → ℕ) (Acts Says : ℕ → Type 0) (n : ℕ) : Type 0 where
   pub due : ℕ
-  pub was : stage d n ≡ probing 3 due
+  pub was : stage n ≡ probing 3 due
   pub late : due ≤ now n
-  pub acts : Acts d n
-  pub says : Says d n
+  pub acts : Acts n
+  pub says : Says n
 
 -- The claim has i probes sent and its next step due at u since entry n: entry n sent the probe; a second or third one was due.
-pub record Probed (Party : Type 0) (stage : Party → ℕ → Stage) (now : ℕ → ℕ) (Acts Probes : Party → ℕ → Type 0) (d : Party) (n i u : ℕ) : Type 0 where
-  pub acts : Acts d n
-  pub probes : Probes d n
+pub record Probed (stage : ℕ → Stage) (now : ℕ → ℕ) (Acts Probes : ℕ → Type 0) (n i u : ℕ) : Type 0 where
+  pub acts : Acts n
+  pub probes : Probes n
   pub due : u ≡ now n + probeGap
-  pub earlier : (j : ℕ) → i ≡ suc (suc j) → (v : ℕ) × (stage d n ≡ probing (suc j) v) × (v ≤ now n)
+  pub earlier : (j : ℕ) → i ≡ suc (suc j) → (v : ℕ) × (stage n ≡ probing (suc j) v) × (v ≤ now n)
 
 -- A packet sent at entry i is taken at entry `at`, before entry j and in time.
 pub record Taken (time : ℕ → ℕ) (At : ℕ → Type 0) (i j : ℕ) : Type 0 where
@@ -29,12 +29,12 @@ pub record Taken (time : ℕ → ℕ) (At : ℕ → Type 0) (i j : ℕ) : Type 0
   pub soon : time at ≤ time i + deliveryTime
   pub takes : At at
 
--- d multicast its record at an entry so recently before entry n that a probe heard there needs no answer.
-pub record Recent (Party : Type 0) (now : ℕ → ℕ) (Acts Says : Party → ℕ → Type 0) (d : Party) (n : ℕ) : Type 0 where
+-- The record was multicast at an entry so recently before entry n that a probe heard there needs no answer.
+pub record Recent (now : ℕ → ℕ) (Acts Says : ℕ → Type 0) (n : ℕ) : Type 0 where
   pub at : ℕ
   pub before : at < n
-  pub acts : Acts d at
-  pub says : Says d at
+  pub acts : Acts at
+  pub says : Says at
   pub gap : now n < now at + defenceGap
 
 pub record Contest : Type 1 where
@@ -64,13 +64,13 @@ pub record Contest : Type 1 where
   pub one-rate : (d : Party) (m n : ℕ) → Acts d m → Acts d n → now m + time n ≡ now n + time m
   -- a claim by itself
   pub at-first : (d : Party) → Unclaimed (stage d 0)
-  pub won : (d : Party) (n : ℕ) → (stage d n ≡ held → ⊥) → stage d (suc n) ≡ held → Won Party stage now Acts Says d n
+  pub won : (d : Party) (n : ℕ) → (stage d n ≡ held → ⊥) → stage d (suc n) ≡ held → Won (stage d) now (Acts d) (Says d) n
   pub probed :
-      (d : Party) (n i u : ℕ) → (stage d n ≡ probing i u → ⊥) → stage d (suc n) ≡ probing i u → Probed Party stage now Acts Probes d n i u
+      (d : Party) (n i u : ℕ) → (stage d n ≡ probing i u → ⊥) → stage d (suc n) ≡ probing i u → Probed (stage d) now (Acts d) (Probes d) n i u
   -- what is done with what is heard
   pub yields : (d e : Party) (n : ℕ) → Differ d e → HearsRecord d e n → Unclaimed (stage d (suc n))
   pub defers : (d e : Party) (n i u : ℕ) → Differ d e → Later e d → HearsProbe d e n → stage d n ≡ probing i u → Unclaimed (stage d (suc n))
-  pub defends : (d e : Party) (n : ℕ) → Differ d e → HearsProbe d e n → stage d n ≡ held → Says d n ⊎ Recent Party now Acts Says d n
+  pub defends : (d e : Party) (n : ℕ) → Differ d e → HearsProbe d e n → stage d n ≡ held → Says d n ⊎ Recent now (Acts d) (Says d) n
   pub hearer-acts : (d e : Party) (n : ℕ) → HearsProbe d e n → Acts d n
   -- the premises, for claims that are probing or held
   pub on-time : (d : Party) (m n i u : ℕ) → n < count → Acts d m → stage d n ≡ probing i u → time n + now m ≤ u + lateness + time m

@@ -7,7 +7,7 @@ use Prim.Native.Nat.{ℕ, suc, _+_, _≤_, _<_}
 use native.Mathlib.Omega.{arith}
 use native.Mathlib.Decide.{decLe, decLt}
 use Rattle.link.specs.Premises.{deliveryTime}
-use Rattle.link.specs.Laws.{Stage, probing, held, Unclaimed}
+use Rattle.link.specs.Laws.{Stage, held, Unclaimed}
 use Rattle.link.proofs.Contest.{Contest, Taken, Recent}
 use Rattle.link.proofs.Probes.{Probing, Life, life}
 
@@ -79,7 +79,7 @@ module _ (L : Contest) where
         let soon : time (Y .p2) ≤ time (k .at) = in-order (Y .p2) (k .at) (omega arith) (omega arith) in
         ⊎-elim
         (λ s. silent (k .at) (omega arith) (k .before) s (omega arith))
-        (λ (r : Recent Party now Acts Says x (k .at)).
+        (λ (r : Recent now (Acts x) (Says x) (k .at)).
         let same : now (r .at) + time (k .at) ≡ now (k .at) + time (r .at) =
         L .one-rate x (r .at) (k .at) (r .acts) (L .hearer-acts x y (k .at) (k .takes))
         in

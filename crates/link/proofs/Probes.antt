@@ -5,7 +5,7 @@ use Prim.Native.Nat.{ℕ, suc, _+_, _≤_, _<_}
 use native.Mathlib.Omega.{arith}
 use native.Mathlib.Decide.{decLe, ℕ-discrete}
 use Rattle.link.specs.Premises.{lateness}
-use Rattle.link.specs.Laws.{probeGap, Stage, probing, held, apart, Unclaimed, Stage-discrete}
+use Rattle.link.specs.Laws.{probeGap, Stage, probing, held, Unclaimed, Stage-discrete}
 use Rattle.link.proofs.Since.{Since, since}
 use Rattle.link.proofs.Contest.{Contest, Probed, Won}
 
@@ -46,7 +46,7 @@ module _ (L : Contest) where
   record Sent (d : Party) (n i u : ℕ) : Type 0 where
     at : ℕ
     before : at < n
-    how : Probed Party stage now Acts Probes d at i u
+    how : Probed (stage d) now (Acts d) (Probes d) at i u
     from : (j : ℕ) → at < j → j ≤ n → stage d j ≡ probing i u
 
   -- the last position before n at which the claim was not f
@@ -83,7 +83,7 @@ module _ (L : Contest) where
   pub life : (d : Party) (n : ℕ) → n ≤ count → stage d n ≡ held → Life L d n
   life d n h p =
       let s : Since (λ j. stage d j ≡ held) n = last held (λ q. q) d n p in
-      let t : Won Party stage now Acts Says d (s .at) = won d (s .at) (s .not-yet) (s .from (suc (s .at)) (omega arith) (omega arith)) in
+      let t : Won (stage d) now (Acts d) (Says d) (s .at) = won d (s .at) (s .not-yet) (s .from (suc (s .at)) (omega arith) (omega arith)) in
       let q3 : Sent d (s .at) 3 (t .due) = sent d (s .at) 3 (t .due) (t .was) in
       let e3 = q3 .how .earlier 1 refl in
       let q2 : Sent d (q3 .at) 2 (e3 .0) = sent d (q3 .at) 2 (e3 .0) (e3 .1) in

@@ -7,7 +7,7 @@ ghost use Prim.Native.Nat.{_+_, _≤_, _<_};
 ghost use lib.ListN.{length, take};
 ghost use lib.Seq.{sets};
 ghost use Rattle.wire.specs.labels.Labels.{encode};
-ghost use Rattle.own.specs.records.Setups.{local, labelHeld, serviceHeld, protocolLabel, serviceLabels, instanceLabels, hostLabels};
+ghost use Rattle.own.specs.records.Setups.{local, protocolLabel, serviceLabels, instanceLabels, hostLabels};
 ghost use Rattle.own.specs.records.Records.{labelBytes, Laid, ownOf, hasRecord, ownName, ownRdata, srvRdata};
 use claims::records::Own;
 
@@ -59,18 +59,6 @@ pub struct OwnBytes {
     pub len: usize,
 }
 
-// Writes `s` into `out` from index `at` on.
-fn put(out: &mut [u8; 400], at: usize, s: &[u8])
-    requires { ⌜ at + length (now s) ≤ 400 ⌝ }
-    ensures { λ _. ⌜ now (out .exit) ≡ sets (now (out .entry)) at (now (s .entry)) ⌝ }
-{
-    let mut i = 0;
-    while i < s.len() {
-        out[at + i] = s[i];
-        i += 1;
-    }
-}
-
 // Writes a label after its length byte, and answers the offset past it.
 fn put_label(out: &mut [u8; 400], at: usize, label: &[u8]) -> usize
     requires { ⌜ (at + 1 + length (now label) ≤ 400) × (length (now label) < 256) ⌝ }
@@ -78,34 +66,19 @@ fn put_label(out: &mut [u8; 400], at: usize, label: &[u8]) -> usize
 {
     let n = label.len();
     out[at] = n as u8;
-    put(out, at + 1, label);
+    wire::buffer::put(out, at + 1, label);
     at + 1 + n
 }
 
-// The label of an instance or a host.
-fn put_held(out: &mut [u8; 400], at: usize, l: Label) -> usize
-    requires { ⌜ at + 64 ≤ 400 ⌝ }
-    ensures { λ r. ⌜ Laid at (labelBytes (labelHeld l)) 64 (now (out .entry)) r (now (out .exit)) ⌝ }
+// A label that an array holds: the first `len` of its bytes, all of them where it has no more.
+fn put_held(out: &mut [u8; 400], at: usize, bytes: &[u8], len: usize) -> usize
+    requires { ⌜ (at + 1 + length (now bytes) ≤ 400) × (length (now bytes) < 256) ⌝ }
+    ensures { λ r. ⌜ Laid at (labelBytes (take len (now (bytes .entry)))) (1 + length (now (bytes .entry))) (now (out .entry)) r (now (out .exit)) ⌝ }
 {
-    let bytes = l.bytes;
-    let len = l.len;
-    if len < MOST_LABEL {
+    if len < bytes.len() {
         return put_label(out, at, &bytes[..len]);
     }
-    put_label(out, at, &bytes)
-}
-
-// The label of a service.
-fn put_service(out: &mut [u8; 400], at: usize, l: Service) -> usize
-    requires { ⌜ at + 17 ≤ 400 ⌝ }
-    ensures { λ r. ⌜ Laid at (labelBytes (serviceHeld l)) 17 (now (out .entry)) r (now (out .exit)) ⌝ }
-{
-    let bytes = l.bytes;
-    let len = l.len;
-    if len < MOST_SERVICE {
-        return put_label(out, at, &bytes[..len]);
-    }
-    put_label(out, at, &bytes)
+    put_label(out, at, bytes)
 }
 
 // The label of a protocol: one of the two fixed strings.
@@ -135,8 +108,9 @@ fn put_service_name(out: &mut [u8; 400], at: usize, s: Setup) -> usize
     ensures { λ r. ⌜ Laid at (encode (serviceLabels s)) 29 (now (out .entry)) r (now (out .exit)) ⌝ }
 {
     let service = s.service;
+    let bytes = service.bytes;
     let protocol = s.protocol;
-    let a = put_service(out, at, service);
+    let a = put_held(out, at, &bytes, service.len);
     let b = put_protocol(out, a, protocol);
     put_local(out, b)
 }
@@ -147,7 +121,8 @@ fn put_instance_name(out: &mut [u8; 400], at: usize, s: Setup) -> usize
     ensures { λ r. ⌜ Laid at (encode (instanceLabels s)) 93 (now (out .entry)) r (now (out .exit)) ⌝ }
 {
     let instance = s.instance;
-    let a = put_held(out, at, instance);
+    let bytes = instance.bytes;
+    let a = put_held(out, at, &bytes, instance.len);
     put_service_name(out, a, s)
 }
 
@@ -157,7 +132,8 @@ fn put_host_name(out: &mut [u8; 400], at: usize, s: Setup) -> usize
     ensures { λ r. ⌜ Laid at (encode (hostLabels s)) 71 (now (out .entry)) r (now (out .exit)) ⌝ }
 {
     let host = s.host;
-    let a = put_held(out, at, host);
+    let bytes = host.bytes;
+    let a = put_held(out, at, &bytes, host.len);
     put_local(out, a)
 }
 
@@ -230,7 +206,7 @@ fn txt_rdata(t: Strings) -> OwnBytes
         };
     }
     let mut bytes = [0u8; 400];
-    put(&mut bytes, 0, &held[..len]);
+    wire::buffer::put(&mut bytes, 0, &held[..len]);
     OwnBytes { bytes, len }
 }
 
@@ -239,7 +215,7 @@ fn a_rdata(a: [u8; 4]) -> OwnBytes
     ensures { λ r. ⌜ r ≡ ownOf a ⌝ }
 {
     let mut bytes = [0u8; 400];
-    put(&mut bytes, 0, &a);
+    wire::buffer::put(&mut bytes, 0, &a);
     OwnBytes { bytes, len: 4 }
 }
 
@@ -247,7 +223,7 @@ fn aaaa_rdata(a: [u8; 16]) -> OwnBytes
     ensures { λ r. ⌜ r ≡ ownOf a ⌝ }
 {
     let mut bytes = [0u8; 400];
-    put(&mut bytes, 0, &a);
+    wire::buffer::put(&mut bytes, 0, &a);
     OwnBytes { bytes, len: 16 }
 }
 

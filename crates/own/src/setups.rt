@@ -8,7 +8,7 @@ use crate::records::Setup;
 use crate::records::Strings;
 ghost use mathlib.Core.Path.{_≡_};
 ghost use mathlib.Core.Bool.{true};
-ghost use Rattle.own.specs.records.Setups.{local, isLetter, isNameByte, nameBytes, someLetter, hyphensApart, serviceRule, labelFits, serviceFits, protocolFits, domainFits, txtFits, validSetup};
+ghost use Rattle.own.specs.records.Setups.{local, isLetter, isNameByte, allNameBytes, someLetter, hyphensApart, serviceRule, labelFits, serviceFits, protocolFits, domainFits, txtFits, validSetup};
 
 // An ASCII letter.
 fn letter(b: u8) -> bool
@@ -43,8 +43,8 @@ fn name_byte(b: u8) -> bool
 }
 
 // Only letters, digits and hyphens.
-fn name_bytes(s: &[u8]) -> bool
-    ensures { λ r. ⌜ r ≡ nameBytes (now (s .entry)) ⌝ }
+fn all_name_bytes(s: &[u8]) -> bool
+    ensures { λ r. ⌜ r ≡ allNameBytes (now (s .entry)) ⌝ }
 {
     let mut i = 0;
     while i < s.len() {
@@ -102,7 +102,7 @@ fn service_rule(s: &[u8]) -> bool
         return false;
     }
     let name = &s[1..];
-    if !name_bytes(name) {
+    if !all_name_bytes(name) {
         return false;
     }
     if !some_letter(name) {

@@ -14,6 +14,9 @@ use Rattle.claims.specs.declared.records.Own.{Own}
 use Rattle.claims.specs.declared.ClaimState.the-variants.{Held}
 use Rattle.claims.specs.declared.When.the-variants.{Never}
 use Rattle.claims.specs.declared.Progress.{Progress}
+use Rattle.writer.specs.own_packets.Packets.{packetOf}
+use Rattle.responder.specs.Handed.{Arrival}
+use Rattle.responder.specs.declared.State.{State}
 use Rattle.cache.specs.declared.entries.Entry.{Entry}
 use Rattle.cache.specs.entries.Cache.{Cache, atStart}
 
@@ -53,16 +56,23 @@ holding = record {
   last = 0;
 }
 
--- a query that carries an own record as a known answer, with a TTL
-unfoldable pub knowing : Own → ℕ → Message
-knowing o ttl = record {
+-- a query that asks for an own record and carries it as a known answer, with a TTL
+unfoldable pub asking : Own → ℕ → Message
+asking o ttl = record {
   id = 0;
   flags = 0;
-  questions = [];
+  questions = record { name = ownName example o; rtype = ownType o; class = 1 } ∷ [];
   answers = record { owner = ownName example o; rtype = ownType o; class = 1; ttl = ttl; rdata = ownRdata example o } ∷ [];
   authorities = [];
   additionals = [];
 }
+
+-- its packet, received by a responder that holds both names, at 0 ms with a draw of 20
+abbrev pub holder : State
+holder = record { setup = example; progress = holding }
+
+abbrev pub asked : Own → ℕ → Arrival
+asked o ttl = record { time = 0; port = 5353; draw = 20; packet = packetOf false (asking o ttl); room = 1452 }
 
 -- "dock.local" as it stands in a packet
 abbrev pub hostName : List ℕ

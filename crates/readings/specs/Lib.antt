@@ -2,4 +2,3 @@ pub mod Examples
 pub mod Starred
 pub mod States
 pub mod Subsets
-pub mod Alike

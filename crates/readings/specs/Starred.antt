@@ -15,15 +15,20 @@ use Rattle.wire.specs.message.Layout.{questionRead, questionAt, recordRead, rec
 use Rattle.txt.specs.Txt.{stringsFrom, keyOf, valueOf, hasKey, firstWith}
 use Rattle.txt.specs.Lookup.{badKey, refusalOf, givenBy, inTxt, lookupOf}
 use Rattle.txt.specs.declared.Answer.the-variants.{Present}
-use Rattle.own.specs.records.Setups.{serviceLabels, instanceLabels, hostLabels}
+use Rattle.own.specs.records.Setups.{labelFits, isLetter, isNameByte, allNameBytes, someLetter, hyphensApart, serviceRule, serviceFits, protocolFits, domainFits, txtFits, validSetup, serviceLabels, instanceLabels, hostLabels}
 use Rattle.own.specs.records.Records.{hasRecord, ownLabels, ownName, srvRdata, ownRdata}
 use Rattle.facts.specs.tiebreak.Later.{numberOf, compareNumbers, inTurn, compareRecords, insertBy, sortBy, tie}
 use Rattle.wire.specs.Lists.{some}
 use Rattle.facts.specs.probe.Probe.{isProbe}
 use Rattle.facts.specs.tiebreak.Lists.{ownRecord, listUnder}
-use Rattle.claims.specs.records.Sets.{picked}
+use Rattle.claims.specs.records.Sets.{picked, everyOf, atOnce}
 use Rattle.claims.specs.declared.records.Own.the-variants.{Ptr, A}
-use Rattle.claims.specs.answers.Answers.{isOmitted}
+use Rattle.claims.specs.declared.When.the-variants.{Never, At}
+use Rattle.claims.specs.Refusals.{multicastsKept, kept, wrongTime}
+use Rattle.claims.specs.Time.{afterMs, markedAll}
+use Rattle.claims.specs.answers.Answers as answers
+use Rattle.responder.specs.Refusals.{wrongState, receiveRefusal}
+use Rattle.responder.specs.Calls.{packetFor, receivedPacket, receiveOf}
 use Rattle.facts.specs.Facts.{isAsked, isKnown, theirsLater, queryFacts, factsOf}
 use Rattle.cache.specs.entries.Tables.{each}
 use Rattle.cache.specs.entries.Entries.{isOf, liveOf, soon, flushed}
@@ -31,9 +36,9 @@ use Rattle.cache.specs.entries.Cache.{rule1}
 use Rattle.writer.specs.compression.Compression.{standsAt, placeOf, cutFrom, nameBytes, starts, namePlaces}
 use Rattle.writer.specs.Items.{putName, dataBytes, dataPlaces, putFields}
 use Rattle.writer.specs.own_packets.Packets.{packetOf}
-use Rattle.writer.specs.own_packets.Own as own
+use Rattle.writer.specs.own_packets.Styles as styles
 use Rattle.writer.specs.own_packets.Own.{responsePacket, responseRecords, responseOf}
-use Rattle.readings.specs.Examples.{address, example, holding, knowing, cached, announced, selfPointing, announcement}
+use Rattle.readings.specs.Examples.{address, example, holding, asking, holder, asked, cached, announced, selfPointing, announcement}
 
 abbrev pub Starred : Type 0
 Starred =
@@ -43,12 +48,12 @@ Starred =
     × (numberOf (tie (ownRecord 1 address ∷ []) (ownRecord 1 address ∷ [])) ≡ pos 0)
     -- "{A} before {A, AAAA} with the same A."
     × (numberOf (tie (ownRecord 1 address ∷ []) (ownRecord 1 address ∷ (ownRecord 28 (replicate 16 0) ∷ []))) ≡ negsuc 0)
-    -- "Known PTR TTL 2250 omits, 2249 doesn't."
-    × (isOmitted holding (factsOf example (knowing Ptr 2250)) 0 Ptr ≡ true)
-    × (isOmitted holding (factsOf example (knowing Ptr 2249)) 0 Ptr ≡ false)
-    -- "A at 60 omits, at 59 doesn't."
-    × (isOmitted holding (factsOf example (knowing A 60)) 0 A ≡ true)
-    × (isOmitted holding (factsOf example (knowing A 59)) 0 A ≡ false)
+    -- "Known PTR TTL 2250 omits, 2249 doesn't.": no reply is set, or one at now plus the draw
+    × (receiveOf holder (asked Ptr 2250) .state .progress .reply ≡ Never)
+    × (receiveOf holder (asked Ptr 2249) .state .progress .reply ≡ At 20)
+    -- "A at 60 omits, at 59 doesn't.": nothing is sent, or the record goes out at once
+    × (receivedPacket holder (asked A 60) ≡ [])
+    × (receivedPacket holder (asked A 59) ≡ announcement)
     -- "At 5000, a flush leaves an entry received at 4000, and sets one received at 3999 to expire by 6000."
     × (rule1 5000 announced (cached 4000) .entries ≡ cached 4000 .entries)
     × (rule1 5000 announced (cached 3999) .entries ≡ record { rtype = 1; owner = 12; rdata = 4; received = 3999; expiry = 6000 } ∷ [])
@@ -62,5 +67,5 @@ Starred =
     × (responsePacket example (record { ptr = false; srv = false; txt = false; a = true; aaaa = true }) ≡ announcement)
 
 pub starred : Starred
-unfolding example knowing cached announced tie sortBy insertBy compareRecords inTurn compareNumbers some isProbe listUnder isAsked isKnown theirsLater queryFacts factsOf holding sameName sameBytes hasRecord ownLabels ownName srvRdata ownRdata serviceLabels instanceLabels hostLabels rule1 each flushed liveOf isOf soon lookupOf refusalOf badKey stringsFill inTxt firstWith stringsFrom hasKey keyOf valueOf givenBy messageAt andThen listFrom questionAt questionRead recordAt recordRead nameAt fromRun readFrom pieceAt rdataAt rdataIn responsePacket responseRecords picked responseOf own.ownRecord packetOf putName dataBytes dataPlaces putFields nameBytes namePlaces starts cutFrom placeOf standsAt
+unfolding example asking cached announced tie sortBy insertBy compareRecords inTurn compareNumbers some isProbe listUnder isAsked isKnown theirsLater queryFacts factsOf holding sameName sameBytes hasRecord ownLabels ownName srvRdata ownRdata serviceLabels instanceLabels hostLabels rule1 each flushed liveOf isOf soon lookupOf refusalOf badKey stringsFill inTxt firstWith stringsFrom hasKey keyOf valueOf givenBy messageAt andThen listFrom questionAt questionRead recordAt recordRead nameAt fromRun readFrom pieceAt rdataAt rdataIn responsePacket responseRecords picked responseOf styles.ownRecord receiveOf receivedPacket packetFor receiveRefusal wrongState wrongTime kept multicastsKept everyOf validSetup labelFits isLetter isNameByte allNameBytes someLetter hyphensApart serviceRule serviceFits protocolFits domainFits txtFits answers.receiveOf answers.wantedOf answers.heardOf atOnce markedAll afterMs packetOf putName dataBytes dataPlaces putFields nameBytes namePlaces starts cutFrom placeOf standsAt
 starred = (refl, refl, refl, refl, refl, refl, refl, refl, refl, refl, refl, refl)

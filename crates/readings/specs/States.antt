@@ -7,7 +7,7 @@ use mathlib.Core.List.{List, [], _∷_}
 use Rattle.wire.specs.rdata.Rdata.{stringsFill}
 use Rattle.wire.specs.expansion.Equal.{sameBytes}
 use Rattle.wire.specs.message.Layout.{listFrom, andThen, messageAt}
-use Rattle.own.specs.records.Setups.{labelFits, isLetter, isNameByte, nameBytes, someLetter, hyphensApart, serviceRule, serviceFits, protocolFits, domainFits, txtFits, validSetup}
+use Rattle.own.specs.records.Setups.{labelFits, isLetter, isNameByte, allNameBytes, someLetter, hyphensApart, serviceRule, serviceFits, protocolFits, domainFits, txtFits, validSetup}
 use Rattle.claims.specs.Refusals.{multicastsKept, kept, wrongTime}
 use Rattle.claims.specs.records.Own.{has}
 use Rattle.claims.specs.records.Sets.{noRecord, only, everyOf, atOnce}
@@ -22,6 +22,7 @@ use Rattle.claims.specs.declared.Progress.{Progress}
 use Rattle.claims.specs.declared.answers.Facts.{Facts}
 use Rattle.claims.specs.answers.Answers.{wantedOf, receiveOf}
 use Rattle.responder.specs.declared.State.{State}
+use Rattle.responder.specs.Handed.{Arrival, Tick}
 use Rattle.responder.specs.Refusals.{wrongState, startRefusal, receiveRefusal, tickRefusal}
 use Rattle.readings.specs.Examples.{example}
 
@@ -62,31 +63,38 @@ asksA probe = record {
 abbrev pub bare : List ℕ
 bare = 0 ∷ (0 ∷ (0 ∷ (0 ∷ (0 ∷ (0 ∷ (0 ∷ (0 ∷ (0 ∷ (0 ∷ (0 ∷ (0 ∷ [])))))))))))
 
+-- a tick at a time, and a packet that comes at 0 ms from a port with a draw; both with an out buffer of so many bytes
+abbrev pub tickAt : ℕ → ℕ → Tick
+tickAt time room = record { time = time; room = room }
+
+abbrev pub from : ℕ → ℕ → List ℕ → ℕ → Arrival
+from port draw packet room = record { time = 0; port = port; draw = draw; packet = packet; room = room }
+
 abbrev pub HandedIn : Type 0
 HandedIn =
     -- "a time kept in the state above 2^62 + 2,000": a due time, a last multicast, a PTR reply at the limit, and 1 ms past it
-    (tickRefusal (handed (Waiting 4611686018427389904) Never Never 0 0) 0 1452 ≡ 0)
-    × (tickRefusal (handed (Waiting 4611686018427389905) Never Never 0 0) 0 1452 ≡ 1)
-    × (tickRefusal (handed Held (At 4611686018427389904) Never 0 0) 0 1452 ≡ 0)
-    × (tickRefusal (handed Held (At 4611686018427389905) Never 0 0) 0 1452 ≡ 1)
-    × (receiveRefusal (handed Held Never (At 4611686018427389904) 0 0) 0 5353 20 bare 1452 ≡ 0)
-    × (receiveRefusal (handed Held Never (At 4611686018427389905) 0 0) 0 5353 20 bare 1452 ≡ 1)
+    (tickRefusal (handed (Waiting 4611686018427389904) Never Never 0 0) (tickAt 0 1452) ≡ 0)
+    × (tickRefusal (handed (Waiting 4611686018427389905) Never Never 0 0) (tickAt 0 1452) ≡ 1)
+    × (tickRefusal (handed Held (At 4611686018427389904) Never 0 0) (tickAt 0 1452) ≡ 0)
+    × (tickRefusal (handed Held (At 4611686018427389905) Never 0 0) (tickAt 0 1452) ≡ 1)
+    × (receiveRefusal (handed Held Never (At 4611686018427389904) 0 0) (from 5353 20 bare 1452) ≡ 0)
+    × (receiveRefusal (handed Held Never (At 4611686018427389905) 0 0) (from 5353 20 bare 1452) ≡ 1)
     -- "a kept start draw is above 250", after 1, 2 and 3
-    × (tickRefusal (handed Held Never Never 250 0) 0 1452 ≡ 0)
-    × (tickRefusal (handed Held Never Never 251 0) 0 1452 ≡ 7)
-    × (tickRefusal (handed Held Never Never 251 0) 0 1451 ≡ 3)
-    × (tickRefusal (handed Held Never Never 251 1) 0 1451 ≡ 1)
-    × (receiveRefusal (handed Held Never Never 251 0) 0 5353 20 bare 1452 ≡ 7)
-    × (receiveRefusal (handed Held Never Never 251 0) 0 5354 20 bare 1452 ≡ 5)
-    × (receiveRefusal (handed Held Never Never 251 0) 0 5354 20 [] 1452 ≡ 4)
-    × (receiveRefusal (handed Held Never Never 251 0) 0 5354 121 [] 1451 ≡ 2)
+    × (tickRefusal (handed Held Never Never 250 0) (tickAt 0 1452) ≡ 0)
+    × (tickRefusal (handed Held Never Never 251 0) (tickAt 0 1452) ≡ 7)
+    × (tickRefusal (handed Held Never Never 251 0) (tickAt 0 1451) ≡ 3)
+    × (tickRefusal (handed Held Never Never 251 1) (tickAt 0 1451) ≡ 1)
+    × (receiveRefusal (handed Held Never Never 251 0) (from 5353 20 bare 1452) ≡ 7)
+    × (receiveRefusal (handed Held Never Never 251 0) (from 5354 20 bare 1452) ≡ 5)
+    × (receiveRefusal (handed Held Never Never 251 0) (from 5354 20 [] 1452) ≡ 4)
+    × (receiveRefusal (handed Held Never Never 251 0) (from 5354 121 [] 1451) ≡ 2)
     -- "time above 2^62, or before the state's last time"
     × (startRefusal example 0 0 ≡ 0)
     × (startRefusal example latest 250 ≡ 0)
     × (startRefusal example 4611686018427387905 251 ≡ 1)
-    × (tickRefusal (handed Held Never Never 0 latest) latest 1452 ≡ 0)
-    × (tickRefusal (handed Held Never Never 0 latest) 4611686018427387905 1452 ≡ 1)
-    × (tickRefusal (handed Held Never Never 0 latest) 4611686018427387903 1452 ≡ 1)
+    × (tickRefusal (handed Held Never Never 0 latest) (tickAt latest 1452) ≡ 0)
+    × (tickRefusal (handed Held Never Never 0 latest) (tickAt 4611686018427387905 1452) ≡ 1)
+    × (tickRefusal (handed Held Never Never 0 latest) (tickAt 4611686018427387903 1452) ≡ 1)
     -- "A kept time ahead of now counts as 0 ms ago": A multicast at 5,000 is not sent at 4,000, nor to a probe
     × (has A (receiveOf (lived Held (At 5000) Never 0 0) 4000 20 (asksA false) false .answers) ≡ false)
     × (has A (receiveOf (lived Held (At 5000) Never 0 0) 4000 20 (asksA true) false .answers) ≡ false)
@@ -96,5 +104,5 @@ HandedIn =
     × (has A (receiveOf (lived Held (At 5000) Never 0 0) 6000 20 (asksA false) false .answers) ≡ true)
 
 pub handed-in : HandedIn
-unfolding example tickRefusal receiveRefusal startRefusal wrongState wrongTime kept multicastsKept validSetup labelFits isLetter isNameByte nameBytes someLetter hyphensApart serviceRule serviceFits protocolFits domainFits txtFits stringsFill sameBytes messageAt andThen listFrom receiveOf wantedOf only markedAll atOnce everyOf
+unfolding example tickRefusal receiveRefusal startRefusal wrongState wrongTime kept multicastsKept validSetup labelFits isLetter isNameByte allNameBytes someLetter hyphensApart serviceRule serviceFits protocolFits domainFits txtFits stringsFill sameBytes messageAt andThen listFrom receiveOf wantedOf only markedAll atOnce everyOf
 handed-in = (refl, refl, refl, refl, refl, refl, refl, refl, refl, refl, refl, refl, refl, refl, refl, refl, refl, refl, refl, refl, refl, refl, refl, refl, refl, refl)

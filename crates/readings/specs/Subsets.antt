@@ -14,7 +14,7 @@ use Rattle.claims.specs.records.Sets.{picked}
 use Rattle.writer.specs.compression.Compression.{standsAt, placeOf, cutFrom, nameBytes, starts, namePlaces}
 use Rattle.writer.specs.Items.{putName, dataBytes, dataPlaces, putFields}
 use Rattle.writer.specs.own_packets.Packets.{packetOf}
-use Rattle.writer.specs.own_packets.Own as own
+use Rattle.writer.specs.own_packets.Styles as styles
 use Rattle.writer.specs.own_packets.Own.{responsePacket, responseRecords, responseOf}
 use Rattle.readings.specs.Examples.{padded, example}
 
@@ -81,7 +81,7 @@ Plain =
     × (written plain true true true true true ≡ 0x01000084000000000500000000065f766f696365045f746370056c6f63616c00000c000100001194000805626f6f7468c00cc0290021800100000078000d000000000fa004646f636bc018c0290010800100001194000100c043000180010000007800040a000007c043001c8001000000780010fe80000000000000000000000000000a)
 
 pub plain-subsets : Plain
-unfolding number hosted example nameAt fromRun readFrom pieceAt sameBytes hasRecord ownLabels ownName srvRdata ownRdata serviceLabels instanceLabels hostLabels responsePacket responseRecords picked responseOf own.ownRecord packetOf putName dataBytes dataPlaces putFields nameBytes namePlaces starts cutFrom placeOf standsAt
+unfolding number hosted example nameAt fromRun readFrom pieceAt sameBytes hasRecord ownLabels ownName srvRdata ownRdata serviceLabels instanceLabels hostLabels responsePacket responseRecords picked responseOf styles.ownRecord packetOf putName dataBytes dataPlaces putFields nameBytes namePlaces starts cutFrom placeOf standsAt
 plain-subsets = (refl, refl, refl, refl, refl, refl, refl, refl, refl, refl, refl, refl, refl, refl, refl, refl, refl, refl, refl, refl, refl, refl, refl, refl, refl, refl, refl, refl, refl, refl, refl)
 
 -- a host label that is a label of the service's name
@@ -123,7 +123,7 @@ Shared =
     × (written shared true true true true true ≡ 0x01000084000000000500000000065f766f696365045f746370056c6f63616c00000c000100001194000805626f6f7468c00cc02900218001000000780008000000000fa0c013c0290010800100001194000100c013000180010000007800040a000007c013001c8001000000780010fe80000000000000000000000000000a)
 
 pub shared-subsets : Shared
-unfolding number hosted example nameAt fromRun readFrom pieceAt sameBytes hasRecord ownLabels ownName srvRdata ownRdata serviceLabels instanceLabels hostLabels responsePacket responseRecords picked responseOf own.ownRecord packetOf putName dataBytes dataPlaces putFields nameBytes namePlaces starts cutFrom placeOf standsAt
+unfolding number hosted example nameAt fromRun readFrom pieceAt sameBytes hasRecord ownLabels ownName srvRdata ownRdata serviceLabels instanceLabels hostLabels responsePacket responseRecords picked responseOf styles.ownRecord packetOf putName dataBytes dataPlaces putFields nameBytes namePlaces starts cutFrom placeOf standsAt
 shared-subsets = (refl, refl, refl, refl, refl, refl, refl, refl, refl, refl, refl, refl, refl, refl, refl, refl, refl, refl, refl, refl, refl, refl, refl, refl, refl, refl, refl, refl, refl, refl, refl)
 
 -- a host label that differs from the instance's only in case
@@ -165,5 +165,5 @@ Cased =
     × (written cased true true true true true ≡ 0x01000084000000000500000000065f766f696365045f746370056c6f63616c00000c000100001194000805626f6f7468c00cc0290021800100000078000e000000000fa005426f6f7468c018c0290010800100001194000100c043000180010000007800040a000007c043001c8001000000780010fe80000000000000000000000000000a)
 
 pub cased-subsets : Cased
-unfolding number hosted example nameAt fromRun readFrom pieceAt sameBytes hasRecord ownLabels ownName srvRdata ownRdata serviceLabels instanceLabels hostLabels responsePacket responseRecords picked responseOf own.ownRecord packetOf putName dataBytes dataPlaces putFields nameBytes namePlaces starts cutFrom placeOf standsAt
+unfolding number hosted example nameAt fromRun readFrom pieceAt sameBytes hasRecord ownLabels ownName srvRdata ownRdata serviceLabels instanceLabels hostLabels responsePacket responseRecords picked responseOf styles.ownRecord packetOf putName dataBytes dataPlaces putFields nameBytes namePlaces starts cutFrom placeOf standsAt
 cased-subsets = (refl, refl, refl, refl, refl, refl, refl, refl, refl, refl, refl, refl, refl, refl, refl, refl, refl, refl, refl, refl, refl, refl, refl, refl, refl, refl, refl, refl, refl, refl, refl)

@@ -8,7 +8,8 @@ use native.Mathlib.Omega.{arith}
 use lib.Dec.{eqb, ltb}
 use borrow.Author.Tests.{ltb-false, eqb-true}
 use mathlib.Mathlib.Data.Bool.Basic.{or-eq-false-eq-eq-false-and-eq-false as neither}
-use Rattle.wire.specs.message.Layout.{Reads, read, refused, messageAt}
+use Rattle.wire.specs.message.Layout.{Reads, read, refused, wrongLength, wrongHeader, messageAt}
+use Rattle.wire.specs.message.Refusals.{wrongPort, isMalformed}
 use Rattle.own.specs.declared.records.Setup.{Setup}
 use Rattle.own.specs.records.Setups.{validSetup}
 use Rattle.claims.specs.Claims as claims
@@ -18,11 +19,11 @@ use Rattle.claims.proofs.Keeping.{start-kept}
 use Rattle.claims.proofs.steps.Ticks.{tick-kept, tick-draw}
 use Rattle.claims.proofs.answers.Receives.{receive-kept, receive-draw}
 use Rattle.facts.specs.Facts.{factsOf}
-use Rattle.responder.specs.Refusals.{smallBuffer, wrongState, orElse, readRefusal, byPort, startRefusal, receiveRefusal, tickRefusal}
+use Rattle.responder.specs.Handed.{Arrival, Tick}
+use Rattle.responder.specs.Refusals.{smallBuffer, wrongState, startRefusal, receiveRefusal, tickRefusal}
 use Rattle.responder.specs.Calls.{startOf, heardOf, receiveOf, tickOf}
 use Rattle.responder.specs.Runs.{Call, received, ticked, refusalOfCall, stateAfter, run}
 use Rattle.responder.specs.declared.State.{State}
-use Rattle.responder.proofs.Reading.{proper, number-at-most}
 use Rattle.responder.proofs.Refusals.{StartAccepted, ReceiveAccepted, TickAccepted, start-accepted, receive-accepted, tick-accepted, refused-keeps}
 
 clash : {A : Type 0} → _≡_ {A = ℕ} 0 1 → A
@@ -52,23 +53,21 @@ sound-time s now h = rw (h .times) (go (lateStart now) (ltb now (s .progress .la
     go false true = refl
     go false false = refl
 
-never-7 : (t d b : Bool) (n : ℕ) → n ≤ 6 → _≡_ {A = ℕ} (cond t 1 (cond d 2 (cond b 3 (orElse n 0)))) 7 → ⊥
-never-7 true d b n l e = omega (arith, e)
-never-7 false true b n l e = omega (arith, e)
-never-7 false false true n l e = omega (arith, e)
-never-7 false false false n l e = go (eqb n 0) e
-  where
-    go : (none : Bool) → _≡_ {A = ℕ} (cond none 0 n) 7 → ⊥
-    go true f = omega (arith, f)
-    go false f = omega (arith, f)
+never-7 : (t d b l h m : Bool) → _≡_ {A = ℕ} (cond t 1 (cond d 2 (cond b 3 (cond l 4 (cond h 5 (cond m 6 0)))))) 7 → ⊥
+never-7 true d b l h m e = omega (arith, e)
+never-7 false true b l h m e = omega (arith, e)
+never-7 false false true l h m e = omega (arith, e)
+never-7 false false false true h m e = omega (arith, e)
+never-7 false false false false true m e = omega (arith, e)
+never-7 false false false false false true e = omega (arith, e)
+never-7 false false false false false false e = omega (arith, e)
 
 pub sound-never-7 : (s : State) (c : Call) → Sound s → refusalOfCall s c ≡ 7 → ⊥
 unfolding receiveRefusal tickRefusal
-sound-never-7 s (received now port draw p room) h e =
-    never-7 (wrongTime (s .progress) now) (wrongReplyDraw draw) (smallBuffer room) (byPort (readRefusal (messageAt p)) port)
-    (number-at-most (messageAt p) port (proper p))
-    (rw (h .right) at e)
-sound-never-7 s (ticked now room) h e = never-7 (wrongTime (s .progress) now) false (smallBuffer room) 0 (omega arith) (rw (h .right) at e)
+sound-never-7 s (received a) h e =
+    never-7 (wrongTime (s .progress) (a .time)) (wrongReplyDraw (a .draw)) (smallBuffer (a .room)) (wrongLength (a .packet))
+    (wrongHeader (a .packet) || wrongPort (a .port)) (isMalformed (a .packet)) (rw (h .right) at e)
+sound-never-7 s (ticked t) h e = never-7 (wrongTime (s .progress) (t .time)) false (smallBuffer (t .room)) false false false (rw (h .right) at e)
 
 -- ---- what an accepted call says of the numbers
 
@@ -87,13 +86,14 @@ small-reply : (draw : ℕ) → wrongReplyDraw draw ≡ false → draw ≤ 120
 small-reply draw h = ltb-false 120 draw (neither (ltb draw 20) (ltb 120 draw) .0 h .1)
 
 -- a state whose set-up and start draw are those of another
-same-right : (s : State) (progress : Progress) → progress .draw ≡ s .progress .draw → wrongState s ≡ false → wrongState (record { setup = s .setup; progress = progress }) ≡ false
+same-right : (s : State) (progress : Progress) → progress .draw ≡ s .progress .draw → wrongState s ≡ false
+    → wrongState (record { setup = s .setup; progress = progress }) ≡ false
 unfolding wrongState
 same-right s progress e h = rw e h
 
 right-start : (setup : Setup) (now draw : ℕ) → validSetup setup ≡ true → wrongStartDraw draw ≡ false
-    → wrongState (record { setup = setup; progress = claims.startOf now draw }) ≡ false
-unfolding wrongState claims.startOf
+    → wrongState (record { setup = setup; progress = claims.begunAt now draw }) ≡ false
+unfolding wrongState claims.begunAt
 right-start setup now draw v d = simp (v, d)
 
 -- ---- each call
@@ -108,37 +108,32 @@ module _ (most : ℕ) (l : 4611686018427388904 ≤ most) where
       rw h (record { times = start-kept most now draw n d l; right = right-start setup now draw (a .right) (a .drawn) })
 
   heard-within :
-      (s : State) (now draw : ℕ) (x : Reads)
-      → now ≤ 4611686018427387904
-      → draw ≤ 120
+      (s : State) (a : Arrival) (x : Reads)
+      → a .time ≤ 4611686018427387904
+      → a .draw ≤ 120
       → kept most (s .progress) ≡ true
       → wrongState s ≡ false
-      → Within most (record { setup = s .setup; progress = heardOf s now draw x .progress })
-  heard-within s now draw (read _ m) n d k w =
+      → Within most (record { setup = s .setup; progress = heardOf s a x .progress })
+  heard-within s a (read _ m) n d k w =
       record {
-        times = receive-kept now draw (factsOf (s .setup) m) (s .setup .hasaaaa) most n d l (s .progress) (small-draw s w) k;
-        right = same-right s _ (receive-draw now draw (factsOf (s .setup) m) (s .setup .hasaaaa) (s .progress)) w;
+        times = receive-kept (a .time) (a .draw) (factsOf (s .setup) m) (s .setup .hasaaaa) most n d l (s .progress) (small-draw s w) k;
+        right = same-right s _ (receive-draw (a .time) (a .draw) (factsOf (s .setup) m) (s .setup .hasaaaa) (s .progress)) w;
       }
-  heard-within s now draw (refused _) n d k w = record { times = k; right = w }
+  heard-within s a (refused _) n d k w = record { times = k; right = w }
 
-  pub receive-within :
-      (s : State) (now port draw : ℕ) (p : List ℕ) (room : ℕ)
-      → receiveRefusal s now port draw p room ≡ 0
-      → kept most (s .progress) ≡ true
-      → Within most (receiveOf s now port draw p room .state)
+  pub receive-within : (s : State) (a : Arrival) → receiveRefusal s a ≡ 0 → kept most (s .progress) ≡ true → Within most (receiveOf s a .state)
   unfolding receiveOf
-  receive-within s now port draw p room h k =
-      let a : ReceiveAccepted s now port draw p room = receive-accepted s now port draw p room h in
-      rw h (heard-within s now draw (messageAt p) (in-time (s .progress) now (a .time) .0) (small-reply draw (a .drawn)) k (a .right))
+  receive-within s a h k =
+      let p : ReceiveAccepted s a = receive-accepted s a h in
+      rw h (heard-within s a (messageAt (a .packet)) (in-time (s .progress) (a .time) (p .time) .0) (small-reply (a .draw) (p .drawn)) k (p .right))
 
-  pub tick-within :
-      (s : State) (now room : ℕ) → tickRefusal s now room ≡ 0 → kept most (s .progress) ≡ true → Within most (tickOf s now room .state)
+  pub tick-within : (s : State) (t : Tick) → tickRefusal s t ≡ 0 → kept most (s .progress) ≡ true → Within most (tickOf s t .state)
   unfolding tickOf
-  tick-within s now room h k =
-      let a : TickAccepted s now room = tick-accepted s now room h in
+  tick-within s t h k =
+      let p : TickAccepted s t = tick-accepted s t h in
       rw h (record {
-        times = tick-kept now (s .setup .hasaaaa) most (in-time (s .progress) now (a .time) .0) l (s .progress) k;
-        right = same-right s _ (tick-draw now (s .setup .hasaaaa) (s .progress)) (a .right);
+        times = tick-kept (t .time) (s .setup .hasaaaa) most (in-time (s .progress) (t .time) (p .time) .0) l (s .progress) k;
+        right = same-right s _ (tick-draw (t .time) (s .setup .hasaaaa) (s .progress)) (p .right);
       })
 
   -- accepted or refused
@@ -146,8 +141,8 @@ module _ (most : ℕ) (l : 4611686018427388904 ≤ most) where
   keeps-within s c w = go (eqb (refusalOfCall s c) 0) refl
     where
       accepted : (c : Call) → refusalOfCall s c ≡ 0 → Within most (stateAfter s c)
-      accepted (received now port draw p room) h = receive-within s now port draw p room h (w .times)
-      accepted (ticked now room) h = tick-within s now room h (w .times)
+      accepted (received a) h = receive-within s a h (w .times)
+      accepted (ticked t) h = tick-within s t h (w .times)
 
       go : (b : Bool) → eqb (refusalOfCall s c) 0 ≡ b → Within most (stateAfter s c)
       go true e = accepted c (eqb-true _ _ e)
@@ -159,11 +154,10 @@ module _ (most : ℕ) (l : 4611686018427388904 ≤ most) where
 
 -- from any state, an accepted call's result is sound
 pub accepted-sound : (s : State) (c : Call) → refusalOfCall s c ≡ 0 → Sound (stateAfter s c)
-accepted-sound s (received now port draw p room) h =
-    receive-within 4611686018427389904 (omega arith) s now port draw p room h
-    (in-time (s .progress) now (receive-accepted s now port draw p room h .time) .1)
-accepted-sound s (ticked now room) h =
-    tick-within 4611686018427389904 (omega arith) s now room h (in-time (s .progress) now (tick-accepted s now room h .time) .1)
+accepted-sound s (received a) h =
+    receive-within 4611686018427389904 (omega arith) s a h (in-time (s .progress) (a .time) (receive-accepted s a h .time) .1)
+accepted-sound s (ticked t) h =
+    tick-within 4611686018427389904 (omega arith) s t h (in-time (s .progress) (t .time) (tick-accepted s t h .time) .1)
 
 -- from a start on, no kept time is above 2^62 + 1,000
 pub from-a-start :

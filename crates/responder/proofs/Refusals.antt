@@ -2,21 +2,23 @@
 -- refusal changes neither state nor buffer; that a call sends at most one packet; and that every call refuses the state of a refused start.
 -- Assumes nothing.
 use Prim.Native.Nat.{ℕ, zero, suc, _≤_}
-use mathlib.Core.Path.{_≡_, refl}
-use mathlib.Core.Bool.{Bool, true, false, cond}
+use mathlib.Core.Path.{_≡_, refl, sym, ap, _∙_}
+use mathlib.Core.Bool.{Bool, true, false, cond, not, _||_}
 use mathlib.Core.List.{List, [], _∷_}
 use native.Mathlib.Omega.{arith}
 use lib.Dec.{eqb}
 use borrow.Author.Tests.{ne-eqb}
 use lib.ListN.{length}
-use Rattle.wire.specs.message.Layout.{messageAt}
+use Rattle.wire.specs.message.Layout.{wrongLength, wrongHeader}
+use Rattle.wire.specs.message.Refusals.{wrongPort, isMalformed, messageRefusal}
 use Rattle.own.specs.declared.records.Setup.{Setup}
 use Rattle.own.specs.records.Setups.{validSetup, labelFits}
 use Rattle.claims.specs.Refusals.{lateStart, wrongTime, wrongStartDraw, wrongReplyDraw}
-use Rattle.writer.specs.own_packets.Own.{unlessRefused, laidOver}
-use Rattle.responder.specs.Refusals.{smallBuffer, wrongState, readRefusal, byPort, orElse, startRefusal, receiveRefusal, tickRefusal}
-use Rattle.responder.specs.Calls.{refusalOf, lengthOf, answerOf, packets, blank, startOf, receivedPacket, receiveOf, tickedPacket, tickOf}
-use Rattle.responder.specs.Runs.{Call, received, ticked, refusalOfCall, stateAfter, sentBy}
+use Rattle.writer.specs.own_packets.Own.{unlessRefused}
+use Rattle.responder.specs.Handed.{Arrival, Tick}
+use Rattle.responder.specs.Refusals.{smallBuffer, wrongState, startRefusal, receiveRefusal, tickRefusal}
+use Rattle.responder.specs.Calls.{refusalOf, lengthOf, answerOf, parcels, blank, startOf, receivedPacket, receiveOf, tickedPacket, tickOf}
+use Rattle.responder.specs.Runs.{Call, received, ticked, refusalOfCall, answerTo, stateAfter, packetOf, sentBy}
 use Rattle.responder.specs.declared.State.{State}
 
 clash : {A : Type 0} → _≡_ {A = ℕ} 0 1 → A
@@ -32,56 +34,67 @@ pub record StartAccepted (setup : Setup) (now draw : ℕ) : Type 0 where
   pub drawn : wrongStartDraw draw ≡ false
   pub right : validSetup setup ≡ true
 
-pub record ReceiveAccepted (s : State) (now port draw : ℕ) (p : List ℕ) (room : ℕ) : Type 0 where
-  pub time : wrongTime (s .progress) now ≡ false
-  pub drawn : wrongReplyDraw draw ≡ false
-  pub buffer : smallBuffer room ≡ false
-  pub message : byPort (readRefusal (messageAt p)) port ≡ 0
+pub record ReceiveAccepted (s : State) (a : Arrival) : Type 0 where
+  pub time : wrongTime (s .progress) (a .time) ≡ false
+  pub drawn : wrongReplyDraw (a .draw) ≡ false
+  pub buffer : smallBuffer (a .room) ≡ false
+  pub message : messageRefusal (a .port) (a .packet) ≡ 0
   pub right : wrongState s ≡ false
 
-pub record TickAccepted (s : State) (now room : ℕ) : Type 0 where
-  pub time : wrongTime (s .progress) now ≡ false
-  pub buffer : smallBuffer room ≡ false
+pub record TickAccepted (s : State) (t : Tick) : Type 0 where
+  pub time : wrongTime (s .progress) (t .time) ≡ false
+  pub buffer : smallBuffer (t .room) ≡ false
   pub right : wrongState s ≡ false
 
-pub start-accepted : (setup : Setup) (now draw : ℕ) → startRefusal setup now draw ≡ 0 → StartAccepted setup now draw
+pub start-accepted : (setup : Setup) (time draw : ℕ) → startRefusal setup time draw ≡ 0 → StartAccepted setup time draw
 unfolding startRefusal
-start-accepted setup now draw h =
-    let x : (lateStart now ≡ false) × (wrongStartDraw draw ≡ false) × (validSetup setup ≡ true) =
-    go (lateStart now) (wrongStartDraw draw) (validSetup setup) h in
+start-accepted setup time draw h =
+    let x : (lateStart time ≡ false) × (wrongStartDraw draw ≡ false) × (validSetup setup ≡ true) =
+    go (lateStart time) (wrongStartDraw draw) (validSetup setup) h in
     record { time = x .0; drawn = x .1; right = x .2 }
   where
-    go : (t d v : Bool) → _≡_ {A = ℕ} (cond t 1 (cond d 2 (cond v 0 7))) 0 → (t ≡ false) × (d ≡ false) × (v ≡ true)
+    go : (t d v : Bool) → _≡_ {A = ℕ} (cond t 1 (cond d 2 (cond (not v) 7 0))) 0 → (t ≡ false) × (d ≡ false) × (v ≡ true)
     go true d v e = absurd (omega (arith, e))
     go false true v e = absurd (omega (arith, e))
     go false false true e = (refl, refl, refl)
     go false false false e = absurd (omega (arith, e))
 
-pub receive-accepted :
-    (s : State) (now port draw : ℕ) (p : List ℕ) (room : ℕ)
-    → receiveRefusal s now port draw p room ≡ 0
-    → ReceiveAccepted s now port draw p room
-unfolding receiveRefusal
-receive-accepted s now port draw p room h =
-    let x : (wrongTime (s .progress) now ≡ false) × (wrongReplyDraw draw ≡ false) × (smallBuffer room ≡ false) × (byPort (readRefusal (messageAt p)) port ≡ 0) × (wrongState s ≡ false) =
-    go (wrongTime (s .progress) now) (wrongReplyDraw draw) (smallBuffer room) (byPort (readRefusal (messageAt p)) port) (wrongState s) h in
-    record { time = x .0; drawn = x .1; buffer = x .2; message = x .3; right = x .4 }
-  where
-    go : (t d b : Bool) (n : ℕ) (w : Bool)
-        → cond t 1 (cond d 2 (cond b 3 (orElse n (cond w 7 0)))) ≡ 0
-        → (t ≡ false) × (d ≡ false) × (b ≡ false) × (n ≡ 0) × (w ≡ false)
-    go true d b n w e = absurd (omega (arith, e))
-    go false true b n w e = absurd (omega (arith, e))
-    go false false true n w e = absurd (omega (arith, e))
-    go false false false (suc n) w e = let z : suc n ≡ 0 = rw (positive n) at e in absurd (omega arith)
-    go false false false zero true e = absurd (omega (arith, e))
-    go false false false zero false e = (refl, refl, refl, refl, refl)
+-- the message's tests as one, whose number is not 0 where it holds
+abbrev pub ordered : Bool → Bool → Bool → ℕ → Bool → ℕ
+ordered t d b n w = cond t 1 (cond d 2 (cond b 3 (cond (eqb n 0) (cond w 7 0) n)))
 
-pub tick-accepted : (s : State) (now room : ℕ) → tickRefusal s now room ≡ 0 → TickAccepted s now room
+pub in-order : (s : State) (a : Arrival)
+    → receiveRefusal s a
+    ≡ ordered (wrongTime (s .progress) (a .time)) (wrongReplyDraw (a .draw)) (smallBuffer (a .room)) (messageRefusal (a .port) (a .packet)) (wrongState s)
+unfolding receiveRefusal messageRefusal
+in-order s a =
+    ap (λ (n : ℕ). cond (wrongTime (s .progress) (a .time)) 1 (cond (wrongReplyDraw (a .draw)) 2 (cond (smallBuffer (a .room)) 3 n)))
+    (go (wrongLength (a .packet)) (wrongHeader (a .packet) || wrongPort (a .port)) (isMalformed (a .packet)) (cond (wrongState s) 7 0))
+  where
+    go : (l h m : Bool) (n : ℕ)
+        → cond l 4 (cond h 5 (cond m 6 n)) ≡ cond (eqb (cond l 4 (cond h 5 (cond m 6 0))) 0) n (cond l 4 (cond h 5 (cond m 6 0)))
+    go true h m n = refl
+    go false true m n = refl
+    go false false true n = refl
+    go false false false n = refl
+
+pub receive-accepted : (s : State) (a : Arrival) → receiveRefusal s a ≡ 0 → ReceiveAccepted s a
+receive-accepted s a h = go _ _ _ _ _ refl refl refl refl refl (sym (in-order s a) ∙ h)
+  where
+    go : (t d b : Bool) (n : ℕ) (w : Bool) → wrongTime (s .progress) (a .time) ≡ t → wrongReplyDraw (a .draw) ≡ d → smallBuffer (a .room) ≡ b
+        → messageRefusal (a .port) (a .packet) ≡ n → wrongState s ≡ w → ordered t d b n w ≡ 0 → ReceiveAccepted s a
+    go true d b n w i j k l m e = absurd (omega (arith, e))
+    go false true b n w i j k l m e = absurd (omega (arith, e))
+    go false false true n w i j k l m e = absurd (omega (arith, e))
+    go false false false (suc n) w i j k l m e = let z : suc n ≡ 0 = rw (positive n) at e in absurd (omega arith)
+    go false false false zero true i j k l m e = absurd (omega (arith, e))
+    go false false false zero false i j k l m e = record { time = i; drawn = j; buffer = k; message = l; right = m }
+
+pub tick-accepted : (s : State) (t : Tick) → tickRefusal s t ≡ 0 → TickAccepted s t
 unfolding tickRefusal
-tick-accepted s now room h =
-    let x : (wrongTime (s .progress) now ≡ false) × (smallBuffer room ≡ false) × (wrongState s ≡ false) =
-    go (wrongTime (s .progress) now) (smallBuffer room) (wrongState s) h in
+tick-accepted s t h =
+    let x : (wrongTime (s .progress) (t .time) ≡ false) × (smallBuffer (t .room) ≡ false) × (wrongState s ≡ false) =
+    go (wrongTime (s .progress) (t .time)) (smallBuffer (t .room)) (wrongState s) h in
     record { time = x .0; buffer = x .1; right = x .2 }
   where
     go : (t b w : Bool) → _≡_ {A = ℕ} (cond t 1 (cond b 3 (cond w 7 0))) 0 → (t ≡ false) × (b ≡ false) × (w ≡ false)
@@ -102,74 +115,51 @@ length-of zero [] = refl
 length-of zero (b ∷ bs) = refl
 length-of (suc n) packet = simp (positive n)
 
-pub start-number : (setup : Setup) (now draw : ℕ) → refusalOf (startOf setup now draw .answer) ≡ startRefusal setup now draw
+pub start-number : (setup : Setup) (time draw : ℕ) → refusalOf (startOf setup time draw .answer) ≡ startRefusal setup time draw
 unfolding startOf
-start-number setup now draw = number-of (startRefusal setup now draw) []
+start-number setup time draw = number-of (startRefusal setup time draw) []
 
-module _ (s : State) (now port draw : ℕ) (p : List ℕ) (room : ℕ) where
-  pub receive-number : refusalOf (receiveOf s now port draw p room .answer) ≡ receiveRefusal s now port draw p room
-  unfolding receiveOf
-  receive-number = number-of (receiveRefusal s now port draw p room) (receivedPacket s now port draw p room)
+pub call-number : (s : State) (c : Call) → refusalOf (answerTo s c) ≡ refusalOfCall s c
+unfolding receiveOf tickOf
+call-number s (received a) = number-of (receiveRefusal s a) (receivedPacket s a)
+call-number s (ticked t) = number-of (tickRefusal s t) (tickedPacket s t)
 
-  pub receive-length : lengthOf (receiveOf s now port draw p room .answer) ≡ length (receivedPacket s now port draw p room)
-  unfolding receiveOf receivedPacket
-  receive-length = length-of (receiveRefusal s now port draw p room) _
-
-module _ (s : State) (now room : ℕ) where
-  pub tick-number : refusalOf (tickOf s now room .answer) ≡ tickRefusal s now room
-  unfolding tickOf
-  tick-number = number-of (tickRefusal s now room) (tickedPacket s now room)
-
-  pub tick-length : lengthOf (tickOf s now room .answer) ≡ length (tickedPacket s now room)
-  unfolding tickOf tickedPacket
-  tick-length = length-of (tickRefusal s now room) _
-
--- ---- "state, table, store and out buffer keep every byte"
-
-pub receive-refused-keeps :
-    (s : State) (now port draw : ℕ) (p out : List ℕ)
-    → eqb (receiveRefusal s now port draw p (length out)) 0 ≡ false
-    → (receiveOf s now port draw p (length out) .state ≡ s) × (laidOver (receivedPacket s now port draw p (length out)) out ≡ out)
-unfolding receiveOf receivedPacket
-receive-refused-keeps s now port draw p out h = (simp h, simp h)
-
-pub tick-refused-keeps :
-    (s : State) (now : ℕ) (out : List ℕ)
-    → eqb (tickRefusal s now (length out)) 0 ≡ false
-    → (tickOf s now (length out) .state ≡ s) × (laidOver (tickedPacket s now (length out)) out ≡ out)
-unfolding tickOf tickedPacket
-tick-refused-keeps s now out h = (simp h, simp h)
-
-pub refused-keeps : (s : State) (c : Call) → eqb (refusalOfCall s c) 0 ≡ false → (stateAfter s c ≡ s) × (sentBy s c ≡ [])
+pub call-length : (s : State) (c : Call) → lengthOf (answerTo s c) ≡ length (packetOf s c)
 unfolding receiveOf receivedPacket tickOf tickedPacket
-refused-keeps s (received now port draw p room) h = (simp h, simp h)
-refused-keeps s (ticked now room) h = (simp h, simp h)
+call-length s (received a) = length-of (receiveRefusal s a) _
+call-length s (ticked t) = length-of (tickRefusal s t) _
+
+-- ---- "state, table, store and out buffer keep every byte": an empty packet is laid over nothing
+
+pub refused-keeps : (s : State) (c : Call) → eqb (refusalOfCall s c) 0 ≡ false → (stateAfter s c ≡ s) × (packetOf s c ≡ [])
+unfolding receiveOf receivedPacket tickOf tickedPacket
+refused-keeps s (received a) h = (simp h, simp h)
+refused-keeps s (ticked t) h = (simp h, simp h)
 
 -- ---- at most one packet
 
-one-at-most : (packet : List ℕ) → length (packets packet) ≤ 1
-one-at-most [] = omega arith
-one-at-most (b ∷ bs) = omega arith
-
 pub at-most-one-packet : (s : State) (c : Call) → length (sentBy s c) ≤ 1
-at-most-one-packet s (received now port draw p room) = one-at-most (receivedPacket s now port draw p room)
-at-most-one-packet s (ticked now room) = one-at-most (tickedPacket s now room)
+at-most-one-packet s c = go (packetOf s c)
+  where
+    go : (packet : List ℕ) → length (parcels packet) ≤ 1
+    go [] = omega arith
+    go (b ∷ bs) = omega arith
 
 -- ---- the state of a refused start
 
-pub start-refused-blank : (setup : Setup) (now draw : ℕ) → eqb (startRefusal setup now draw) 0 ≡ false → startOf setup now draw .state ≡ blank
+pub start-refused-blank : (setup : Setup) (time draw : ℕ) → eqb (startRefusal setup time draw) 0 ≡ false → startOf setup time draw .state ≡ blank
 unfolding startOf
-start-refused-blank setup now draw h = simp h
+start-refused-blank setup time draw h = simp h
 
 pub blank-wrong : wrongState blank ≡ true
 unfolding wrongState blank validSetup labelFits
 blank-wrong = refl
 
--- every call refuses it
+-- a call that is accepted has a state that keeps the rules
+pub accepted-right : (s : State) (c : Call) → refusalOfCall s c ≡ 0 → wrongState s ≡ false
+accepted-right s (received a) h = receive-accepted s a h .right
+accepted-right s (ticked t) h = tick-accepted s t h .right
+
+-- every call refuses the blank state
 pub blank-refused : (c : Call) → refusalOfCall blank c ≡ 0 → ⊥
-blank-refused (received now port draw p room) h =
-    let r : wrongState blank ≡ false = receive-accepted blank now port draw p room h .right in
-    let b : wrongState blank ≡ true = blank-wrong in clash (cc)
-blank-refused (ticked now room) h =
-    let r : wrongState blank ≡ false = tick-accepted blank now room h .right in
-    let b : wrongState blank ≡ true = blank-wrong in clash (cc)
+blank-refused c h = let r : wrongState blank ≡ false = accepted-right blank c h in let b : wrongState blank ≡ true = blank-wrong in clash (cc)

@@ -1,18 +1,26 @@
 -- Which refusal the tests of a call lead to, in their order. Assumes nothing.
 use Prim.Native.Nat.{ℕ, _≤_, _<_}
-use mathlib.Core.Path.{_≡_, refl}
+use mathlib.Core.Path.{_≡_, refl, sym, ap, _∙_}
 use mathlib.Core.Bool.{Bool, true, false, not, _||_}
 use mathlib.Core.List.{List}
 use native.Mathlib.Omega.{arith}
-use lib.Dec.{eqb}
 use lib.ListN.{length}
-use borrow.Author.Tests.{lt-ltb, le-ltb, eq-eqb, ne-eqb}
-use Rattle.wire.specs.message.Layout.{messageAt}
+use borrow.Author.Tests.{lt-ltb, le-ltb, ne-eqb}
+use Rattle.wire.specs.message.Message.{Message}
+use Rattle.wire.specs.message.Layout.{read, messageAt, readOf}
+use Rattle.wire.specs.message.Refusals.{messageFrom}
+use Rattle.wire.specs.declared.message.Layout.{Layout}
+use Rattle.wire.specs.declared.message.MessageRead.{MessageRead}
+use Rattle.wire.specs.declared.message.MessageRead.the-variants.{Read, Refused}
+use Rattle.wire.proofs.message.Refused.{accepted-from, refusing, reading, was-read, was-refused, taken-from, refused-from}
+use Rattle.own.specs.declared.records.Setup.{Setup}
 use Rattle.own.specs.records.Setups.{validSetup}
-use Rattle.claims.specs.Refusals.{wrongTime, wrongStartDraw, wrongReplyDraw}
+use Rattle.claims.specs.Refusals.{lateStart, wrongTime, wrongStartDraw, wrongReplyDraw}
 use Rattle.writer.specs.own_packets.Own.{refusal}
-use Rattle.responder.specs.Refusals.{wrongState, readRefusal, byPort, receiveRefusal, tickRefusal}
+use Rattle.responder.specs.Handed.{Arrival, Tick}
+use Rattle.responder.specs.Refusals.{smallBuffer, wrongState, startRefusal, receiveRefusal, tickRefusal, admitted}
 use Rattle.responder.specs.declared.State.{State}
+use Rattle.responder.proofs.Refusals.{in-order, receive-accepted}
 
 -- what a result is by its contract and by a test of it
 pub told : {A : Type 0} {r test v : A} → r ≡ test → r ≡ v → test ≡ v
@@ -37,77 +45,97 @@ unfolding wrongState
 right-setup s h = valid-in (validSetup (s .setup)) (wrongStartDraw (s .progress .draw)) h
 
 -- what is sent can be written
-pub can-send : (s : State) (out : List ℕ) → 1452 ≤ length out → wrongState s ≡ false → refusal (s .setup) out ≡ 0
+pub can-send : (s : State) (out : List ℕ) → smallBuffer (length out) ≡ false → wrongState s ≡ false → refusal (s .setup) out ≡ 0
 unfolding refusal
-can-send s out room h = simp (le-ltb (length out) 1452 room, right-setup s h)
+can-send s out room h = simp (room, right-setup s h)
 
--- ---- a message by its port
+-- ---- a start
 
-pub four : (n port : ℕ) → n ≡ 4 → 4 ≡ byPort n port
-four n port e = simp (eq-eqb n 4 e)
+module _ (setup : Setup) (time draw : ℕ) where
+  pub start-1 : lateStart time ≡ true → 1 ≡ startRefusal setup time draw
+  unfolding startRefusal
+  start-1 t = simp t
 
-pub as-read : (n port : ℕ) → (n ≡ 4 → ⊥) → port ≡ 5353 → n ≡ byPort n port
-as-read n port e h = simp (ne-eqb n 4 e, eq-eqb port 5353 h)
+  module _ (t : lateStart time ≡ false) where
+    pub start-2 : wrongStartDraw draw ≡ true → 2 ≡ startRefusal setup time draw
+    unfolding startRefusal
+    start-2 d = simp (t, d)
 
-pub other-port : (n port : ℕ) → (n ≡ 4 → ⊥) → (port ≡ 5353 → ⊥) → 5 ≡ byPort n port
-other-port n port e h = simp (ne-eqb n 4 e, ne-eqb port 5353 h)
+    module _ (d : wrongStartDraw draw ≡ false) where
+      pub start-7 : validSetup setup ≡ false → 7 ≡ startRefusal setup time draw
+      unfolding startRefusal
+      start-7 v = simp (t, d, v)
+
+      pub start-0 : validSetup setup ≡ true → 0 ≡ startRefusal setup time draw
+      unfolding startRefusal
+      start-0 v = simp (t, d, v)
 
 -- ---- a tick
 
-module _ (s : State) (now room : ℕ) where
-  pub tick-1 : wrongTime (s .progress) now ≡ true → tickRefusal s now room ≡ 1
+module _ (s : State) (t : Tick) where
+  pub tick-1 : wrongTime (s .progress) (t .time) ≡ true → 1 ≡ tickRefusal s t
   unfolding tickRefusal
-  tick-1 t = simp t
+  tick-1 l = simp l
 
-  module _ (t : wrongTime (s .progress) now ≡ false) where
-    pub tick-3 : room < 1452 → tickRefusal s now room ≡ 3
+  module _ (l : wrongTime (s .progress) (t .time) ≡ false) where
+    pub tick-3 : t .room < 1452 → 3 ≡ tickRefusal s t
     unfolding tickRefusal
-    tick-3 r = simp (t, lt-ltb room 1452 r)
+    tick-3 r = simp (l, lt-ltb (t .room) 1452 r)
 
-    module _ (r : 1452 ≤ room) where
-      pub tick-7 : wrongState s ≡ true → tickRefusal s now room ≡ 7
+    module _ (r : 1452 ≤ t .room) where
+      pub tick-7 : wrongState s ≡ true → 7 ≡ tickRefusal s t
       unfolding tickRefusal
-      tick-7 w = simp (t, le-ltb room 1452 r, w)
+      tick-7 w = simp (l, le-ltb (t .room) 1452 r, w)
 
-      pub tick-0 : wrongState s ≡ false → tickRefusal s now room ≡ 0
+      pub tick-0 : wrongState s ≡ false → 0 ≡ tickRefusal s t
       unfolding tickRefusal
-      tick-0 w = simp (t, le-ltb room 1452 r, w)
+      tick-0 w = simp (l, le-ltb (t .room) 1452 r, w)
 
 -- ---- a packet received
 
-module _ (s : State) (now port draw : ℕ) (p : List ℕ) (room : ℕ) where
-  abbrev Refuses : ℕ → Type 0
-  Refuses n = receiveRefusal s now port draw p room ≡ n
+module _ (s : State) (a : Arrival) where
+  refuses : (n : ℕ) → receiveRefusal s a ≡ n → (n ≡ 0 → ⊥) → Refused n ≡ readOf (admitted s a)
+  unfolding admitted
+  refuses n h z = ap Refused (sym h) ∙ refusing (receiveRefusal s a) (messageAt (a .packet)) (λ e. z (sym h ∙ e))
 
-  pub receive-1 : wrongTime (s .progress) now ≡ true → Refuses 1
-  unfolding receiveRefusal
-  receive-1 t = simp t
+  pub receive-1 : wrongTime (s .progress) (a .time) ≡ true → Refused 1 ≡ readOf (admitted s a)
+  receive-1 t = refuses 1 (in-order s a ∙ simp t) (λ e. omega arith)
 
-  module _ (t : wrongTime (s .progress) now ≡ false) where
-    pub receive-2 : wrongReplyDraw draw ≡ true → Refuses 2
-    unfolding receiveRefusal
-    receive-2 d = simp (t, d)
+  module _ (t : wrongTime (s .progress) (a .time) ≡ false) where
+    pub receive-2 : wrongReplyDraw (a .draw) ≡ true → Refused 2 ≡ readOf (admitted s a)
+    receive-2 d = refuses 2 (in-order s a ∙ simp (t, d)) (λ e. omega arith)
 
-    module _ (d : wrongReplyDraw draw ≡ false) where
-      pub receive-3 : room < 1452 → Refuses 3
-      unfolding receiveRefusal
-      receive-3 r = simp (t, d, lt-ltb room 1452 r)
+    module _ (d : wrongReplyDraw (a .draw) ≡ false) where
+      pub receive-3 : a .room < 1452 → Refused 3 ≡ readOf (admitted s a)
+      receive-3 r = refuses 3 (in-order s a ∙ simp (t, d, lt-ltb (a .room) 1452 r)) (λ e. omega arith)
 
-      module _ (r : 1452 ≤ room) where
-        pub receive-message : (n k : ℕ) → readRefusal (messageAt p) ≡ n → k ≡ byPort n port → eqb k 0 ≡ false → Refuses k
-        unfolding receiveRefusal
-        receive-message n k e b z = simp (t, d, le-ltb room 1452 r, e, ← b, z)
+      module _ (r : 1452 ≤ a .room) (m : MessageRead) (is : m ≡ readOf (messageFrom (a .port) (a .packet))) where
+        pub receive-message : (n : ℕ) → m ≡ Refused n → Refused n ≡ readOf (admitted s a)
+        receive-message n e =
+            let f = refused-from (a .packet) (a .port) m is n e in
+            refuses n (in-order s a ∙ simp (t, d, le-ltb (a .room) 1452 r, f .0, ne-eqb n 0 (f .1))) (f .1)
 
-        module _ (e : readRefusal (messageAt p) ≡ 0) where
-          pub receive-5 : (port ≡ 5353 → ⊥) → Refuses 5
-          unfolding receiveRefusal
-          receive-5 h = simp (t, d, le-ltb room 1452 r, e, ne-eqb port 5353 h)
+        module _ (l : Layout) (e : m ≡ Read l) where
+          pub receive-7 : wrongState s ≡ true → Refused 7 ≡ readOf (admitted s a)
+          receive-7 w =
+              let z = taken-from (a .packet) (a .port) m is l e .0 in
+              refuses 7 (in-order s a ∙ simp (t, d, le-ltb (a .room) 1452 r, z, w)) (λ e. omega arith)
 
-          module _ (h : port ≡ 5353) where
-            pub receive-7 : wrongState s ≡ true → Refuses 7
-            unfolding receiveRefusal
-            receive-7 w = simp (t, d, le-ltb room 1452 r, e, eq-eqb port 5353 h, w)
+          pub receive-read : wrongState s ≡ false → Read l ≡ readOf (admitted s a)
+          unfolding admitted
+          receive-read w =
+              let f = taken-from (a .packet) (a .port) m is l e in
+              reading (receiveRefusal s a) (messageAt (a .packet)) (Read l) (in-order s a ∙ simp (t, d, le-ltb (a .room) 1452 r, f .0, w))
+              (sym (ap readOf (f .2)))
 
-            pub receive-0 : wrongState s ≡ false → Refuses 0
-            unfolding receiveRefusal
-            receive-0 w = simp (t, d, le-ltb room 1452 r, e, eq-eqb port 5353 h, w)
+  -- what the answer says of the call
+  module _ (m : MessageRead) (is : m ≡ readOf (admitted s a)) where
+    pub is-admitted : (l : Layout) → m ≡ Read l → (receiveRefusal s a ≡ 0) × (says : Message) × (messageAt (a .packet) ≡ read l says)
+    unfolding admitted
+    is-admitted l e = was-read (receiveRefusal s a) (messageAt (a .packet)) m is l e
+
+    pub is-refused : (n : ℕ) → m ≡ Refused n → (receiveRefusal s a ≡ n) × (n ≡ 0 → ⊥)
+    unfolding admitted
+    is-refused n e =
+        was-refused (receiveRefusal s a) (messageAt (a .packet)) m is n e
+        (λ z. let t = accepted-from (a .packet) (a .port) (receive-accepted s a z .message) in (t .1, t .2, t .3))

@@ -1,117 +1,110 @@
 -- From the refusal of a call, or from none, to its answer, its state and its buffer. Assumes nothing.
 use Prim.Native.Nat.{ℕ}
 use mathlib.Core.Path.{_≡_, ap, _∙_}
-use mathlib.Core.Bool.{true, false}
+use mathlib.Core.Bool.{false}
 use mathlib.Core.List.{List}
+use borrow.Author.Tests.{ne-eqb}
 use lib.Dec.{eqb}
-use lib.ListN.{length}
-use Rattle.wire.specs.message.Layout.{messageAt}
+use Rattle.wire.specs.message.Message.{Message}
+use Rattle.wire.specs.message.Layout.{read, messageAt}
+use Rattle.wire.specs.declared.message.Layout.{Layout}
 use Rattle.own.specs.declared.records.Setup.{Setup}
-use Rattle.own.specs.records.Setups.{validSetup}
-use Rattle.claims.specs.Refusals.{lateStart, wrongStartDraw}
 use Rattle.claims.specs.Claims as claims
 use Rattle.claims.specs.declared.Progress.{Progress}
 use Rattle.claims.specs.declared.steps.Output.the-variants.{Response}
 use Rattle.claims.specs.declared.steps.Ticked as walked
+use Rattle.claims.specs.declared.answers.Facts.{Facts}
 use Rattle.claims.specs.declared.answers.Received as heard
+use Rattle.claims.specs.answers.Answers as answers
+use Rattle.facts.specs.Facts.{factsOf}
 use Rattle.writer.specs.own_packets.Own.{laidOver}
+use Rattle.responder.specs.Handed.{Arrival, Tick}
 use Rattle.responder.specs.Refusals.{startRefusal, receiveRefusal, tickRefusal}
-use Rattle.responder.specs.Calls.{refusalOf, lengthOf, blank, startOf, heardOf, receivedPacket, receiveOf, walkedOf, tickedPacket, tickOf}
+use Rattle.responder.specs.Calls.{refusalOf, lengthOf, blank, startOf, heardOf, receivedPacket, receiveOf, Receives}
+use Rattle.responder.specs.Calls.{walkedOf, tickedPacket, tickOf, Ticks}
+use Rattle.responder.specs.Runs.{received, ticked}
 use Rattle.responder.specs.declared.State.{State}
 use Rattle.responder.specs.declared.Answer.{Answer}
 use Rattle.responder.specs.declared.Answer.the-variants.{Refused, Quiet}
 use Rattle.responder.specs.declared.Started.{Started}
 use Rattle.responder.specs.declared.Received.{Received}
 use Rattle.responder.specs.declared.Ticked.{Ticked}
-use Rattle.responder.proofs.Refusals.{start-number, receive-number, receive-length, tick-number, tick-length}
+use Rattle.responder.proofs.Refusals.{start-number, call-number, call-length}
 use Rattle.responder.proofs.Sending.{Sends}
 
 -- ---- a start
 
-module _ (setup : Setup) (now draw : ℕ) where
+module _ (setup : Setup) (time draw : ℕ) {n : ℕ} (is : n ≡ startRefusal setup time draw) where
   abbrev Starts : Started → Type 0
-  Starts r = (r ≡ startOf setup now draw) × (refusalOf (r .answer) ≡ startRefusal setup now draw)
+  Starts r = (r ≡ startOf setup time draw) × (refusalOf (r .answer) ≡ startRefusal setup time draw)
 
   -- with the specification's number for the answer
-  numbered : (r : Started) → r ≡ startOf setup now draw → Starts r
-  numbered r e = (e, ap (λ (x : Started). refusalOf (x .answer)) e ∙ start-number setup now draw)
+  numbered : (r : Started) → r ≡ startOf setup time draw → Starts r
+  numbered r e = (e, ap (λ (x : Started). refusalOf (x .answer)) e ∙ start-number setup time draw)
 
-  module _ (s : State) (b : s ≡ blank) where
-    abbrev Refuses : ℕ → Type 0
-    Refuses n = Starts (record { answer = Refused n; state = s })
+  pub start-refused : (n ≡ 0 → ⊥) → (s : State) → s ≡ blank → Starts (record { answer = Refused n; state = s })
+  unfolding startOf
+  start-refused z s b = numbered _ (simp (← is, ne-eqb n 0 z, b))
 
-    pub start-1 : lateStart now ≡ true → Refuses 1
-    unfolding startOf startRefusal
-    start-1 t = numbered _ (simp (t, b))
-
-    pub start-2 : lateStart now ≡ false → wrongStartDraw draw ≡ true → Refuses 2
-    unfolding startOf startRefusal
-    start-2 t d = numbered _ (simp (t, d, b))
-
-    pub start-7 : lateStart now ≡ false → wrongStartDraw draw ≡ false → validSetup setup ≡ false → Refuses 7
-    unfolding startOf startRefusal
-    start-7 t d v = numbered _ (simp (t, d, v, b))
-
-  pub starts :
-      (progress : Progress)
-      → progress ≡ claims.startOf now draw
-      → lateStart now ≡ false
-      → wrongStartDraw draw ≡ false
-      → validSetup setup ≡ true
+  pub starts : n ≡ 0 → (progress : Progress) → progress ≡ claims.begunAt time draw
       → Starts (record { answer = Quiet; state = record { setup = setup; progress = progress } })
-  unfolding startOf startRefusal
-  starts progress e t d v = numbered _ (simp (t, d, v, e))
+  unfolding startOf
+  starts z progress e = numbered _ (simp (← is, z, e))
 
 -- ---- a packet received
 
-module _ (s : State) (now port draw : ℕ) (p out : List ℕ) where
-  abbrev Receives : Received → List ℕ → Type 0
-  Receives r o =
-      (r ≡ receiveOf s now port draw p (length out))
-      × ((o ≡ laidOver (receivedPacket s now port draw p (length out)) out)
-      × ((refusalOf (r .answer) ≡ receiveRefusal s now port draw p (length out))
-      × (lengthOf (r .answer) ≡ length (receivedPacket s now port draw p (length out)))))
-
+module _ (s : State) (a : Arrival) (out : List ℕ) where
   -- with the specification's number and length for the answer
-  received-numbered : (r : Received) (o : List ℕ) → r ≡ receiveOf s now port draw p (length out) → o ≡ laidOver (receivedPacket s now port draw p (length out)) out → Receives r o
-  received-numbered r o e f =
-      (e, (f, (ap (λ (x : Received). refusalOf (x .answer)) e ∙ receive-number s now port draw p (length out), ap (λ (x : Received). lengthOf (x .answer)) e ∙ receive-length s now port draw p (length out))))
+  received-numbered : (r : Received) (o : List ℕ) → r ≡ receiveOf s a → o ≡ laidOver (receivedPacket s a) out → Receives s a out r o
+  received-numbered r o e f = record {
+    answers = e;
+    writes = f;
+    number = ap (λ (x : Received). refusalOf (x .answer)) e ∙ call-number s (received a);
+    sent = ap (λ (x : Received). lengthOf (x .answer)) e ∙ call-length s (received a);
+  }
 
-  pub receive-refused : (n : ℕ) → receiveRefusal s now port draw p (length out) ≡ n → eqb n 0 ≡ false → Receives (record { answer = Refused n; state = s }) out
+  pub receive-refused : (n : ℕ) → (receiveRefusal s a ≡ n) × (n ≡ 0 → ⊥) → Receives s a out (record { answer = Refused n; state = s }) out
   unfolding receiveOf receivedPacket
-  receive-refused n e z = received-numbered _ _ (simp (e, z)) (simp (e, z))
+  receive-refused n h = let z : eqb n 0 ≡ false = ne-eqb n 0 (h .1) in received-numbered _ _ (simp (h .0, z)) (simp (h .0, z))
+
+  -- what the message says is what was read of it
+  heard-is : {l : Layout} {m : Message} (f : Facts) (h : heard.Received) → messageAt (a .packet) ≡ read l m → f ≡ factsOf (s .setup) m
+      → h ≡ answers.receiveOf (s .progress) (a .time) (a .draw) f (s .setup .hasaaaa) → heardOf s a (messageAt (a .packet)) ≡ h
+  heard-is f h was is e = simp (was, e, is)
 
   pub receives :
-      (h : heard.Received) (a : Answer) (o : List ℕ)
-      → receiveRefusal s now port draw p (length out) ≡ 0
-      → heardOf s now draw (messageAt p) ≡ h
-      → Sends (s .setup) (Response (h .answers)) out a o
-      → Receives (record { answer = a; state = record { setup = s .setup; progress = h .progress } }) o
+      {l : Layout} {m : Message} (f : Facts) (h : heard.Received) (r : Answer) (o : List ℕ)
+      → receiveRefusal s a ≡ 0
+      → messageAt (a .packet) ≡ read l m
+      → f ≡ factsOf (s .setup) m
+      → h ≡ answers.receiveOf (s .progress) (a .time) (a .draw) f (s .setup .hasaaaa)
+      → Sends (s .setup) (Response (h .answers)) out r o
+      → Receives s a out (record { answer = r; state = record { setup = s .setup; progress = h .progress } }) o
   unfolding receiveOf receivedPacket
-  receives h a o e d w = received-numbered _ _ (simp (e, d, w .0)) (simp (e, d, w .1))
+  receives f h r o z was is e w =
+      let d : heardOf s a (messageAt (a .packet)) ≡ h = heard-is f h was is e in
+      received-numbered _ _ (simp (z, d, w .0)) (simp (z, d, w .1))
 
 -- ---- a tick
 
-module _ (s : State) (now : ℕ) (out : List ℕ) where
-  abbrev Ticks : Ticked → List ℕ → Type 0
-  Ticks r o =
-      (r ≡ tickOf s now (length out))
-      × ((o ≡ laidOver (tickedPacket s now (length out)) out)
-      × ((refusalOf (r .answer) ≡ tickRefusal s now (length out)) × (lengthOf (r .answer) ≡ length (tickedPacket s now (length out)))))
+module _ (s : State) (t : Tick) (out : List ℕ) {n : ℕ} (is : n ≡ tickRefusal s t) where
+  ticked-numbered : (r : Ticked) (o : List ℕ) → r ≡ tickOf s t → o ≡ laidOver (tickedPacket s t) out → Ticks s t out r o
+  ticked-numbered r o e f = record {
+    answers = e;
+    writes = f;
+    number = ap (λ (x : Ticked). refusalOf (x .answer)) e ∙ call-number s (ticked t);
+    sent = ap (λ (x : Ticked). lengthOf (x .answer)) e ∙ call-length s (ticked t);
+  }
 
-  ticked-numbered : (r : Ticked) (o : List ℕ) → r ≡ tickOf s now (length out) → o ≡ laidOver (tickedPacket s now (length out)) out → Ticks r o
-  ticked-numbered r o e f =
-      (e, (f, (ap (λ (x : Ticked). refusalOf (x .answer)) e ∙ tick-number s now (length out), ap (λ (x : Ticked). lengthOf (x .answer)) e ∙ tick-length s now (length out))))
-
-  pub tick-refused : (n : ℕ) → tickRefusal s now (length out) ≡ n → eqb n 0 ≡ false → Ticks (record { answer = Refused n; more = false; state = s }) out
+  pub tick-refused : (n ≡ 0 → ⊥) → Ticks s t out (record { answer = Refused n; more = false; state = s }) out
   unfolding tickOf tickedPacket
-  tick-refused n e z = ticked-numbered _ _ (simp (e, z)) (simp (e, z))
+  tick-refused h = let z : eqb n 0 ≡ false = ne-eqb n 0 h in ticked-numbered _ _ (simp (← is, z)) (simp (← is, z))
 
   pub ticks :
       (w : walked.Ticked) (a : Answer) (o : List ℕ)
-      → tickRefusal s now (length out) ≡ 0
-      → w ≡ walkedOf s now
+      → n ≡ 0
+      → w ≡ walkedOf s (t .time)
       → Sends (s .setup) (w .output) out a o
-      → Ticks (record { answer = a; more = w .more; state = record { setup = s .setup; progress = w .progress } }) o
+      → Ticks s t out (record { answer = a; more = w .more; state = record { setup = s .setup; progress = w .progress } }) o
   unfolding tickOf tickedPacket
-  ticks w a o e d h = ticked-numbered _ _ (simp (e, ← d, h .0)) (simp (e, ← d, h .1))
+  ticks w a o z d h = ticked-numbered _ _ (simp (← is, z, ← d, h .0)) (simp (← is, z, ← d, h .1))

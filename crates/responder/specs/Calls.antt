@@ -1,10 +1,11 @@
 -- A start, a packet received and a tick (specification, 'Refusal numbers', 'A claim's life', 'Which answers go out'): the answer, the state after the call and
 -- the packet that it sends, put together from what the parts below say. Assumes nothing: these are definitions.
 use Prim.Native.Nat.{ℕ}
-use mathlib.Core.Bool.{Bool, false, cond}
+use mathlib.Core.Bool.{false, cond}
 use mathlib.Core.List.{List, [], _∷_}
 use lib.ListN.{length, replicate}
 use lib.Dec.{eqb}
+use mathlib.Core.Path.{_≡_}
 use Rattle.wire.specs.message.Layout.{Reads, read, refused, messageAt}
 use Rattle.own.specs.declared.records.Setup.{Setup}
 use Rattle.claims.specs.Claims as claims
@@ -20,9 +21,10 @@ use Rattle.claims.specs.declared.steps.Ticked as walked
 use Rattle.claims.specs.answers.Answers as answers
 use Rattle.claims.specs.declared.answers.Received as heard
 use Rattle.facts.specs.Facts.{factsOf}
-use Rattle.writer.specs.own_packets.Own.{responsePacket, probePacket, unlessRefused}
+use Rattle.writer.specs.own_packets.Own.{responsePacket, probePacket, unlessRefused, laidOver}
 use Rattle.writer.specs.declared.own_packets.Written.{Written}
 use Rattle.writer.specs.declared.own_packets.Written.the-variants as written
+use Rattle.responder.specs.Handed.{Arrival, Tick}
 use Rattle.responder.specs.Refusals.{startRefusal, receiveRefusal, tickRefusal}
 use Rattle.responder.specs.declared.State.{State}
 use Rattle.responder.specs.declared.Answer.{Answer}
@@ -61,11 +63,6 @@ answerFor (written.Sent n) = Sent n
 answerFor written.Nothing = Quiet
 answerFor (written.Refused n) = Refused n
 
--- the packets of a call, at most one
-abbrev pub packets : List ℕ → List (List ℕ)
-packets [] = []
-packets (b ∷ bs) = (b ∷ bs) ∷ []
-
 -- ---- a start
 
 -- The state of a refused start, which the specification leaves free: every label and string is empty, both claims are lost, nothing was multicast.
@@ -94,12 +91,12 @@ blank = record {
 }
 
 abbrev pub startState : ℕ → Setup → ℕ → ℕ → State
-startState refusal setup now draw = cond (eqb refusal 0) (record { setup = setup; progress = claims.startOf now draw }) blank
+startState refusal setup time draw = cond (eqb refusal 0) (record { setup = setup; progress = claims.begunAt time draw }) blank
 
 unfoldable pub startOf : Setup → ℕ → ℕ → Started
-startOf setup now draw = record {
-  answer = answerOf (startRefusal setup now draw) [];
-  state = startState (startRefusal setup now draw) setup now draw;
+startOf setup time draw = record {
+  answer = answerOf (startRefusal setup time draw) [];
+  state = startState (startRefusal setup time draw) setup time draw;
 }
 
 -- ---- what a call sends
@@ -109,38 +106,64 @@ packetFor setup Nothing = []
 packetFor setup (Probe k) = probePacket setup k
 packetFor setup (Response set) = responsePacket setup set
 
+-- where a packet goes: to all on the link
+pub data Destination : Type 0 where
+  multicast : Destination
+
+pub record Parcel : Type 0 where
+  pub to : Destination
+  pub bytes : List ℕ
+
+-- what is sent of a packet, where an empty one is none
+abbrev pub parcels : List ℕ → List Parcel
+parcels [] = []
+parcels (b ∷ bs) = record { to = multicast; bytes = b ∷ bs } ∷ []
+
 -- ---- a packet received
 
 -- What a message does to a state: the progress after it, and the records that go out at once. A message that is refused says nothing.
-abbrev pub heardOf : State → ℕ → ℕ → Reads → heard.Received
-heardOf s now draw (read l m) = answers.receiveOf (s .progress) now draw (factsOf (s .setup) m) (s .setup .hasaaaa)
-heardOf s now draw (refused n) = record { progress = s .progress; answers = noRecord }
+abbrev pub heardOf : State → Arrival → Reads → heard.Received
+heardOf s a (read l m) = answers.receiveOf (s .progress) (a .time) (a .draw) (factsOf (s .setup) m) (s .setup .hasaaaa)
+heardOf s a (refused n) = record { progress = s .progress; answers = noRecord }
 
 -- "SRV, TXT, A, AAAA go out at once in one packet."
-unfoldable pub receivedPacket : State → ℕ → ℕ → ℕ → List ℕ → ℕ → List ℕ
-receivedPacket s now port draw p room =
-    unlessRefused (receiveRefusal s now port draw p room) (packetFor (s .setup) (Response (heardOf s now draw (messageAt p) .answers)))
+unfoldable pub receivedPacket : State → Arrival → List ℕ
+receivedPacket s a = unlessRefused (receiveRefusal s a) (packetFor (s .setup) (Response (heardOf s a (messageAt (a .packet)) .answers)))
 
-unfoldable pub receiveOf : State → ℕ → ℕ → ℕ → List ℕ → ℕ → Received
-receiveOf s now port draw p room = record {
-  answer = answerOf (receiveRefusal s now port draw p room) (receivedPacket s now port draw p room);
-  state = stateOf (receiveRefusal s now port draw p room) s (heardOf s now draw (messageAt p) .progress);
+unfoldable pub receiveOf : State → Arrival → Received
+receiveOf s a = record {
+  answer = answerOf (receiveRefusal s a) (receivedPacket s a);
+  state = stateOf (receiveRefusal s a) s (heardOf s a (messageAt (a .packet)) .progress);
 }
+
+-- what `receive` gives, over an out buffer
+pub record Receives (s : State) (a : Arrival) (out : List ℕ) (r : Received) (out′ : List ℕ) : Type 0 where
+  pub answers : r ≡ receiveOf s a
+  pub writes : out′ ≡ laidOver (receivedPacket s a) out
+  pub number : refusalOf (r .answer) ≡ receiveRefusal s a
+  pub sent : lengthOf (r .answer) ≡ length (receivedPacket s a)
 
 -- ---- a tick
 
 -- the due steps of a state
 abbrev pub walkedOf : State → ℕ → walked.Ticked
-walkedOf s now = steps.tickOf (s .progress) now (s .setup .hasaaaa)
+walkedOf s time = steps.tickOf (s .progress) time (s .setup .hasaaaa)
 
 -- "the first that sends ends the tick"
-unfoldable pub tickedPacket : State → ℕ → ℕ → List ℕ
-tickedPacket s now room = unlessRefused (tickRefusal s now room) (packetFor (s .setup) (walkedOf s now .output))
+unfoldable pub tickedPacket : State → Tick → List ℕ
+tickedPacket s t = unlessRefused (tickRefusal s t) (packetFor (s .setup) (walkedOf s (t .time) .output))
 
 -- "It says whether more is due."
-unfoldable pub tickOf : State → ℕ → ℕ → Ticked
-tickOf s now room = record {
-  answer = answerOf (tickRefusal s now room) (tickedPacket s now room);
-  more = cond (eqb (tickRefusal s now room) 0) (walkedOf s now .more) false;
-  state = stateOf (tickRefusal s now room) s (walkedOf s now .progress);
+unfoldable pub tickOf : State → Tick → Ticked
+tickOf s t = record {
+  answer = answerOf (tickRefusal s t) (tickedPacket s t);
+  more = cond (eqb (tickRefusal s t) 0) (walkedOf s (t .time) .more) false;
+  state = stateOf (tickRefusal s t) s (walkedOf s (t .time) .progress);
 }
+
+-- what `tick` gives, over an out buffer
+pub record Ticks (s : State) (t : Tick) (out : List ℕ) (r : Ticked) (out′ : List ℕ) : Type 0 where
+  pub answers : r ≡ tickOf s t
+  pub writes : out′ ≡ laidOver (tickedPacket s t) out
+  pub number : refusalOf (r .answer) ≡ tickRefusal s t
+  pub sent : lengthOf (r .answer) ≡ length (tickedPacket s t)

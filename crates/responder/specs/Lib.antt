@@ -1,3 +1,5 @@
+pub mod Handed
 pub mod Refusals
 pub mod Calls
+pub mod Causes
 pub mod Runs

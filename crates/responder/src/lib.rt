@@ -2,22 +2,22 @@
 // A call tests its refusals in the specification's order, has the parts below read, judge and write, and answers with the state after it.
 ghost use mathlib.Core.Path.{_≡_};
 ghost use lib.ListN.{length};
+ghost use Rattle.wire.specs.message.Layout.{readOf};
 ghost use Rattle.writer.specs.own_packets.Own.{refusal, laidOver};
-ghost use Rattle.responder.specs.Refusals.{wrongState, byPort, startRefusal, receiveRefusal, tickRefusal};
-ghost use Rattle.responder.specs.Calls.{refusalOf, lengthOf, blank, answerFor, sentOr, packetFor, startOf, receiveOf, receivedPacket, tickOf, tickedPacket};
+ghost use Rattle.responder.specs.Handed.{Arrival, Tick};
+ghost use Rattle.responder.specs.Refusals.{wrongState, startRefusal, tickRefusal, admitted};
+ghost use Rattle.responder.specs.Calls.{refusalOf, blank, answerFor, sentOr, packetFor, startOf, Receives, Ticks};
 use claims::ClaimState;
 use claims::Progress;
 use claims::When;
 use claims::steps::Output;
-use facts::Scanned;
 use own::records::Label;
 use own::records::Service;
 use own::records::Setup;
 use own::records::Strings;
+use wire::message::MessageRead;
+use writer::own_packets::LEAST_OUT;
 use writer::own_packets::Written;
-
-// The port that messages come from.
-pub const MDNS_PORT: u16 = 5353;
 
 // A responder: what it was set up with, and all that changes in it.
 pub struct State {
@@ -89,26 +89,31 @@ pub fn blank_state() -> State
     }
 }
 
+// The refusal of a start, 0 for none.
+fn start_refusal(setup: Setup, time: u64, draw: u64) -> u8
+    ensures { λ r. ⌜ r ≡ startRefusal setup time draw ⌝ }
+{
+    if claims::refusal_tests::start_time_refused(time) {
+        return wire::refusals::TIME;
+    }
+    if claims::refusal_tests::start_draw_refused(draw) {
+        return wire::refusals::DRAW;
+    }
+    if !own::setups::check_setup(setup) {
+        return wire::refusals::SETUP;
+    }
+    0
+}
+
 // Begins a responder, whose first probes wait for the draw.
 pub fn start(setup: Setup, time: u64, draw: u64) -> Started
     ensures answer { λ r. ⌜ r ≡ startOf setup time draw ⌝ }
     ensures number { λ r. ⌜ refusalOf (r .answer) ≡ startRefusal setup time draw ⌝ }
 {
-    if claims::refusal_tests::start_time_refused(time) {
+    let refusal = start_refusal(setup, time, draw);
+    if refusal != 0 {
         return Started {
-            answer: Answer::Refused(1),
-            state: blank_state(),
-        };
-    }
-    if claims::refusal_tests::start_draw_refused(draw) {
-        return Started {
-            answer: Answer::Refused(2),
-            state: blank_state(),
-        };
-    }
-    if !own::setups::check_setup(setup) {
-        return Started {
-            answer: Answer::Refused(7),
+            answer: Answer::Refused(refusal),
             state: blank_state(),
         };
     }
@@ -131,19 +136,6 @@ fn state_refused(state: State) -> bool
         return claims::refusal_tests::start_draw_refused(progress.draw);
     }
     true
-}
-
-// The refusal of a message that the reader refuses with `n`, from a port: a wrong port comes before a malformed message and after a wrong length.
-fn message_refusal(n: u8, port: u16) -> u8
-    ensures { λ r. ⌜ r ≡ byPort n port ⌝ }
-{
-    if n == 4 {
-        return 4;
-    }
-    if port == MDNS_PORT {
-        return n;
-    }
-    5
 }
 
 fn answer_for(w: Written) -> Answer
@@ -175,6 +167,32 @@ fn send(setup: Setup, output: Output, out: &mut [u8]) -> Answer
     }
 }
 
+// Where the sections of a packet received lie, or the refusal of the call.
+fn admit(state: State, time: u64, port: u16, draw: u64, packet: &[u8], room: usize) -> MessageRead
+    ensures { λ r. ⌜ (let a : Arrival = record { time = time; port = port; draw = draw; packet = now (packet .entry); room = room } in
+        r ≡ readOf (admitted state a)) ⌝ }
+{
+    let progress = state.progress;
+    if claims::refusal_tests::time_refused(progress, time) {
+        return MessageRead::Refused(wire::refusals::TIME);
+    }
+    if claims::refusal_tests::reply_draw_refused(draw) {
+        return MessageRead::Refused(wire::refusals::DRAW);
+    }
+    if room < LEAST_OUT {
+        return MessageRead::Refused(wire::refusals::BUFFER);
+    }
+    match wire::message::read_from(packet, port) {
+        MessageRead::Read(l) => {
+            if state_refused(state) {
+                return MessageRead::Refused(wire::refusals::SETUP);
+            }
+            MessageRead::Read(l)
+        }
+        MessageRead::Refused(n) => MessageRead::Refused(n),
+    }
+}
+
 // Takes a packet that came from `port`, with the draw for a PTR reply, and writes the answers that go out at once.
 pub fn receive(
     state: State,
@@ -184,50 +202,15 @@ pub fn receive(
     packet: &[u8],
     out: &mut [u8],
 ) -> Received
-    ensures answer { λ r. ⌜ r ≡ receiveOf state time port draw (now (packet .entry)) (length (now (out .entry))) ⌝ }
-    ensures out { λ _. ⌜ now (out .exit) ≡ laidOver (receivedPacket state time port draw (now (packet .entry)) (length (now (out .entry)))) (now (out .entry)) ⌝ }
-    ensures number { λ r. ⌜ refusalOf (r .answer) ≡ receiveRefusal state time port draw (now (packet .entry)) (length (now (out .entry))) ⌝ }
-    ensures sent { λ r. ⌜ lengthOf (r .answer) ≡ length (receivedPacket state time port draw (now (packet .entry)) (length (now (out .entry)))) ⌝ }
+    ensures { λ r. ⌜ (let room = length (now (out .entry)) in
+        let a : Arrival = record { time = time; port = port; draw = draw; packet = now (packet .entry); room = room } in
+        Receives state a (now (out .entry)) r (now (out .exit))) ⌝ }
 {
-    let setup = state.setup;
-    let progress = state.progress;
-    if claims::refusal_tests::time_refused(progress, time) {
-        return Received {
-            answer: Answer::Refused(1),
-            state,
-        };
-    }
-    if claims::refusal_tests::reply_draw_refused(draw) {
-        return Received {
-            answer: Answer::Refused(2),
-            state,
-        };
-    }
-    if out.len() < writer::own_packets::LEAST_OUT {
-        return Received {
-            answer: Answer::Refused(3),
-            state,
-        };
-    }
-    match facts::scan_packet(packet, setup) {
-        Scanned::Refused(n) => Received {
-            answer: Answer::Refused(message_refusal(n, port)),
-            state,
-        },
-        Scanned::Said(facts) => {
-            if port != MDNS_PORT {
-                return Received {
-                    answer: Answer::Refused(5),
-                    state,
-                };
-            }
-            if state_refused(state) {
-                return Received {
-                    answer: Answer::Refused(7),
-                    state,
-                };
-            }
-            let heard = claims::answers::receive(progress, time, draw, facts, setup.hasaaaa);
+    match admit(state, time, port, draw, packet, out.len()) {
+        MessageRead::Read(l) => {
+            let setup = state.setup;
+            let facts = facts::facts(packet, l, setup);
+            let heard = claims::answers::receive(state.progress, time, draw, facts, setup.hasaaaa);
             let set = heard.answers;
             let after = heard.progress;
             Received {
@@ -238,40 +221,45 @@ pub fn receive(
                 },
             }
         }
+        MessageRead::Refused(n) => Received {
+            answer: Answer::Refused(n),
+            state,
+        },
     }
+}
+
+// The refusal of a tick, 0 for none.
+fn tick_refusal(state: State, time: u64, room: usize) -> u8
+    ensures { λ r. ⌜ (let t : Tick = record { time = time; room = room } in r ≡ tickRefusal state t) ⌝ }
+{
+    let progress = state.progress;
+    if claims::refusal_tests::time_refused(progress, time) {
+        return wire::refusals::TIME;
+    }
+    if room < LEAST_OUT {
+        return wire::refusals::BUFFER;
+    }
+    if state_refused(state) {
+        return wire::refusals::SETUP;
+    }
+    0
 }
 
 // Walks the due steps, and writes the packet of the first that sends.
 pub fn tick(state: State, time: u64, out: &mut [u8]) -> Ticked
-    ensures answer { λ r. ⌜ r ≡ tickOf state time (length (now (out .entry))) ⌝ }
-    ensures out { λ _. ⌜ now (out .exit) ≡ laidOver (tickedPacket state time (length (now (out .entry)))) (now (out .entry)) ⌝ }
-    ensures number { λ r. ⌜ refusalOf (r .answer) ≡ tickRefusal state time (length (now (out .entry))) ⌝ }
-    ensures sent { λ r. ⌜ lengthOf (r .answer) ≡ length (tickedPacket state time (length (now (out .entry)))) ⌝ }
+    ensures { λ r. ⌜ (let t : Tick = record { time = time; room = length (now (out .entry)) } in
+        Ticks state t (now (out .entry)) r (now (out .exit))) ⌝ }
 {
+    let refusal = tick_refusal(state, time, out.len());
+    if refusal != 0 {
+        return Ticked {
+            answer: Answer::Refused(refusal),
+            more: false,
+            state,
+        };
+    }
     let setup = state.setup;
-    let progress = state.progress;
-    if claims::refusal_tests::time_refused(progress, time) {
-        return Ticked {
-            answer: Answer::Refused(1),
-            more: false,
-            state,
-        };
-    }
-    if out.len() < writer::own_packets::LEAST_OUT {
-        return Ticked {
-            answer: Answer::Refused(3),
-            more: false,
-            state,
-        };
-    }
-    if state_refused(state) {
-        return Ticked {
-            answer: Answer::Refused(7),
-            more: false,
-            state,
-        };
-    }
-    let walked = claims::steps::tick(progress, time, setup.hasaaaa);
+    let walked = claims::steps::tick(state.progress, time, setup.hasaaaa);
     let output = walked.output;
     let after = walked.progress;
     let more = walked.more;

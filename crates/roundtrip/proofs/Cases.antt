@@ -5,20 +5,25 @@ use Rattle.wire.specs.names.Names.{nameAt, fromRun, readFrom}
 use Rattle.wire.specs.rdata.Rdata.{stringsFill}
 use Rattle.wire.specs.expansion.Equal.{sameBytes}
 use Rattle.writer.specs.compression.Compression.{standsAt, placeOf, cutFrom, nameBytes, starts, namePlaces}
-use Rattle.own.specs.records.Setups.{labelFits, isLetter, isNameByte, nameBytes as lettersOnly, someLetter, hyphensApart, serviceRule, serviceFits, protocolFits, domainFits, txtFits, validSetup, serviceLabels, instanceLabels, hostLabels}
+use Rattle.own.specs.records.Setups.{labelFits, isLetter, isNameByte, allNameBytes, someLetter, hyphensApart, serviceRule, serviceFits, protocolFits}
+use Rattle.own.specs.records.Setups.{domainFits, txtFits, validSetup, serviceLabels, instanceLabels, hostLabels}
 use Rattle.own.specs.records.Records.{hasRecord, ownLabels, ownName, srvRdata, ownRdata}
 use Rattle.claims.specs.records.Sets.{picked, recordsOf}
 use Rattle.writer.specs.Items.{putName, dataBytes, dataPlaces, putFields}
 use Rattle.writer.specs.own_packets.Packets.{packetOf}
-use Rattle.writer.specs.own_packets.Own.{ownRecord, responseRecords, probeRecords, responseOf, probeOf, responsePacket, probePacket}
+use Rattle.writer.specs.own_packets.Styles.{ownRecord}
+use Rattle.writer.specs.own_packets.Own.{responseRecords, probeRecords, responseOf, probeOf, responsePacket, probePacket}
 use Rattle.roundtrip.specs.Cases.{SampleValid, Announced, Probed, InstanceProbed}
 
 pub sample-valid : SampleValid
-unfolding labelFits isLetter isNameByte lettersOnly someLetter hyphensApart serviceRule serviceFits protocolFits domainFits txtFits validSetup stringsFill sameBytes
+unfolding labelFits isLetter isNameByte allNameBytes someLetter hyphensApart serviceRule serviceFits protocolFits domainFits txtFits validSetup
+    stringsFill sameBytes
 sample-valid = refl
 
 packets : Announced × Probed × InstanceProbed
-unfolding nameAt fromRun readFrom pieceAt sameBytes standsAt placeOf cutFrom nameBytes starts namePlaces serviceLabels instanceLabels hostLabels hasRecord ownLabels ownName srvRdata ownRdata putName dataBytes dataPlaces putFields packetOf ownRecord picked recordsOf responseRecords probeRecords responseOf probeOf responsePacket probePacket
+unfolding nameAt fromRun readFrom pieceAt sameBytes standsAt placeOf cutFrom nameBytes starts namePlaces serviceLabels instanceLabels hostLabels
+    hasRecord ownLabels ownName srvRdata ownRdata putName dataBytes dataPlaces putFields packetOf ownRecord picked recordsOf responseRecords
+    probeRecords responseOf probeOf responsePacket probePacket
 packets = (refl, refl, refl)
 
 pub announced : Announced

@@ -1,136 +1,154 @@
--- Every name of a written packet is cut as the specification's sentence says. Assumes nothing.
-use Prim.Native.Nat.{ℕ, _+_, _≤_}
-use native.Mathlib.Nat.{add-zero}
+-- The packet of a message is laid out for it, every name cut as the specification's sentence says; and no other packet is. Assumes nothing.
+use Prim.Native.Nat.{ℕ, _+_, _<_, _≤_}
 use mathlib.Core.Path.{_≡_, refl, sym, ap, subst, _∙_}
-use mathlib.Core.List.{List, [], _++_, append-assoc, append-nil}
-use mathlib.Core.Bool.{true, false}
+use mathlib.Core.List.{List, [], _∷_, _++_}
+use mathlib.Core.Bool.{Bool, true, false}
 use native.Mathlib.Omega.{arith}
-use borrow.Author.Tests.{ne-eqb}
-use lib.ListN.{length, take, drop, length-append}
-use lib.Seq.{length-take-le}
+use borrow.Author.Tests.{ltb-true, ltb-false}
+use lib.Dec.{ltb}
+use lib.ListN.{length, take, drop}
 use Rattle.wire.specs.names.Names.{isName}
-use Rattle.wire.specs.labels.Labels.{encode}
-use Rattle.wire.proofs.labels.Encoded.{made-of}
+use Rattle.wire.proofs.labels.Encoded.{made-of, encode-unique}
 use Rattle.wire.specs.rdata.Rdata.{formOf}
-use Rattle.writer.specs.compression.Compression.{nameBytes, namePlaces}
-use Rattle.writer.specs.compression.Sentence.{empty}
+use Rattle.wire.specs.message.Message.{Question, Record, Message}
+use Rattle.writer.specs.compression.Compression.{nameBytes, namePlaces, pointerTo}
+use Rattle.writer.specs.compression.Sentence.{Rising, empty, Stands, labelBytes, startsAt, Cuts, whole, cut}
 use Rattle.writer.proofs.compression.AsSaid.{is-cut}
-use Rattle.wire.specs.message.Message.{Question, Record}
-use Rattle.writer.specs.Items.{Writing, u16, fields, dataBytes, dataPlaces, putName, putFields, putRecord, putQuestion}
-use Rattle.writer.specs.own_packets.Packets.{putAll, header}
-use Rattle.roundtrip.specs.Writable.{Shaped, four, target, strings, sixteen, server, other, IsRecord, IsQuestion, Each, none, one}
-use Rattle.roundtrip.specs.Composed.{Composed, headed, plain, named}
+use Rattle.writer.specs.Fit.{isShaped}
+use Rattle.writer.specs.Items.{Writing, u16, fields, dataBytes, dataPlaces, searched, putBytes, putName, putFields, putRecord, putQuestion}
+use Rattle.writer.specs.own_packets.Packets.{putAll, header, written}
+use Rattle.writer.proofs.Fitting.{fit-parts}
+use Rattle.writer.proofs.Rdata.{target-fits, target-bytes, target-places, plain-bytes, plain-places}
+use Rattle.roundtrip.specs.Writable.{IsRecord, IsQuestion, Each, none, one, Writable}
+use Rattle.roundtrip.specs.Composed.{behind, NameLaid, QuestionLaid, question, DataLaid, plain, target, RecordLaid, laid}
+use Rattle.roundtrip.specs.Composed.{AllLaid, no-more, one-more, MessageLaid}
 use Rattle.roundtrip.specs.Statements.{MessageComposed}
-use Rattle.roundtrip.proofs.Sound.{Sound, name-sound, record-sound, question-sound}
+use Rattle.roundtrip.proofs.Sound.{Sound, searched-rising, name-sound, record-sound, question-sound}
 
--- ---- a name
+-- ---- what is written is laid out so
 
-name-composed :
-    (w : Writing) → Sound w → Composed w → (front bs : List ℕ) → isName bs ≡ true
-    → Composed (record {
-      bytes = w .bytes ++ (front ++ nameBytes (w .bytes) (w .places) bs);
-      places = w .places ++ namePlaces (w .bytes) (w .places) (length (w .bytes) + length front) bs;
-    })
-name-composed w sound c front bs ok =
+name-laid : (w : Writing) (os : List ℕ) {n : ℕ} → Rising 12 n os → (at : ℕ) (bs : List ℕ) → isName bs ≡ true
+    → NameLaid w os at bs (nameBytes (w .bytes) os bs) (namePlaces (w .bytes) os at bs)
+name-laid w os {n} up at bs ok =
     let m = made-of bs ok in
-    subst
-    (λ (n : List ℕ). Composed (record {
-      bytes = w .bytes ++ (front ++ nameBytes (w .bytes) (w .places) n);
-      places = w .places ++ namePlaces (w .bytes) (w .places) (length (w .bytes) + length front) n;
-    })) (sym (m .2))
-    (named front (m .0) (nameBytes (w .bytes) (w .places) (encode (m .0))) (namePlaces (w .bytes) (w .places) (length (w .bytes) + length front) (encode (m .0))) c
-    (is-cut (w .bytes) 12 (length (w .bytes)) (w .places) sound (length (w .bytes) + length front) (m .0) (m .1 .labels)))
+    record {
+      labels = m .0;
+      made = m .1 .labels;
+      spelt = m .2;
+      cut = subst (λ (b : List ℕ). Cuts (w .bytes) os at (m .0) (nameBytes (w .bytes) os b) (namePlaces (w .bytes) os at b)) (sym (m .2))
+          (is-cut (w .bytes) 12 n os up at (m .0) (m .1 .labels));
+    }
 
-put-name : (w : Writing) → Sound w → Composed w → (bs : List ℕ) → isName bs ≡ true → Composed (putName w bs)
+data-laid : (uncut : Bool) (w : Writing) → Sound w → (k : ℕ) (d : List ℕ) → isShaped k d ≡ true
+    → DataLaid uncut w k d (dataBytes (w .bytes) (searched uncut k (w .places)) k d)
+    (dataPlaces (w .bytes) (searched uncut k (w .places)) (length (w .bytes) + 10) k d)
+data-laid uncut w sound k d h = go (formOf k .named) refl
+  where
+    os : List ℕ
+    os = searched uncut k (w .places)
+
+    go : (b : Bool) → formOf k .named ≡ b → DataLaid uncut w k d (dataBytes (w .bytes) os k d) (dataPlaces (w .bytes) os (length (w .bytes) + 10) k d)
+    go true t =
+        let f = target-fits k d t h in
+        rw (target-bytes k d t (w .bytes) os, target-places k d t (w .bytes) os (length (w .bytes) + 10))
+        (target t (name-laid w os (searched-rising uncut k sound) (length (w .bytes) + 10 + formOf k .before) (drop (formOf k .before) d) (f .1)))
+    go false t = rw (plain-bytes k d t (w .bytes) os, plain-places k d t (w .bytes) os (length (w .bytes) + 10)) (plain t)
+
+record-laid : (uncut : Bool) (w : Writing) → Sound w → (r : Record) → IsRecord r → RecordLaid uncut w r (putRecord uncut w r)
+unfolding putName putFields
+record-laid uncut w sound r fit =
+    let ok = fit-parts (r .owner) (r .rtype) (r .ttl) (r .rdata) fit in
+    laid (name-laid w (w .places) sound (length (w .bytes)) (r .owner) (ok .0))
+    (data-laid uncut (putName w (r .owner)) (name-sound w sound (r .owner) (ok .0)) (r .rtype) (r .rdata) (ok .1))
+
+question-laid : (w : Writing) → Sound w → (q : Question) → IsQuestion q → QuestionLaid w q (putQuestion w q)
 unfolding putName
-put-name w sound c bs ok =
-    subst (λ (at : ℕ). Composed (record { bytes = w .bytes ++ nameBytes (w .bytes) (w .places) bs; places = w .places ++ namePlaces (w .bytes) (w .places) at bs }))
-    (add-zero (length (w .bytes))) (name-composed w sound c [] bs ok)
+question-laid w sound q ok = question (name-laid w (w .places) sound (length (w .bytes)) (q .name) ok)
 
--- ---- the fields and the rdata of a record
+module _ {A : Type 0} (put : Writing → A → Writing) (Laid : Writing → A → Writing → Type 0) (Ok : A → Type 0)
+    (keeps : (w : Writing) → Sound w → (x : A) → Ok x → Sound (put w x)) (step : (w : Writing) → Sound w → (x : A) → Ok x → Laid w x (put w x)) where
+  all : {xs : List A} → Each Ok xs → (w : Writing) → Sound w → Sound (putAll put w xs) × AllLaid Laid w xs (putAll put w xs)
+  all none w s = (s, no-more)
+  all (one {x} {xs} ok rest) w s = let f = all rest (put w x) (keeps w s x ok) in (f .0, one-more (step w s x ok) (f .1))
 
-module _ (w : Writing) (r : Record) where
-  abbrev D : List ℕ
-  D = dataBytes (w .bytes) (w .places) (r .rtype) (r .rdata)
+message-laid : (uncut : Bool) (m : Message) → Writable m → MessageLaid uncut m (written uncut m)
+message-laid uncut m ok =
+    let start : Sound (header m) = (let g : 12 ≤ 12 = omega arith in empty g) in
+    let a = all putQuestion QuestionLaid IsQuestion question-sound question-laid (ok .questions) (header m) start in
+    let b = all (putRecord uncut) (RecordLaid uncut) IsRecord (record-sound uncut) (record-laid uncut) (ok .answers) _ (a .0) in
+    let c = all (putRecord uncut) (RecordLaid uncut) IsRecord (record-sound uncut) (record-laid uncut) (ok .authorities) _ (b .0) in
+    let d = all (putRecord uncut) (RecordLaid uncut) IsRecord (record-sound uncut) (record-laid uncut) (ok .additionals) _ (c .0) in
+    record { asked = _; answered = _; authorized = _; questions = a .1; answers = b .1; authorities = c .1; additionals = d .1 }
 
-  abbrev F : List ℕ
-  F = fields (r .rtype) (r .class) (r .ttl) (length D)
+-- ---- and nothing else is
 
-  -- rdata without a name
-  no-name : formOf (r .rtype) .named ≡ false → dataPlaces (w .bytes) (w .places) (length (w .bytes) + 10) (r .rtype) (r .rdata) ≡ []
-  unfolding dataPlaces
-  no-name t = simp t
+-- the sentence leaves one way to write a name
+cuts-unique : {p os : List ℕ} {at : ℕ} {ls : List (List ℕ)} {bs ps bs′ ps′ : List ℕ} → Cuts p os at ls bs ps → Cuts p os at ls bs′ ps′ → (bs ≡ bs′) × (ps ≡ ps′)
+cuts-unique (whole n e f) (whole n′ e′ f′) = (e ∙ sym e′, f ∙ sym f′)
+cuts-unique (whole n e f) (cut k o h s l v e′ f′) = absurd (n k o h s)
+cuts-unique (cut k o h s l v e f) (whole n e′ f′) = absurd (n k o h s)
+cuts-unique {p} {os} {at} {ls} {bs} {ps} {bs′} {ps′} (cut k o h s l v e f) (cut k′ o′ h′ s′ l′ v′ e′ f′) = go (ltb k k′) refl (ltb k′ k) refl
+  where
+    go : (a : Bool) → ltb k k′ ≡ a → (b : Bool) → ltb k′ k ≡ b → (bs ≡ bs′) × (ps ≡ ps′)
+    go true ea b eb = absurd (v′ k o (ltb-true k k′ ea) s)
+    go false ea true eb = absurd (v k′ o′ (ltb-true k′ k eb) s′)
+    go false ea false eb =
+        let x : k′ ≤ k = ltb-false k k′ ea in
+        let y : k ≤ k′ = ltb-false k′ k eb in
+        let i : k ≡ k′ = omega arith in
+        let lo : o ≤ o′ = l o′ (subst (λ (j : ℕ). Stands p os (drop j ls) o′) (sym i) s′) in
+        let hi : o′ ≤ o = l′ o (subst (λ (j : ℕ). Stands p os (drop j ls) o) i s) in
+        let q : o ≡ o′ = omega arith in
+        let same : labelBytes (take k ls) ++ pointerTo o ≡ labelBytes (take k′ ls) ++ pointerTo o′ = λ j. labelBytes (take (i j) ls) ++ pointerTo (q j) in
+        (e ∙ same ∙ sym e′, f ∙ ap (λ (j : ℕ). take j (startsAt at ls)) i ∙ sym f′)
 
-  plain-fields : Composed w → formOf (r .rtype) .named ≡ false → Composed (putFields w r)
-  unfolding putFields
-  plain-fields c t =
-      subst (λ (ps : List ℕ). Composed (record { bytes = w .bytes ++ (F ++ D); places = ps }))
-      (sym (ap (λ (l : List ℕ). w .places ++ l) (no-name t) ∙ append-nil (w .places))) (plain (F ++ D) c)
+name-unique : {w : Writing} {os : List ℕ} {at : ℕ} {name bs ps bs′ ps′ : List ℕ} → NameLaid w os at name bs ps → NameLaid w os at name bs′ ps′
+    → (bs ≡ bs′) × (ps ≡ ps′)
+name-unique {w} {os} {at} {name} {bs} {ps} x y =
+    let e : x .labels ≡ y .labels = encode-unique (x .made) (y .made) (sym (x .spelt) ∙ y .spelt) in
+    cuts-unique (subst (λ (ls : List (List ℕ)). Cuts (w .bytes) os at ls bs ps) e (x .cut)) (y .cut)
 
-  -- rdata with a name behind its first bytes
-  module _ (t : formOf (r .rtype) .named ≡ true) (long : formOf (r .rtype) .before ≤ length (r .rdata)) (ok : isName (drop (formOf (r .rtype) .before) (r .rdata)) ≡ true) where
-    abbrev first : List ℕ
-    first = take (formOf (r .rtype) .before) (r .rdata)
+question-unique : {w : Writing} {q : Question} {v v′ : Writing} → QuestionLaid w q v → QuestionLaid w q v′ → v ≡ v′
+question-unique {w} {q} (question x) (question y) =
+    let f = name-unique x y in
+    λ i. putBytes (behind w (f .0 i) (f .1 i)) (u16 (q .rtype) ++ u16 (q .class))
 
-    abbrev target′ : List ℕ
-    target′ = drop (formOf (r .rtype) .before) (r .rdata)
+data-unique : {uncut : Bool} {w : Writing} {k : ℕ} {d ds es ds′ es′ : List ℕ} → DataLaid uncut w k d ds es → DataLaid uncut w k d ds′ es′ → (ds ≡ ds′) ×
+    (es ≡ es′)
+data-unique (plain t) (plain u) = (refl, refl)
+data-unique (plain t) (target u y) = let z : _≡_ {A = ℕ} 0 1 = cc in absurd (omega arith)
+data-unique (target t x) (plain u) = let z : _≡_ {A = ℕ} 0 1 = cc in absurd (omega arith)
+data-unique {k = k} {d = d} (target t x) (target u y) =
+    let f = name-unique x y in
+    (ap (λ (b : List ℕ). take (formOf k .before) d ++ b) (f .0), f .1)
 
-    data-is : D ≡ first ++ nameBytes (w .bytes) (w .places) target′
-    unfolding dataBytes
-    data-is = simp t
+record-unique : {uncut : Bool} {w : Writing} {r : Record} {v v′ : Writing} → RecordLaid uncut w r v → RecordLaid uncut w r v′ → v ≡ v′
+record-unique {uncut} {w} {r} (laid {bs = bs} {ps = ps} x a) (laid {bs = bs′} {ps = ps′} {ds = ds′} {es = es′} y b) =
+    let f = name-unique x y in
+    let e : behind w bs ps ≡ behind w bs′ ps′ = λ i. behind w (f .0 i) (f .1 i) in
+    let g = data-unique a (subst (λ (v : Writing). DataLaid uncut v (r .rtype) (r .rdata) ds′ es′) (sym e) b) in
+    λ i. behind (behind w (f .0 i) (f .1 i)) (fields (r .rtype) (r .class) (r .ttl) (length (g .0 i)) ++ g .0 i) (g .1 i)
 
-    places-are : dataPlaces (w .bytes) (w .places) (length (w .bytes) + 10) (r .rtype) (r .rdata)
-        ≡ namePlaces (w .bytes) (w .places) (length (w .bytes) + 10 + formOf (r .rtype) .before) target′
-    unfolding dataPlaces
-    places-are = simp t
+module _ {A : Type 0} (Laid : Writing → A → Writing → Type 0) (unique : (w : Writing) (x : A) (v v′ : Writing) → Laid w x v → Laid w x v′ → v ≡ v′) where
+  all-unique : {w : Writing} {xs : List A} {u u′ : Writing} → AllLaid Laid w xs u → AllLaid Laid w xs u′ → u ≡ u′
+  all-unique no-more no-more = refl
+  all-unique {u′ = u′} (one-more {w = w} {v = v} {x = x} {xs = xs} a more) (one-more {v = v′} b more′) =
+      all-unique more (subst (λ (t : Writing). AllLaid Laid t xs u′) (sym (unique w x v v′ a b)) more′)
 
-    behind : length (w .bytes) + length (F ++ first) ≡ length (w .bytes) + 10 + formOf (r .rtype) .before
-    behind = omega (arith, length-append F first, length-take-le (formOf (r .rtype) .before) (r .rdata) long)
+questions-unique : {w : Writing} {qs : List Question} {u u′ : Writing} → AllLaid QuestionLaid w qs u → AllLaid QuestionLaid w qs u′ → u ≡ u′
+questions-unique a b = all-unique QuestionLaid (λ w q v v′ x y. question-unique x y) a b
 
-    bytes-are : w .bytes ++ ((F ++ first) ++ nameBytes (w .bytes) (w .places) target′) ≡ w .bytes ++ (F ++ D)
-    bytes-are = ap (λ (l : List ℕ). w .bytes ++ l) (append-assoc F first (nameBytes (w .bytes) (w .places) target′) ∙ ap (λ (l : List ℕ). F ++ l) (sym data-is))
+records-unique : {uncut : Bool} {w : Writing} {rs : List Record} {u u′ : Writing} → AllLaid (RecordLaid uncut) w rs u
+    → AllLaid (RecordLaid uncut) w rs u′ → u ≡ u′
+records-unique {uncut} a b = all-unique (RecordLaid uncut) (λ w r v v′ x y. record-unique x y) a b
 
-    noted : w .places ++ namePlaces (w .bytes) (w .places) (length (w .bytes) + length (F ++ first)) target′
-        ≡ w .places ++ dataPlaces (w .bytes) (w .places) (length (w .bytes) + 10) (r .rtype) (r .rdata)
-    noted = ap (λ (l : List ℕ). w .places ++ l) (ap (λ (at : ℕ). namePlaces (w .bytes) (w .places) at target′) behind ∙ sym places-are)
-
-    named-fields : Sound w → Composed w → Composed (putFields w r)
-    unfolding putFields
-    named-fields sound c =
-        subst Composed (λ i. record { bytes = bytes-are i; places = noted i }) (name-composed w sound c (F ++ first) target′ ok)
-
-put-fields : (w : Writing) (r : Record) {k : ℕ} {d : List ℕ} → k ≡ r .rtype → d ≡ r .rdata → Shaped k d → Sound w → Composed w → Composed (putFields w r)
-put-fields w r p q (four is e) sound c = plain-fields w r c (rw (← p, is) refl)
-put-fields w r p q (target is e) sound c =
-    let t : r .rtype ≡ 12 = sym p ∙ is in
-    named-fields w r (rw t refl) (rw t (omega arith)) (rw (t, ← q) e) sound c
-put-fields w r p q (strings is e) sound c = plain-fields w r c (rw (← p, is) refl)
-put-fields w r p q (sixteen is e) sound c = plain-fields w r c (rw (← p, is) refl)
-put-fields w r p q (server is l e) sound c =
-    let t : r .rtype ≡ 33 = sym p ∙ is in
-    named-fields w r (rw t refl) (rw (t, ← q) l) (rw (t, ← q) e) sound c
-put-fields w r p q (other a b n e f) sound c = plain-fields w r c (simp (ne-eqb (r .rtype) 12 (λ h. b (p ∙ h)), ne-eqb (r .rtype) 33 (λ h. f (p ∙ h))))
-
--- ---- the packet
-
-put-record : (w : Writing) → Sound w → Composed w → (r : Record) → IsRecord r → Composed (putRecord w r)
-put-record w sound c r ok =
-    put-fields (putName w (r .owner)) r refl refl (ok .shaped) (name-sound w sound (r .owner) (ok .owned)) (put-name w sound c (r .owner) (ok .owned))
-
-put-question : (w : Writing) → Sound w → Composed w → (q : Question) → IsQuestion q → Composed (putQuestion w q)
-put-question w sound c q ok = plain (u16 (q .rtype) ++ u16 (q .class)) (put-name w sound c (q .name) ok)
-
-module _ {A : Type 0} (put : Writing → A → Writing) (Ok : A → Type 0)
-    (keeps : (w : Writing) → Sound w → (x : A) → Ok x → Sound (put w x))
-    (step : (w : Writing) → Sound w → Composed w → (x : A) → Ok x → Composed (put w x)) where
-  all : {xs : List A} → Each Ok xs → (w : Writing) → Sound w → Composed w → Sound (putAll put w xs) × Composed (putAll put w xs)
-  all none w s c = (s, c)
-  all (one {x} {xs} ok rest) w s c = all rest (put w x) (keeps w s x ok) (step w s c x ok)
+message-unique : (uncut : Bool) (m : Message) (w w′ : Writing) → MessageLaid uncut m w → MessageLaid uncut m w′ → w ≡ w′
+message-unique uncut m w w′ x y =
+    let a = questions-unique (x .questions) (y .questions) in
+    let b = records-unique (x .answers) (subst (λ (v : Writing). AllLaid (RecordLaid uncut) v (m .answers) (y .answered)) (sym a) (y .answers)) in
+    let c = records-unique (x .authorities)
+    (subst (λ (v : Writing). AllLaid (RecordLaid uncut) v (m .authorities) (y .authorized)) (sym b) (y .authorities)) in
+    records-unique (x .additionals) (subst (λ (v : Writing). AllLaid (RecordLaid uncut) v (m .additionals) w′) (sym c) (y .additionals))
 
 pub composed : MessageComposed
-composed m ok =
-    let start : Sound (header m) = (let g : 12 ≤ 12 = omega arith in empty g) in
-    let a = all putQuestion IsQuestion question-sound put-question (ok .questions) (header m) start (headed _) in
-    let b = all putRecord IsRecord record-sound put-record (ok .answers) _ (a .0) (a .1) in
-    let c = all putRecord IsRecord record-sound put-record (ok .authorities) _ (b .0) (b .1) in
-    all putRecord IsRecord record-sound put-record (ok .additionals) _ (c .0) (c .1) .1
+composed uncut m ok = (message-laid uncut m ok, λ w x. message-unique uncut m w (written uncut m) x (message-laid uncut m ok))

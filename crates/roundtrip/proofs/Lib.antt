@@ -1,10 +1,11 @@
--- Theorems: Whole, Composed, OwnPackets, Cases. What they are made of: Names, Sound, Records, Questions, Lists.
+-- Theorems: Whole, Puts, Composed, OwnPackets, Cases. What they are made of: Names, Sound, Records, Questions, Lists.
 mod Names
 mod Sound
 mod Records
 mod Questions
 mod Lists
 pub mod Whole
+pub mod Puts
 pub mod Composed
 pub mod OwnPackets
 pub mod Cases

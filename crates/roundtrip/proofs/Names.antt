@@ -1,21 +1,24 @@
 -- Names, numbers and rdata are read back. Assumes nothing.
 use Prim.Native.Nat.{ℕ, _+_, _/_, _%_, _≤_}
-use mathlib.Core.Path.{_≡_, refl, sym, ap, _∙_}
+use mathlib.Core.Path.{_≡_, refl, sym, ap, _∙_, subst}
 use mathlib.Core.List.{List, [], _++_, append-assoc}
-use mathlib.Core.Bool.{true}
+use mathlib.Core.Bool.{Bool, true, false, cond}
 use native.Mathlib.Omega.{arith}
-use borrow.Author.Tests.{le-leb, eq-eqb, ne-eqb}
+use borrow.Author.Tests.{le-leb, eq-eqb}
+use lib.Dec.{eqb}
 use lib.ListN.{length, getD, take, drop, length-append, take-append-drop}
 use lib.Seq.{take-at, drop-at, drop-drop, getD-drop, length-take-le}
 use Rattle.wire.specs.octets.Octets.{word16}
 use Rattle.wire.specs.names.Names.{name, nameAt, isName}
-use Rattle.wire.specs.rdata.Rdata.{rdata, stringsFill, rdataIn, rdataAt}
+use Rattle.wire.specs.rdata.Rdata.{rdata, asItLies, stringsFill, formOf, withName, rdataIn, rdataAt}
+use Rattle.wire.proofs.rdata.Fits.{in-named}
 use Rattle.wire.specs.declared.message.RecordAt.{RecordAt}
 use Rattle.writer.specs.compression.Compression.{nameBytes}
 use Rattle.writer.specs.compression.Sentence.{Rising}
 use Rattle.writer.proofs.compression.Written.{name-back}
+use Rattle.writer.specs.Fit.{isShaped}
 use Rattle.writer.specs.Items.{dataBytes}
-use Rattle.roundtrip.specs.Writable.{Shaped, four, target, strings, sixteen, server, other}
+use Rattle.writer.proofs.Rdata.{target-fits, target-bytes, plain-bytes}
 
 -- numbers from what is left at a place
 pub word-at : (P r : List ℕ) (e : ℕ) → drop e P ≡ r → (i n : ℕ) → getD r i 0 ≡ n / 256 → getD r (i + 1) 0 ≡ n % 256 → word16 P (e + i) ≡ n
@@ -37,6 +40,20 @@ lying owner span rtype class ttl at len next = record {
   rdlength = len;
   next = next;
 }
+
+-- rdata in which no name stands
+as-it-lies : (u v w a b c : Bool) (d : List ℕ) → cond u a (cond v b (cond w c true)) ≡ true
+    → cond u (asItLies a d) (cond v (asItLies b d) (cond w (asItLies c d) (rdata d))) ≡ rdata d
+as-it-lies true v w a b c d h = ap (λ (x : Bool). asItLies x d) h
+as-it-lies false true w a b c d h = ap (λ (x : Bool). asItLies x d) h
+as-it-lies false false true a b c d h = ap (λ (x : Bool). asItLies x d) h
+as-it-lies false false false a b c d h = refl
+
+plain-in : (k : ℕ) (d : List ℕ) → formOf k .named ≡ false → isShaped k d ≡ true → (P : List ℕ) (f : RecordAt) → f .rtype ≡ k → rdataIn P f d ≡ rdata d
+unfolding rdataIn isShaped
+plain-in k d t h P f e =
+    let h′ : cond (eqb k 1) (eqb (length d) 4) (cond (eqb k 16) (stringsFill 0 d) (cond (eqb k 28) (eqb (length d) 16) true)) ≡ true = simp t at h in
+    rw e (simp t (as-it-lies (eqb k 1) (eqb k 16) (eqb k 28) (eqb (length d) 4) (stringsFill 0 d) (eqb (length d) 16) d h′))
 
 module _ (p os : List ℕ) (n : ℕ) (small : length p ≤ 16384) (low : Rising 12 n os) where
   -- a name with nothing between it and the packet before it
@@ -62,58 +79,46 @@ module _ (p os : List ℕ) (n : ℕ) (small : length p ≤ 16384) (low : Rising 
     Back k D d = (o s c t x : ℕ) → rdataAt (p ++ (F ++ (D ++ post))) (lying o s k c t (length p + 10) (length D) x) ≡ rdata d
 
     -- rdata in which no name stands
-    in-part : (k : ℕ) (D d : List ℕ) → ((o s c t x : ℕ) → rdataIn (p ++ (F ++ (D ++ post))) (lying o s k c t (length p + 10) (length D) x) D ≡ rdata d) → Back k D d
+    in-part : (k : ℕ) (D d : List ℕ) → ((o s c t x : ℕ) → rdataIn (p ++ (F ++ (D ++ post))) (lying o s k c t (length p + 10) (length D) x) D ≡ rdata d) → Back k
+        D d
     unfolding rdataAt
     in-part k D d h o s c t x =
         simp (le-leb _ _ (inside D)) (ap (rdataIn (p ++ (F ++ (D ++ post))) (lying o s k c t (length p + 10) (length D) x)) (part D) ∙ h o s c t x)
 
-    a-back : (d : List ℕ) → length d ≡ 4 → Back 1 d d
-    unfolding rdataIn
-    a-back d e = in-part 1 d d (λ o s c t x. simp (eq-eqb _ _ e))
+    plain-back : (k : ℕ) (d : List ℕ) → formOf k .named ≡ false → isShaped k d ≡ true → Back k d d
+    plain-back k d f h = in-part k d d (λ o s c t x. plain-in k d f h (p ++ (F ++ (d ++ post))) (lying o s k c t (length p + 10) (length d) x) refl)
 
-    txt-back : (d : List ℕ) → stringsFill 0 d ≡ true → Back 16 d d
-    unfolding rdataIn
-    txt-back d e = in-part 16 d d (λ o s c t x. simp e)
-
-    aaaa-back : (d : List ℕ) → length d ≡ 16 → Back 28 d d
-    unfolding rdataIn
-    aaaa-back d e = in-part 28 d d (λ o s c t x. simp (eq-eqb _ _ e))
-
-    other-back : (k : ℕ) (d : List ℕ) → (k ≡ 1 → ⊥) → (k ≡ 12 → ⊥) → (k ≡ 16 → ⊥) → (k ≡ 28 → ⊥) → (k ≡ 33 → ⊥) → Back k d d
-    unfolding rdataIn
-    other-back k d a b c e f = in-part k d d (λ o s u t x. simp (ne-eqb _ _ a, ne-eqb _ _ b, ne-eqb _ _ c, ne-eqb _ _ e, ne-eqb _ _ f))
-
-    ptr-back : (d : List ℕ) → isName d ≡ true → Back 12 (nameBytes p os d) d
-    unfolding rdataIn
-    ptr-back d ok =
-        let there : length p + length F ≡ length p + 10 + 0 = omega arith in
-        let r : nameAt (p ++ (F ++ (nameBytes p os d ++ post))) (length p + 10 + 0) ≡ name d (length p + 10 + 0 + length (nameBytes p os d)) = rw there at (name-back p os d ok F post n small low) in
-        let ends : length p + 10 + 0 + length (nameBytes p os d) ≡ length p + 10 + length (nameBytes p os d) = omega arith in
-        let none : 0 ≤ length (nameBytes p os d) = omega arith in
-        in-part 12 (nameBytes p os d) d (λ o s c t x. simp (le-leb 0 (length (nameBytes p os d)) none, r, eq-eqb (length p + 10 + 0 + length (nameBytes p os d)) (length p + 10 + length (nameBytes p os d)) ends))
-
-    srv-back : (d : List ℕ) → 6 ≤ length d → isName (drop 6 d) ≡ true → Back 33 (take 6 d ++ nameBytes p os (drop 6 d)) d
-    unfolding rdataIn
-    srv-back d long ok =
-        let pre : List ℕ = take 6 d in
-        let N : List ℕ = nameBytes p os (drop 6 d) in
-        let six : length (take 6 d) ≡ 6 = length-take-le 6 d long in
-        let there : length p + length (F ++ take 6 d) ≡ length p + 10 + 6 = omega (arith, length-append F (take 6 d)) in
-        let total : length p + 10 + 6 + length N ≡ length p + 10 + length (take 6 d ++ N) = omega (arith, length-append (take 6 d) N) in
-        let enough : 6 ≤ length (take 6 d ++ N) = omega (arith, length-append (take 6 d) N) in
-        let same : (F ++ take 6 d) ++ (N ++ post) ≡ F ++ ((take 6 d ++ N) ++ post) = simp append-assoc in
-        let r : nameAt (p ++ (F ++ ((take 6 d ++ N) ++ post))) (length p + 10 + 6) ≡ name (drop 6 d) (length p + 10 + length (take 6 d ++ N)) =
-        rw (same, there, total) at (name-back p os (drop 6 d) ok (F ++ take 6 d) post n small low) in
-        let front : take 6 (take 6 d ++ N) ≡ take 6 d = take-at (take 6 d) N 6 six in
-        in-part 33 (take 6 d ++ N) d
-        (λ o s c t x. simp (le-leb 6 (length (take 6 d ++ N)) enough, r, front, eq-eqb (length p + 10 + length (take 6 d ++ N)) (length p + 10 + length (take 6 d ++ N)) refl) (ap rdata (take-append-drop 6 d)))
+    -- bytes and a name
+    named-back : (k b : ℕ) (d : List ℕ) → formOf k .named ≡ true → formOf k .before ≡ b → b ≤ length d → isName (drop b d) ≡ true
+        → Back k (take b d ++ nameBytes p os (drop b d)) d
+    named-back k b d f e long ok =
+        let N : List ℕ = nameBytes p os (drop b d) in
+        let many : length (take b d) ≡ b = length-take-le b d long in
+        let there : length p + length (F ++ take b d) ≡ length p + 10 + b = omega (arith, length-append F (take b d)) in
+        let total : length p + 10 + b + length N ≡ length p + 10 + length (take b d ++ N) = omega (arith, length-append (take b d) N) in
+        let enough : b ≤ length (take b d ++ N) = omega (arith, length-append (take b d) N) in
+        let same : (F ++ take b d) ++ (N ++ post) ≡ F ++ ((take b d ++ N) ++ post) = simp append-assoc in
+        let r : nameAt (p ++ (F ++ ((take b d ++ N) ++ post))) (length p + 10 + b) ≡ name (drop b d) (length p + 10 + length (take b d ++ N)) =
+        rw (same, there, total) at (name-back p os (drop b d) ok (F ++ take b d) post n small low) in
+        let front : take b (take b d ++ N) ≡ take b d = take-at (take b d) N b many in
+        in-part k (take b d ++ N) d
+        (λ o s c t x. in-named (p ++ (F ++ ((take b d ++ N) ++ post))) (take b d ++ N) (lying o s k c t (length p + 10) (length (take b d ++ N)) x) f
+        ∙ ap (withName (p ++ (F ++ ((take b d ++ N) ++ post))) (length p + 10) (take b d ++ N)) e
+        ∙ simp (
+          le-leb b (length (take b d ++ N)) enough,
+          r,
+          front,
+          eq-eqb (length p + 10 + length (take b d ++ N)) (length p + 10 + length (take b d ++ N))
+              refl,
+        )
+        (ap rdata (take-append-drop b d)))
 
     -- the rdata of a record, after ten bytes
-    pub data-back : {k : ℕ} {d : List ℕ} → Shaped k d → Back k (dataBytes p os k d) d
-    unfolding dataBytes
-    data-back (four {k = k} {d = d} is e) = rw is (a-back d e)
-    data-back (target {k = k} {d = d} is e) = rw is (ptr-back d e)
-    data-back (strings {k = k} {d = d} is e) = rw is (txt-back d e)
-    data-back (sixteen {k = k} {d = d} is e) = rw is (aaaa-back d e)
-    data-back (server {k = k} {d = d} is l e) = rw is (srv-back d l e)
-    data-back (other {k = k} {d = d} a b c e f) = simp (ne-eqb _ _ b, ne-eqb _ _ f) (other-back k d a b c e f)
+    pub data-back : (k : ℕ) (d : List ℕ) → isShaped k d ≡ true → Back k (dataBytes p os k d) d
+    data-back k d h = go (formOf k .named) refl
+      where
+        go : (b : Bool) → formOf k .named ≡ b → Back k (dataBytes p os k d) d
+        go true t =
+            let f = target-fits k d t h in
+            subst (λ (D : List ℕ). Back k D d) (sym (target-bytes k d t p os)) (named-back k (formOf k .before) d t refl (f .0) (f .1))
+        go false t = subst (λ (D : List ℕ). Back k D d) (sym (plain-bytes k d t p os)) (plain-back k d t h)

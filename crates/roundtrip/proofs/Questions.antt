@@ -12,17 +12,18 @@ use Rattle.writer.specs.compression.Compression.{nameBytes}
 use Rattle.wire.specs.message.Message.{Question}
 use Rattle.wire.specs.message.Layout.{questionFrom, questionRead, item, bytesOf, questionMeant, questionAt}
 use Rattle.writer.specs.Items.{Writing, u16, putName, putQuestion}
+use Rattle.writer.proofs.Use.{question-low}
 use Rattle.roundtrip.specs.Writable.{IsQuestion}
 use Rattle.roundtrip.proofs.Names.{word-at, name-here}
 use Rattle.roundtrip.proofs.Sound.{Sound}
 
 -- A question is read back, whatever follows it.
-pub question-back : (w : Writing) → Sound w → (q : Question) → IsQuestion q → length (putQuestion w q .bytes) ≤ 16384 → (post : List ℕ)
+pub question-there : (w : Writing) → Sound w → (q : Question) → IsQuestion q → length (w .bytes) ≤ 16384 → (post : List ℕ)
     → questionAt (putQuestion w q .bytes ++ post) (length (w .bytes)) ≡ item q (length (putQuestion w q .bytes))
 unfolding putName questionAt questionRead
-question-back w sound q ok small post =
+question-there w sound q ok small post =
     ap (λ (x : Reading). questionMeant (bytesOf x) (questionFrom P (length p) x))
-    (ap (λ (R : List ℕ). nameAt R (length p)) shape ∙ name-here p (w .places) (length p) (omega (arith, parts, length-append p nb)) sound (F ++ post) (q .name) ok)
+    (ap (λ (R : List ℕ). nameAt R (length p)) shape ∙ name-here p (w .places) (length p) small sound (F ++ post) (q .name) ok)
     ∙ simp (le-leb (length p₁ + 4) (length P) (omega (arith, parts, length-append (p₁ ++ F) post)))
     (λ i. item (record { name = q .name; rtype = ek i; class = ec i }) (parts i))
   where
@@ -55,3 +56,7 @@ question-back w sound q ok small post =
 
     ec : word16 P (length p₁ + 2) ≡ q .class
     ec = word-at P (F ++ post) (length p₁) left 2 (q .class) refl refl
+
+pub question-back : (w : Writing) → Sound w → (q : Question) → IsQuestion q → length (putQuestion w q .bytes) ≤ 16384 → (post : List ℕ)
+    → questionAt (putQuestion w q .bytes ++ post) (length (w .bytes)) ≡ item q (length (putQuestion w q .bytes))
+question-back w sound q ok small post = question-there w sound q ok (omega (arith, small, question-low w q)) post

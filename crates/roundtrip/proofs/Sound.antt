@@ -1,70 +1,76 @@
 -- In a packet under construction labels start at rising offsets past the header: a name, a record and a question keep it so. Assumes nothing.
 use Prim.Native.Nat.{ℕ, _+_, _≤_}
 use mathlib.Core.Path.{_≡_, refl}
-use mathlib.Core.List.{List, _++_}
-use mathlib.Core.Bool.{true, false}
+use mathlib.Core.List.{List, [], _++_}
+use mathlib.Core.Bool.{Bool, true, false, cond, _&&_}
 use native.Mathlib.Omega.{arith}
-use borrow.Author.Tests.{ne-eqb}
+use lib.Dec.{eqb}
 use lib.ListN.{length, take, drop, length-append}
 use lib.Seq.{length-take-le}
 use Rattle.wire.specs.names.Names.{isName}
 use Rattle.writer.specs.compression.Compression.{nameBytes}
 use Rattle.writer.specs.compression.Sentence.{Rising, empty}
-use Rattle.writer.proofs.compression.Places.{rising-from, rising-to, rising-append}
+use Rattle.writer.proofs.compression.Places.{rising-le, rising-from, rising-to, rising-append}
 use Rattle.writer.proofs.compression.Written.{written-rising}
 use Rattle.wire.specs.message.Message.{Question, Record}
 use Rattle.wire.specs.rdata.Rdata.{formOf}
-use Rattle.writer.specs.Items.{Writing, u16, fields, dataBytes, dataPlaces, putBytes, putName, putFields, putRecord, putQuestion}
-use Rattle.roundtrip.specs.Writable.{Shaped, four, target, strings, sixteen, server, other, IsRecord, IsQuestion}
+use Rattle.writer.specs.Fit.{isShaped}
+use Rattle.writer.specs.Items.{Writing, u16, fields, dataBytes, dataPlaces, searched, putBytes, putName, putFields, putRecord, putQuestion}
+use Rattle.writer.proofs.Fitting.{fit-parts}
+use Rattle.writer.proofs.Rdata.{target-fits, target-bytes, target-places, plain-bytes, plain-places}
+use Rattle.roundtrip.specs.Writable.{IsRecord, IsQuestion}
 
 -- labels start at rising offsets past the header
 abbrev pub Sound : Writing → Type 0
 Sound w = Rising 12 (length (w .bytes)) (w .places)
 
+-- those that are searched rise too
+pub searched-rising : (whole : Bool) (k : ℕ) {m n : ℕ} {os : List ℕ} → Rising m n os → Rising m n (searched whole k os)
+searched-rising whole k {m} {n} {os} up = go (whole && eqb k 33)
+  where
+    go : (b : Bool) → Rising m n (cond b [] os)
+    go true = empty (rising-le up)
+    go false = up
+
 -- the labels in rdata start in the rdata
-plain-rising : (p os : List ℕ) (at k : ℕ) (d : List ℕ) → formOf k .named ≡ false → Rising at (at + length (dataBytes p os k d)) (dataPlaces p os at k d)
-unfolding dataBytes dataPlaces
-plain-rising p os at k d t = let g : at ≤ at + length d = omega arith in simp t (empty g)
-
-ptr-rising : (p os : List ℕ) (at : ℕ) (d : List ℕ) → isName d ≡ true → Rising at (at + length (dataBytes p os 12 d)) (dataPlaces p os at 12 d)
-unfolding dataBytes dataPlaces
-ptr-rising p os at d ok = let z : at + 0 ≡ at = omega arith in rw z (written-rising p os d ok at)
-
-srv-rising : (p os : List ℕ) (at : ℕ) (d : List ℕ) → 6 ≤ length d → isName (drop 6 d) ≡ true → Rising at (at + length (dataBytes p os 33 d)) (dataPlaces p os at 33 d)
-unfolding dataBytes dataPlaces
-srv-rising p os at d long ok =
-    let N : List ℕ = nameBytes p os (drop 6 d) in
-    rising-from at (omega arith)
-    (rising-to (at + length (take 6 d ++ N)) (omega (arith, length-append (take 6 d) N, length-take-le 6 d long)) (written-rising p os (drop 6 d) ok (at + 6)))
-
-data-rising : (p os : List ℕ) (at : ℕ) {k : ℕ} {d : List ℕ} → Shaped k d → Rising at (at + length (dataBytes p os k d)) (dataPlaces p os at k d)
-data-rising p os at (four {k = k} {d = d} is e) = rw is (plain-rising p os at 1 d refl)
-data-rising p os at (target {k = k} {d = d} is e) = rw is (ptr-rising p os at d e)
-data-rising p os at (strings {k = k} {d = d} is e) = rw is (plain-rising p os at 16 d refl)
-data-rising p os at (sixteen {k = k} {d = d} is e) = rw is (plain-rising p os at 28 d refl)
-data-rising p os at (server {k = k} {d = d} is l e) = rw is (srv-rising p os at d l e)
-data-rising p os at (other {k = k} {d = d} a b c e f) = plain-rising p os at k d (simp (ne-eqb _ _ b, ne-eqb _ _ f))
+data-rising : (p os : List ℕ) (at k : ℕ) (d : List ℕ) → isShaped k d ≡ true → Rising at (at + length (dataBytes p os k d)) (dataPlaces p os at k d)
+data-rising p os at k d h = go (formOf k .named) refl
+  where
+    go : (b : Bool) → formOf k .named ≡ b → Rising at (at + length (dataBytes p os k d)) (dataPlaces p os at k d)
+    go true t =
+        let f = target-fits k d t h in
+        let n : ℕ = formOf k .before in
+        let N : List ℕ = nameBytes p os (drop n d) in
+        rw (target-bytes k d t p os, target-places k d t p os at)
+        (rising-from at (omega arith)
+        (rising-to (at + length (take n d ++ N)) (omega (arith, length-append (take n d) N, length-take-le n d (f .0)))
+        (written-rising p os (drop n d) (f .1) (at + n))))
+    go false t = let g : at ≤ at + length d = omega arith in rw (plain-bytes k d t p os, plain-places k d t p os at) (empty g)
 
 pub name-sound : (w : Writing) → Sound w → (bs : List ℕ) → isName bs ≡ true → Sound (putName w bs)
 unfolding putName
 name-sound w sound bs ok =
     rw (length-append (w .bytes) (nameBytes (w .bytes) (w .places) bs)) (rising-append sound (written-rising (w .bytes) (w .places) bs ok (length (w .bytes))))
 
-fields-sound : (w : Writing) → Sound w → (r : Record) → IsRecord r → Sound (putFields w r)
+fields-sound : (whole : Bool) (w : Writing) → Sound w → (r : Record) → IsRecord r → Sound (putFields whole w r)
 unfolding putFields
-fields-sound w sound r ok =
+fields-sound whole w sound r ok =
     rising-append sound
     (rising-from (length (w .bytes)) (omega arith)
-    (rising-to (length (w .bytes ++ (F ++ D))) (omega (arith, length-append (w .bytes) (F ++ D))) (data-rising (w .bytes) (w .places) (length (w .bytes) + 10) (ok .shaped))))
+    (rising-to (length (w .bytes ++ (F ++ D))) (omega (arith, length-append (w .bytes) (F ++ D)))
+    (data-rising (w .bytes) os (length (w .bytes) + 10) (r .rtype) (r .rdata) (fit-parts _ _ _ _ ok .1))))
   where
+    os : List ℕ
+    os = searched whole (r .rtype) (w .places)
+
     D : List ℕ
-    D = dataBytes (w .bytes) (w .places) (r .rtype) (r .rdata)
+    D = dataBytes (w .bytes) os (r .rtype) (r .rdata)
 
     F : List ℕ
     F = fields (r .rtype) (r .class) (r .ttl) (length D)
 
-pub record-sound : (w : Writing) → Sound w → (r : Record) → IsRecord r → Sound (putRecord w r)
-record-sound w sound r ok = fields-sound (putName w (r .owner)) (name-sound w sound (r .owner) (ok .owned)) r ok
+pub record-sound : (whole : Bool) (w : Writing) → Sound w → (r : Record) → IsRecord r → Sound (putRecord whole w r)
+record-sound whole w sound r ok = fields-sound whole (putName w (r .owner)) (name-sound w sound (r .owner) (fit-parts _ _ _ _ ok .0)) r ok
 
 bytes-sound : (w : Writing) → Sound w → (bs : List ℕ) → Sound (putBytes w bs)
 bytes-sound w sound bs = rising-to (length (w .bytes ++ bs)) (omega (arith, length-append (w .bytes) bs)) sound

@@ -20,9 +20,11 @@ use Rattle.roundtrip.proofs.Questions.{question-back}
 use Rattle.roundtrip.proofs.Lists.{More, record-more, question-more, all-sound, all-more, all-back}
 
 -- a message from its sections
-sections : (P : List ℕ) (i f nq na nn nr : ℕ) (qs : List Question) (an ns ar : List Record) (a b c d : ℕ) → 12 ≤ length P → length P ≤ 8972 → plainHeader f ≡ true
+sections : (P : List ℕ) (i f nq na nn nr : ℕ) (qs : List Question) (an ns ar : List Record) (a b c d : ℕ) → 12 ≤ length P → length P ≤ 8972 → plainHeader f ≡
+    true
     → word16 P 0 ≡ i → word16 P 2 ≡ f → word16 P 4 ≡ nq → word16 P 6 ≡ na → word16 P 8 ≡ nn → word16 P 10 ≡ nr
-    → listFrom (questionAt P) nq 12 ≡ listing qs a → listFrom (recordAt P) na a ≡ listing an b → listFrom (recordAt P) nn b ≡ listing ns c → listFrom (recordAt P) nr c ≡ listing ar d
+    → listFrom (questionAt P) nq 12 ≡ listing qs a → listFrom (recordAt P) na a ≡ listing an b → listFrom (recordAt P) nn b ≡ listing ns c → listFrom
+    (recordAt P) nr c ≡ listing ar d
     → messageAt P
     ≡ read
     (record {
@@ -54,14 +56,20 @@ sections P i f nq na nn nr qs an ns ar a b c d long most plain ei ef eq ea en er
 
 pub message-back : MessageBack
 unfolding packetOf
-message-back m ok post most =
-    sections P (m .id) (m .flags) (length (m .questions)) (length (m .answers)) (length (m .authorities)) (length (m .additionals)) (m .questions) (m .answers) (m .authorities) (m .additionals)
-    (length (w₁ .bytes)) (length (w₂ .bytes)) (length (w₃ .bytes)) (length (w₄ .bytes)) (omega (arith, ap length from-header, length-append (w₀ .bytes) rest₀)) most (ok .plain)
-    (word 0 (m .id) refl refl) (word 2 (m .flags) refl refl) (word 4 (length (m .questions)) refl refl) (word 6 (length (m .answers)) refl refl) (word 8 (length (m .authorities)) refl refl) (word 10 (length (m .additionals)) refl refl)
+message-back whole m ok post most =
+    sections P (m .id) (m .flags) (length (m .questions)) (length (m .answers)) (length (m .authorities)) (length (m .additionals)) (m .questions) (m .answers)
+    (m .authorities) (m .additionals)
+    (length (w₁ .bytes)) (length (w₂ .bytes)) (length (w₃ .bytes)) (length (w₄ .bytes)) (omega (arith, ap length from-header, length-append (w₀ .bytes) rest₀))
+    most (ok .plain)
+    (word 0 (m .id) refl refl) (word 2 (m .flags) refl refl) (word 4 (length (m .questions)) refl refl) (word 6 (length (m .answers)) refl refl)
+    (word 8 (length (m .authorities)) refl refl) (word 10 (length (m .additionals)) refl refl)
     (all-back putQuestion questionAt IsQuestion question-sound question-more question-back (ok .questions) w₀ s₀ (omega (arith, lengths, small)) P rest₁ to₁)
-    (all-back putRecord recordAt IsRecord record-sound record-more record-back (ok .answers) w₁ s₁ (omega (arith, lengths, small)) P rest₂ to₂)
-    (all-back putRecord recordAt IsRecord record-sound record-more record-back (ok .authorities) w₂ s₂ (omega (arith, lengths, small)) P rest₃ to₃)
-    (all-back putRecord recordAt IsRecord record-sound record-more record-back (ok .additionals) w₃ s₃ (omega (arith, small)) P post refl)
+    (all-back (putRecord whole) recordAt IsRecord (record-sound whole) (record-more whole) (record-back whole) (ok .answers) w₁ s₁
+    (omega (arith, lengths, small)) P rest₂ to₂)
+    (all-back (putRecord whole) recordAt IsRecord (record-sound whole) (record-more whole) (record-back whole) (ok .authorities) w₂ s₂
+    (omega (arith, lengths, small)) P rest₃ to₃)
+    (all-back (putRecord whole) recordAt IsRecord (record-sound whole) (record-more whole) (record-back whole) (ok .additionals) w₃ s₃ (omega (arith, small)) P
+    post refl)
   where
     w₀ : Writing
     w₀ = header m
@@ -70,13 +78,13 @@ message-back m ok post most =
     w₁ = putAll putQuestion w₀ (m .questions)
 
     w₂ : Writing
-    w₂ = putAll putRecord w₁ (m .answers)
+    w₂ = putAll (putRecord whole) w₁ (m .answers)
 
     w₃ : Writing
-    w₃ = putAll putRecord w₂ (m .authorities)
+    w₃ = putAll (putRecord whole) w₂ (m .authorities)
 
     w₄ : Writing
-    w₄ = putAll putRecord w₃ (m .additionals)
+    w₄ = putAll (putRecord whole) w₃ (m .additionals)
 
     P : List ℕ
     P = w₄ .bytes ++ post
@@ -91,22 +99,22 @@ message-back m ok post most =
     s₁ = all-sound putQuestion questionAt IsQuestion question-sound question-more question-back (ok .questions) w₀ s₀
 
     s₂ : Sound w₂
-    s₂ = all-sound putRecord recordAt IsRecord record-sound record-more record-back (ok .answers) w₁ s₁
+    s₂ = all-sound (putRecord whole) recordAt IsRecord (record-sound whole) (record-more whole) (record-back whole) (ok .answers) w₁ s₁
 
     s₃ : Sound w₃
-    s₃ = all-sound putRecord recordAt IsRecord record-sound record-more record-back (ok .authorities) w₂ s₂
+    s₃ = all-sound (putRecord whole) recordAt IsRecord (record-sound whole) (record-more whole) (record-back whole) (ok .authorities) w₂ s₂
 
     m₁ : More w₀ w₁
     m₁ = all-more putQuestion questionAt IsQuestion question-sound question-more question-back w₀ (m .questions)
 
     m₂ : More w₁ w₂
-    m₂ = all-more putRecord recordAt IsRecord record-sound record-more record-back w₁ (m .answers)
+    m₂ = all-more (putRecord whole) recordAt IsRecord (record-sound whole) (record-more whole) (record-back whole) w₁ (m .answers)
 
     m₃ : More w₂ w₃
-    m₃ = all-more putRecord recordAt IsRecord record-sound record-more record-back w₂ (m .authorities)
+    m₃ = all-more (putRecord whole) recordAt IsRecord (record-sound whole) (record-more whole) (record-back whole) w₂ (m .authorities)
 
     m₄ : More w₃ w₄
-    m₄ = all-more putRecord recordAt IsRecord record-sound record-more record-back w₃ (m .additionals)
+    m₄ = all-more (putRecord whole) recordAt IsRecord (record-sound whole) (record-more whole) (record-back whole) w₃ (m .additionals)
 
     rest₃ : List ℕ
     rest₃ = m₄ .0 ++ post

@@ -97,5 +97,5 @@ holder Factory received factory = factory
 abbrev pub bytesOf : Held → List ℕ → List ℕ → List ℕ
 bytesOf h received factory = take (h .len) (drop (h .at) (holder (h .buffer) received factory))
 
-abbrev pub startOf : Held → ℕ × ℕ → ℕ × ℕ → ℕ × ℕ
-startOf h received factory = (holder (h .buffer) received factory .0, h .at + holder (h .buffer) received factory .1)
+abbrev pub standsFrom : Held → ℕ × ℕ → ℕ × ℕ → ℕ × ℕ
+standsFrom h received factory = (holder (h .buffer) received factory .0, h .at + holder (h .buffer) received factory .1)

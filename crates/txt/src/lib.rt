@@ -6,8 +6,9 @@ ghost use Prim.Native.Nat.{_-_, _≤_};
 ghost use lib.ListN.{length, take, drop};
 ghost use denote.Ref.{ptr};
 ghost use Rattle.wire.specs.rdata.Rdata.{stringsFill};
+ghost use Rattle.wire.specs.rdata.Answers.{startIn};
 ghost use Rattle.txt.specs.Txt.{keyOf, hasKey};
-ghost use Rattle.txt.specs.Lookup.{badByte, badKey, refusalOf, givenBy, inTxt, lookupOf, numberOf, shownOf, bytesOf, startOf};
+ghost use Rattle.txt.specs.Lookup.{badByte, badKey, refusalOf, givenBy, inTxt, lookupOf, numberOf, partOf, shownOf, holder, bytesOf, standsFrom};
 
 // Which of the two TXTs.
 pub enum Buffer {
@@ -29,6 +30,12 @@ pub enum Answer {
     Present,
     Empty,
     Value(Held),
+}
+
+// What a lookup gives: the answer, and the part that it shows.
+pub struct Shown<'a> {
+    pub answer: Answer,
+    pub part: &'a [u8],
 }
 
 // Whether a byte may not stand in a key.
@@ -137,7 +144,7 @@ fn find(key: &[u8], txt: &[u8], buffer: Buffer) -> Answer
 }
 
 // The answer for a key: the received TXT is asked, and the factory TXT when the key is absent there.
-pub fn lookup(key: &[u8], received: &[u8], factory: &[u8]) -> Answer
+pub fn answer_for<'k, 'a>(key: &'k [u8], received: &'a [u8], factory: &'a [u8]) -> Answer
     ensures answer { λ r. ⌜ r ≡ lookupOf (now (key .entry)) (now (received .entry)) (now (factory .entry)) ⌝ }
     ensures number { λ r. ⌜ numberOf r ≡ refusalOf (now (key .entry)) (now (received .entry)) (now (factory .entry)) ⌝ }
 {
@@ -152,23 +159,39 @@ pub fn lookup(key: &[u8], received: &[u8], factory: &[u8]) -> Answer
     }
 }
 
-// The value that a key shows, as a part of the buffer that held it; where there is none, the empty part at the received TXT's start.
-pub fn shown<'a>(key: &[u8], received: &'a [u8], factory: &'a [u8]) -> &'a [u8]
-    ensures bytes { λ r. ⌜ (let held : Held = shownOf (now (key .entry)) (now (received .entry)) (now (factory .entry)) in
-        now r ≡ bytesOf held (now (received .entry)) (now (factory .entry))) ⌝ }
-    ensures start { λ r. ⌜ (let held : Held = shownOf (now (key .entry)) (now (received .entry)) (now (factory .entry)) in
-        ptr r ≡ startOf held (ptr (received .entry)) (ptr (factory .entry))) ⌝ }
+// The part that an answer shows: a part of the buffer that it names, or, where it has no value, the empty part at the received TXT's start.
+// Of an answer for other TXTs, what lies past the buffer's end is left out.
+pub fn part_of<'a>(answer: Answer, received: &'a [u8], factory: &'a [u8]) -> &'a [u8]
+    ensures bytes { λ r. ⌜ now r ≡ bytesOf (partOf answer) (now (received .entry)) (now (factory .entry)) ⌝ }
+    ensures start { λ r. ⌜ (let h : Held = partOf answer in
+        ptr r ≡ startIn (holder (h .buffer) (now (received .entry)) (now (factory .entry))) (h .at)
+        (holder (h .buffer) (ptr (received .entry)) (ptr (factory .entry)))) ⌝ }
 {
-    match lookup(key, received, factory) {
+    match answer {
         Answer::Value(held) => {
             let buffer = held.buffer;
-            let at = held.at;
-            let end = at + held.len;
             match buffer {
-                Buffer::Received => &received[at..end],
-                Buffer::Factory => &factory[at..end],
+                Buffer::Received => wire::rdata::part(received, held.at, held.len),
+                Buffer::Factory => wire::rdata::part(factory, held.at, held.len),
             }
         }
         _ => &received[..0],
+    }
+}
+
+// The lookup: the answer for a key and the part that it shows, together. The prover's own walk does not cover a struct that holds a reference, so
+// the work is in the two functions above, and this one is walked by hand.
+pub fn lookup<'k, 'a>(key: &'k [u8], received: &'a [u8], factory: &'a [u8]) -> Shown<'a>
+    ensures answer { λ r. ⌜ r .answer ≡ lookupOf (now (key .entry)) (now (received .entry)) (now (factory .entry)) ⌝ }
+    ensures number { λ r. ⌜ numberOf (r .answer) ≡ refusalOf (now (key .entry)) (now (received .entry)) (now (factory .entry)) ⌝ }
+    ensures bytes { λ r. ⌜ (let h : Held = shownOf (now (key .entry)) (now (received .entry)) (now (factory .entry)) in
+        now (r .part) ≡ bytesOf h (now (received .entry)) (now (factory .entry))) ⌝ }
+    ensures start { λ r. ⌜ (let h : Held = shownOf (now (key .entry)) (now (received .entry)) (now (factory .entry)) in
+        ptr (r .part) ≡ standsFrom h (ptr (received .entry)) (ptr (factory .entry))) ⌝ }
+{
+    let answer = answer_for(key, received, factory);
+    Shown {
+        answer,
+        part: part_of(answer, received, factory),
     }
 }

@@ -1,6 +1,6 @@
 -- The accepted calls in messages: a start, a tick and a packet received that are not refused. Assumes nothing.
 use mathlib.Core.Path.{_≡_, refl, sym, ap, subst, _∙_}
-use mathlib.Core.Bool.{Bool, true, false, cond, not, _&&_, _||_}
+use mathlib.Core.Bool.{Bool, true, false, cond, not, _||_}
 use mathlib.Core.Option.{Option, none, some}
 use mathlib.Core.List.{List, [], _∷_}
 use Prim.Native.Nat.{ℕ, zero, suc, _+_, _≤_}
@@ -9,7 +9,8 @@ use lib.Dec.{eqb, ltb}
 use borrow.Author.Tests.{eqb-true, ne-eqb, ltb-false}
 use mathlib.Mathlib.Data.Bool.Basic.{or-eq-false-eq-eq-false-and-eq-false as neither}
 use Rattle.wire.specs.message.Message.{Message}
-use Rattle.wire.specs.message.Layout.{Reads, read, refused, messageAt}
+use Rattle.wire.specs.message.Layout.{messageAt}
+use Rattle.wire.proofs.message.Refused.{accepted-from}
 use Rattle.own.specs.declared.records.Setup.{Setup}
 use Rattle.own.specs.records.Setups.{validSetup}
 use Rattle.claims.specs.Time.{lastTime, lastKept, afterMs}
@@ -22,23 +23,22 @@ use Rattle.claims.proofs.Times.{after-exact}
 use Rattle.claims.specs.declared.Progress.{Progress}
 use Rattle.claims.specs.declared.steps.Output.{Output}
 use Rattle.claims.specs.declared.steps.Output.the-variants.{Response}
-use Rattle.writer.specs.own_packets.Own.{unlessRefused}
-use Rattle.responder.specs.Refusals.{wrongState, readRefusal, byPort, startRefusal, receiveRefusal, tickRefusal}
-use Rattle.responder.specs.Calls.{sentOr, answerOf, stateOf, packets, packetFor, startState, startOf, heardOf, receivedPacket, receiveOf, walkedOf, tickedPacket, tickOf}
+use Rattle.claims.specs.declared.answers.Received as heard
+use Rattle.responder.specs.Refusals.{wrongState, startRefusal, receiveRefusal, tickRefusal}
+use Rattle.responder.specs.Calls.{sentOr, answerOf, packetFor, startState, startOf, heardOf, receivedPacket, receiveOf, walkedOf, tickedPacket, tickOf}
 use Rattle.responder.specs.declared.State.{State}
-use Rattle.responder.specs.declared.Answer.{Answer}
-use Rattle.responder.specs.declared.Answer.the-variants.{Refused, Quiet, Sent}
+use Rattle.responder.specs.declared.Answer.the-variants.{Refused, Quiet}
 use Rattle.responder.proofs.Refusals.{StartAccepted, ReceiveAccepted, TickAccepted, start-accepted, receive-accepted, tick-accepted}
-use Rattle.responder.proofs.Reading.{Proper, proper}
 use Rattle.link.specs.Responder as link
-use Rattle.link.specs.Responder.{Claim, instance, host}
+use Rattle.link.specs.Responder.{Claim, instance, host, Parcel}
 use Rattle.link.specs.Laws as law
-use Rattle.uniqueness.specs.Responder.{ownClaim, recordOf, begunBy, answeredBy, start, tick, receive, messageOf, readAs, responder}
-use Rattle.uniqueness.specs.Rules.{messagesFor, with, told, ticks, hears, stageOf, timeOf, timeIn, Of, Ready, rules}
+use Rattle.responder.specs.Handed.{Arrival, Tick}
+use Rattle.uniqueness.specs.Responder.{sends, ownClaim, claimRecord, begunBy, answeredBy, start, tick, receive, messageOf, readAs, responder}
+use Rattle.uniqueness.specs.Rules.{messagesFor, with, told, stageOf, timeOf, timeIn, Of, Ready, rules}
 use Rattle.uniqueness.proofs.Lists.{clash}
 use Rattle.uniqueness.proofs.Messages.{output-reads}
 
-positive : (n : ℕ) → eqb (suc n) 0 ≡ false
+pub positive : (n : ℕ) → eqb (suc n) 0 ≡ false
 positive n = ne-eqb (suc n) 0 (λ e. absurd (omega arith))
 
 not-false : (b : Bool) → not b ≡ false → b ≡ true
@@ -56,12 +56,12 @@ right-setup x h = not-false (validSetup (x .setup)) (neither (not (validSetup (x
 -- ---- a call that is not refused
 
 -- what an accepted answer says: no refusal, and the packet if there is one
-pub record Accepted (n : ℕ) (x : State) (p : List ℕ) (y : State) (ps : List (List ℕ)) : Type 0 where
+pub record Accepted (n : ℕ) (x : State) (p : List ℕ) (y : State) (ps : List Parcel) : Type 0 where
   pub none-refused : n ≡ 0
   pub state : y ≡ x
-  pub sent : ps ≡ packets p
+  pub sent : ps ≡ sends p
 
-accepted-by : (n : ℕ) (x : State) (p : List ℕ) (y : State) (ps : List (List ℕ)) → answeredBy (answerOf n p) x p ≡ link.accepted y ps → Accepted n x p y ps
+accepted-by : (n : ℕ) (x : State) (p : List ℕ) (y : State) (ps : List Parcel) → answeredBy (answerOf n p) x p ≡ link.accepted y ps → Accepted n x p y ps
 accepted-by zero x [] y ps e = record { none-refused = refl; state = cc; sent = cc }
 accepted-by zero x (b ∷ bs) y ps e = record { none-refused = refl; state = cc; sent = cc }
 accepted-by (suc n) x p y ps e =
@@ -71,7 +71,7 @@ accepted-by (suc n) x p y ps e =
 -- ---- a start
 
 abbrev begunState : Setup → ℕ → ℕ → State
-begunState s now draw = record { setup = s; progress = claims.startOf now draw }
+begunState s now draw = record { setup = s; progress = claims.begunAt now draw }
 
 begun-by : (n : ℕ) (s : Setup) (now draw : ℕ) (x : State) → begunBy (answerOf n []) (startState n s now draw) ≡ some x → (n ≡ 0) × (x ≡ begunState s now draw)
 begun-by zero s now draw x e = (refl, cc)
@@ -80,12 +80,12 @@ begun-by (suc n) s now draw x e =
     clash (cc)
 
 waiting-at : (s : Setup) (now draw : ℕ) (k : Claim) → stageOf (claims.claimOf (ownClaim k) (begunState s now draw .progress)) ≡ law.waiting (afterMs now draw)
-unfolding claims.startOf
+unfolding claims.begunAt
 waiting-at s now draw instance = refl
 waiting-at s now draw host = refl
 
 silent-at : (s : Setup) (now draw : ℕ) (o : Option Own) → timeIn (begunState s now draw .progress .sent) o ≡ none
-unfolding claims.startOf
+unfolding claims.begunAt
 silent-at s now draw none = refl
 silent-at s now draw (some r) = ap timeOf (sent-each (λ o. Never) r)
 
@@ -102,94 +102,80 @@ begun s now draw x e =
       due = λ k. now + draw;
       waits = λ k. ap (λ (y : State). stageOf (claims.claimOf (ownClaim k) (y .progress))) (b .1) ∙ waiting-at s now draw k ∙ ap law.waiting exact;
       soon = λ k. omega (arith, d);
-      silent = λ k type. ap (λ (y : State). timeIn (y .progress .sent) (recordOf k type)) (b .1) ∙ silent-at s now draw (recordOf k type);
+      silent = λ k type. ap (λ (y : State). timeIn (y .progress .sent) (claimRecord k type)) (b .1) ∙ silent-at s now draw (claimRecord k type);
     }
 
 -- ---- a tick
 
-ticked-packet : (x : State) (now room : ℕ) → tickRefusal x now room ≡ 0 → tickedPacket x now room ≡ packetFor (x .setup) (walkedOf x now .output)
-unfolding tickedPacket
-ticked-packet x now room h = simp h
+module _ (x : State) (t : Tick) where
+  ticked-packet : tickRefusal x t ≡ 0 → tickedPacket x t ≡ packetFor (x .setup) (walkedOf x (t .time) .output)
+  unfolding tickedPacket
+  ticked-packet h = simp h
 
-pub ticked-state : (x : State) (now room : ℕ) → tickRefusal x now room ≡ 0 → tickOf x now room .state ≡ with x (walkedOf x now .progress)
-unfolding tickOf
-ticked-state x now room h = simp h
+  pub ticked-state : tickRefusal x t ≡ 0 → tickOf x t .state ≡ with x (walkedOf x (t .time) .progress)
+  unfolding tickOf
+  ticked-state h = simp h
 
-pub tick-is : (x : State) (now room : ℕ) (y : State) (ps : List (List ℕ)) → tick x now room ≡ link.accepted y ps
-    → Accepted (tickRefusal x now room) (tickOf x now room .state) (tickedPacket x now room) y ps
-unfolding tick tickOf
-tick-is x now room y ps e = accepted-by (tickRefusal x now room) (tickOf x now room .state) (tickedPacket x now room) y ps e
+  pub tick-is : (y : State) (ps : List Parcel) → tick x t ≡ link.accepted y ps → Accepted (tickRefusal x t) (tickOf x t .state) (tickedPacket x t) y ps
+  unfolding tick tickOf
+  tick-is y ps e = accepted-by (tickRefusal x t) (tickOf x t .state) (tickedPacket x t) y ps e
 
-pub ticked : (s : Setup) (x : State) (now room : ℕ) (y : State) (ps : List (List ℕ)) → Of x s → tick x now room ≡ link.accepted y ps
-    → Ready x s now × law.Does responder rules x now y ps law.ticks
-unfolding law.step ticks
-ticked s x now room y ps of e =
-    let w = tick-is x now room y ps e in
-    let a : TickAccepted x now room = tick-accepted x now room (w .none-refused) in
-    let p : ps ≡ packets (packetFor (x .setup) (walkedOf x now .output)) = w .sent ∙ ap packets (ticked-packet x now room (w .none-refused)) in (
-      record { of = of; time = in-time (x .progress) now (a .time) },
+pub ticked :
+    (s : Setup) (x : State) (t : Tick) (y : State) (ps : List Parcel) → Of x s → tick x t ≡ link.accepted y ps
+    → Ready x s (law.ticks t) × law.Does responder rules x y ps (law.ticks t)
+ticked s x t y ps of e =
+    let w = tick-is x t y ps e in
+    let a : TickAccepted x t = tick-accepted x t (w .none-refused) in
+    let o : Output = walkedOf x (t .time) .output in
+    let p : ps ≡ sends (packetFor (x .setup) o) = w .sent ∙ ap sends (ticked-packet x t (w .none-refused)) in (
+      record { of = of; time = in-time (x .progress) (t .time) (a .time) },
       record {
-        state = w .state ∙ ticked-state x now room (w .none-refused);
-        packets = subst (λ (l : List (List ℕ)). law.ReadAs readAs l (messagesFor (x .setup) (walkedOf x now .output))) (sym p) (output-reads (x .setup) (of .valid) (walkedOf x now .output));
+        state = w .state ∙ ticked-state x t (w .none-refused);
+        reads = subst (λ (l : List Parcel). law.ReadAs readAs l (messagesFor (x .setup) o)) (sym p) (output-reads (x .setup) (of .valid) o);
       },
     )
 
 -- ---- a packet received
 
-received-packet : (x : State) (now port draw : ℕ) (p : List ℕ) (room : ℕ) → receiveRefusal x now port draw p room ≡ 0
-    → receivedPacket x now port draw p room ≡ packetFor (x .setup) (Response (heardOf x now draw (messageAt p) .answers))
-unfolding receivedPacket
-received-packet x now port draw p room h = simp h
+module _ (x : State) (a : Arrival) where
+  abbrev heardBy : heard.Received
+  heardBy = heardOf x a (messageAt (a .packet))
 
-received-state : (x : State) (now port draw : ℕ) (p : List ℕ) (room : ℕ) → receiveRefusal x now port draw p room ≡ 0
-    → receiveOf x now port draw p room .state ≡ with x (heardOf x now draw (messageAt p) .progress)
-unfolding receiveOf
-received-state x now port draw p room h = simp h
+  received-packet : receiveRefusal x a ≡ 0 → receivedPacket x a ≡ packetFor (x .setup) (Response (heardBy .answers))
+  unfolding receivedPacket
+  received-packet h = simp h
 
-pub receive-is : (x : State) (now port draw : ℕ) (p : List ℕ) (room : ℕ) (y : State) (ps : List (List ℕ)) → receive x now port draw p room ≡ link.accepted y ps
-    → Accepted (receiveRefusal x now port draw p room) (receiveOf x now port draw p room .state) (receivedPacket x now port draw p room) y ps
-unfolding receive receiveOf
-receive-is x now port draw p room y ps e =
-    accepted-by (receiveRefusal x now port draw p room) (receiveOf x now port draw p room .state) (receivedPacket x now port draw p room) y ps e
+  received-state : receiveRefusal x a ≡ 0 → receiveOf x a .state ≡ with x (heardBy .progress)
+  unfolding receiveOf
+  received-state h = simp h
 
--- no refusal: the port is 5353 and the message is read
-port-is : (n port : ℕ) → byPort n port ≡ 0 → (n ≡ 0) × (port ≡ 5353)
-port-is n port h = go (eqb n 4) (eqb port 5353) refl h
-  where
-    go : (b c : Bool) → eqb port 5353 ≡ c → cond b 4 (cond c n 5) ≡ 0 → (n ≡ 0) × (port ≡ 5353)
-    go true c e f = absurd (omega (arith, f))
-    go false true e f = (f, eqb-true port 5353 e)
-    go false false e f = absurd (omega (arith, f))
-
-message-is : (r : Reads) → Proper r → readRefusal r ≡ 0 → (m : Message) × (messageOf r ≡ some m)
-message-is (read l m) w e = (m, refl)
-message-is (refused n) w e = absurd (omega (arith, w .0))
-
-heard-as : (x : State) (now draw : ℕ) (r : Reads) (m : Message) → messageOf r ≡ some m → heardOf x now draw r ≡ told x now draw m
-heard-as x now draw (read l n) m e = let z : n ≡ m = cc in ap (told x now draw) z
-heard-as x now draw (refused n) m e = clash (cc)
+  pub receive-is :
+      (y : State) (ps : List Parcel) → receive x a ≡ link.accepted y ps
+      → Accepted (receiveRefusal x a) (receiveOf x a .state) (receivedPacket x a) y ps
+  unfolding receive receiveOf
+  receive-is y ps e = accepted-by (receiveRefusal x a) (receiveOf x a .state) (receivedPacket x a) y ps e
 
 pub received :
-    (s : Setup) (x : State) (now port draw : ℕ) (p : List ℕ) (room : ℕ) (y : State) (ps : List (List ℕ)) → Of x s → receive x now port draw p room ≡ link.accepted y ps
-    → Ready x s now × (port ≡ 5353) × ((m : Message) × (readAs p ≡ some m) × law.Does responder rules x now y ps (law.hears draw m))
-unfolding law.step hears
-received s x now port draw p room y ps of e =
-    let w = receive-is x now port draw p room y ps e in
-    let a : ReceiveAccepted x now port draw p room = receive-accepted x now port draw p room (w .none-refused) in
-    let q = port-is (readRefusal (messageAt p)) port (a .message) in
-    let m = message-is (messageAt p) (proper p) (q .0) in
-    let h = heard-as x now draw (messageAt p) (m .0) (m .1) in
-    let o : Output = Response (told x now draw (m .0) .answers) in
-    let sent : ps ≡ packets (packetFor (x .setup) o) =
-    w .sent ∙ ap packets (received-packet x now port draw p room (w .none-refused)) ∙ ap (λ r. packets (packetFor (x .setup) (Response (r .answers)))) h in (
-      record { of = of; time = in-time (x .progress) now (a .time) },
-      q .1,
+    (s : Setup) (x : State) (a : Arrival) (y : State) (ps : List Parcel) → Of x s → receive x a ≡ link.accepted y ps
+    → (a .port ≡ 5353)
+    × ((m : Message) × (readAs (a .packet) ≡ some m) × Ready x s (law.hears a m) × law.Does responder rules x y ps (law.hears a m))
+received s x a y ps of e =
+    let w = receive-is x a y ps e in
+    let g : ReceiveAccepted x a = receive-accepted x a (w .none-refused) in
+    let q = accepted-from (a .packet) (a .port) (g .message) in
+    let m : Message = q .2 in
+    let h : heardBy x a ≡ told x a m = ap (heardOf x a) (q .3) in
+    let o : Output = Response (told x a m .answers) in
+    let sent : ps ≡ sends (packetFor (x .setup) o) =
+    w .sent ∙ ap sends (received-packet x a (w .none-refused)) ∙ ap (λ r. sends (packetFor (x .setup) (Response (r .answers)))) h in (
+      q .0,
       (
-        m .0,
-        m .1,
+        m,
+        ap messageOf (q .3),
+        record { of = of; time = in-time (x .progress) (a .time) (g .time) },
         record {
-          state = w .state ∙ received-state x now port draw p room (w .none-refused) ∙ ap (λ r. with x (r .progress)) h;
-          packets = subst (λ (l : List (List ℕ)). law.ReadAs readAs l (messagesFor (x .setup) o)) (sym sent) (output-reads (x .setup) (of .valid) o);
+          state = w .state ∙ received-state x a (w .none-refused) ∙ ap (λ r. with x (r .progress)) h;
+          reads = subst (λ (l : List Parcel). law.ReadAs readAs l (messagesFor (x .setup) o)) (sym sent) (output-reads (x .setup) (of .valid) o);
         },
       ),
     )

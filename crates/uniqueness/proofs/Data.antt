@@ -1,18 +1,18 @@
 -- The laws about data: of two probes with different records one is later, and a response with a different record conflicts. Assumes nothing.
 use mathlib.Core.Path.{_≡_, refl, sym, ap, subst, _∙_}
 use mathlib.Core.Logic.{_≢_, _⊎_, inl, inr}
-use mathlib.Core.Bool.{Bool, true, false, cond, not, _&&_, _||_}
-use mathlib.Core.Option.{Option, none, some}
+use mathlib.Core.Bool.{Bool, true, false, cond, not}
+use mathlib.Core.Option.{Option, some}
 use mathlib.Core.List.{List, [], _∷_, _++_, map}
-use Prim.Native.Nat.{ℕ, _<_}
+use Prim.Native.Nat.{ℕ}
 use native.Mathlib.Omega.{arith}
 use lib.Dec.{eqb}
-use borrow.Author.Tests.{eq-eqb, ne-eqb}
+use borrow.Author.Tests.{eq-eqb}
 use Rattle.wire.specs.case_folding.Fold.{sameName}
 use Rattle.wire.proofs.case_folding.Equal.{same-refl, same-sym}
 use Rattle.wire.specs.expansion.Equal.{sameBytes}
 use Rattle.wire.proofs.expansion.Bytes.{same-equal}
-use Rattle.wire.specs.message.Message.{Question, Record, Message, classOf, isResponse, allRecords}
+use Rattle.wire.specs.message.Message.{Record, Message, classOf, isResponse, allRecords}
 use Rattle.own.specs.declared.records.Setup.{Setup}
 use Rattle.own.specs.records.Records.{hasRecord, ownLabels, ownName, ownRdata}
 use Rattle.claims.specs.records.Own.{ownType, firstOf, secondOf, claimed}
@@ -26,18 +26,19 @@ use Rattle.facts.specs.declared.tiebreak.Verdict.the-variants.{Earlier, Same, L
 use Rattle.facts.specs.tiebreak.Later.{TieRecord, isLater, tie}
 use Rattle.wire.specs.Lists.{some as someOf}
 use Rattle.facts.specs.probe.Probe.{under, asksAll, isProbe}
-use Rattle.facts.specs.tiebreak.Lists.{tieRecord, listUnder, theirs, ownList}
+use Rattle.facts.specs.tiebreak.Lists.{listUnder, theirs, ownList}
 use Rattle.facts.proofs.tiebreak.Ties.{one-wins, Rising, own-same, own-one, own-two, own-parts}
 use Rattle.facts.proofs.tiebreak.Lists.{spelling-list}
 use Rattle.facts.proofs.probe.Probes.{spelling-probe}
 use Rattle.facts.specs.Facts.{conflicts as differs, conflicted, inConflict, claimName, ours, theirsLater}
-use Rattle.writer.specs.own_packets.Own.{ownRecord, probeRecords, probeOf}
+use Rattle.writer.specs.own_packets.Styles.{responseStyle, probeStyle, ownRecord}
+use Rattle.writer.specs.own_packets.Own.{probeRecords, probeOf}
 use Rattle.link.specs.Responder.{Claim, instance, host}
 use Rattle.link.specs.Premises.{Among}
-use Rattle.uniqueness.specs.Responder.{ownClaim, recordOf, rdata, name, conflicts, defeats}
+use Rattle.uniqueness.specs.Responder.{ownClaim, rdata, name, conflicts, defeats}
 use Rattle.uniqueness.specs.Rules.{Carried}
-use Rattle.uniqueness.proofs.Lists.{clash, never, and-left, and-right, and-both, some-in, in-append}
-use Rattle.uniqueness.proofs.Owned.{Owned, srv, txt, a, aaaa, owned, Has, has-data, own-type, own-owner, among-claimed}
+use Rattle.uniqueness.proofs.Lists.{and-both, some-in, in-append}
+use Rattle.uniqueness.proofs.Owned.{Owned, srv, txt, a, aaaa, owned, Has, has-data, own-owner, among-claimed}
 
 -- ---- the probe of a claim, and its records
 
@@ -53,7 +54,7 @@ rising s host = go (s .hasaaaa)
 
 -- the authority records of the claim's probe
 abbrev authority : Setup → own.Claim → List Record
-authority s c = ownRecord s true (firstOf c) ∷ cond (hasRecord s (secondOf c)) (ownRecord s true (secondOf c) ∷ []) []
+authority s c = ownRecord s probeStyle (firstOf c) ∷ cond (hasRecord s (secondOf c)) (ownRecord s probeStyle (secondOf c) ∷ []) []
 
 first-there : (s : Setup) (c : own.Claim) → hasRecord s (firstOf c) ≡ true
 unfolding hasRecord
@@ -70,8 +71,8 @@ unfolding probeOf probeRecords picked
 authorities s c = rw (first-there s c) (go (hasRecord s (secondOf c)))
   where
     go : (b : Bool)
-        → _≡_ {A = List Record} (ownRecord s true (firstOf c) ∷ map (ownRecord s true) (cond b (secondOf c ∷ []) []))
-        (ownRecord s true (firstOf c) ∷ cond b (ownRecord s true (secondOf c) ∷ []) [])
+        → _≡_ {A = List Record} (ownRecord s probeStyle (firstOf c) ∷ map (ownRecord s probeStyle) (cond b (secondOf c ∷ []) []))
+        (ownRecord s probeStyle (firstOf c) ∷ cond b (ownRecord s probeStyle (secondOf c) ∷ []) [])
     go true = refl
     go false = refl
 
@@ -81,7 +82,7 @@ unfolding ownRecord listUnder
 their-list s c = go (hasRecord s (secondOf c))
   where
     go : (b : Bool)
-        → listUnder (claimName s c) (ownRecord s true (firstOf c) ∷ cond b (ownRecord s true (secondOf c) ∷ []) [])
+        → listUnder (claimName s c) (ownRecord s probeStyle (firstOf c) ∷ cond b (ownRecord s probeStyle (secondOf c) ∷ []) [])
         ≡ ownList (ownType (firstOf c)) (ownRdata s (firstOf c)) b (ownType (secondOf c)) (ownRdata s (secondOf c))
     go true = rw (second-owner s c, same-refl (claimName s c)) refl
     go false = rw (same-refl (claimName s c)) refl
@@ -164,14 +165,14 @@ tie-law s t k type d e same p q n = go (tie (ours s (ownClaim k)) (ours t (ownCl
 
 -- ---- a conflict
 
-class-one : (s : Setup) (k : Claim) (type : ℕ) (r : Own) → Owned k type r → eqb (classOf (ownRecord s false r .class)) 1 ≡ true
+class-one : (s : Setup) (k : Claim) (type : ℕ) (r : Own) → Owned k type r → eqb (classOf (ownRecord s responseStyle r .class)) 1 ≡ true
 unfolding ownRecord
 class-one s k type r (srv f) = refl
 class-one s k type r (txt f) = refl
 class-one s k type r (a f) = refl
 class-one s k type r (aaaa f) = refl
 
-ttl-some : (s : Setup) (k : Claim) (type : ℕ) (r : Own) → Owned k type r → not (eqb (ownRecord s false r .ttl) 0) ≡ true
+ttl-some : (s : Setup) (k : Claim) (type : ℕ) (r : Own) → Owned k type r → not (eqb (ownRecord s responseStyle r .ttl) 0) ≡ true
 unfolding ownRecord
 ttl-some s k type r (srv f) = refl
 ttl-some s k type r (txt f) = refl
@@ -186,27 +187,27 @@ other-bytes d e n = go (sameBytes d e) refl
     go false h = refl
 
 module _ (s t : Setup) (k : Claim) (type : ℕ) (r : Own) (o : Owned k type r) (same : sameName (name s k) (name t k) ≡ true) (n : ownRdata s r ≢ ownRdata t r) where
-  named : sameName (ownRecord s false r .owner) (ownName t r) ≡ true
+  named : sameName (ownRecord s responseStyle r .owner) (ownName t r) ≡ true
   unfolding ownRecord
   named = rw (own-owner s k type r o, own-owner t k type r o) same
 
-  typed : eqb (ownRecord s false r .rtype) (ownType r) ≡ true
+  typed : eqb (ownRecord s responseStyle r .rtype) (ownType r) ≡ true
   unfolding ownRecord
   typed = eq-eqb (ownType r) (ownType r) refl
 
-  other : not (sameBytes (ownRecord s false r .rdata) (ownRdata t r)) ≡ true
+  other : not (sameBytes (ownRecord s responseStyle r .rdata) (ownRdata t r)) ≡ true
   unfolding ownRecord
   other = other-bytes (ownRdata s r) (ownRdata t r) n
 
-  differ : differs (ownName t r) (ownType r) (ownRdata t r) (ownRecord s false r) ≡ true
+  differ : differs (ownName t r) (ownType r) (ownRdata t r) (ownRecord s responseStyle r) ≡ true
   differ = rw (named, class-one s k type r o, typed, ttl-some s k type r o, other) refl
 
-  found : (m : Message) → hasRecord t r ≡ true → Among (ownRecord s false r) (m .answers) → conflicted t r m ≡ true
+  found : (m : Message) → hasRecord t r ≡ true → Among (ownRecord s responseStyle r) (m .answers) → conflicted t r m ≡ true
   unfolding conflicted
   found m h i =
       and-both (hasRecord t r) (someOf (differs (ownName t r) (ownType r) (ownRdata t r)) (allRecords m)) h
-      (some-in (differs (ownName t r) (ownType r) (ownRdata t r)) (ownRecord s false r) (allRecords m)
-      (in-append (ownRecord s false r) (m .answers) (m .authorities ++ m .additionals) i) differ)
+      (some-in (differs (ownName t r) (ownType r) (ownRdata t r)) (ownRecord s responseStyle r) (allRecords m)
+      (in-append (ownRecord s responseStyle r) (m .answers) (m .authorities ++ m .additionals) i) differ)
 
 by-claim : (t : Setup) (k : Claim) (type : ℕ) (r : Own) → Owned k type r → (m : Message) → conflicted t r m ≡ true → inConflict t (ownClaim k) m ≡ true
 by-claim t k type r o m h = some-in (λ (p : Own). conflicted t p m) r (claimed (ownClaim k)) (among-claimed k type r o) h

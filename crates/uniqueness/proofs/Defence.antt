@@ -1,17 +1,16 @@
 -- A held claim answers a probe for its name with each of its records, unless the record was multicast less than 250 ms ago. Assumes nothing.
 use mathlib.Core.Path.{_≡_, refl, sym, ap, subst, _∙_}
 use mathlib.Core.Logic.{_⊎_, inl, inr}
-use mathlib.Core.Bool.{Bool, true, false, cond, not, _&&_, _||_}
-use mathlib.Core.Option.{Option, none, some}
-use mathlib.Core.List.{List, [], _∷_}
-use Prim.Native.Nat.{ℕ, _+_, _≤_, _<_}
+use mathlib.Core.Bool.{Bool, true, false, _&&_, _||_}
+use mathlib.Core.Option.{some}
+use mathlib.Core.List.{List}
+use Prim.Native.Nat.{ℕ, _+_, _<_}
 use lib.Dec.{eqb}
 use Rattle.wire.specs.case_folding.Fold.{sameName}
-use Rattle.wire.specs.message.Message.{Question, Message, isResponse}
+use Rattle.wire.specs.message.Message.{Message}
 use Rattle.own.specs.declared.records.Setup.{Setup}
 use Rattle.own.specs.records.Setups.{validSetup}
-use Rattle.own.specs.records.Records.{hasRecord, ownName}
-use Rattle.claims.specs.Time.{lastTime, recently, sentOf}
+use Rattle.claims.specs.Time.{recently, sentOf}
 use Rattle.claims.specs.Claims.{claimOf, heldNow}
 use Rattle.claims.specs.records.Own.{ownType, claimFor, has}
 use Rattle.claims.proofs.records.Sets.{has-each}
@@ -20,9 +19,7 @@ use Rattle.claims.specs.declared.records.Own.{Own}
 use Rattle.claims.proofs.Times.{recently-after}
 use Rattle.claims.specs.declared.When.{When}
 use Rattle.claims.specs.declared.When.the-variants.{Never, At}
-use Rattle.claims.specs.declared.records.Set.{Set}
 use Rattle.wire.specs.Lists.{some as someOf}
-use Rattle.facts.specs.probe.Probe.{isProbe}
 use Rattle.claims.specs.answers.Answers.{heardFor, wantedOf, gapOf}
 use Rattle.claims.specs.declared.answers.Heard.{Heard}
 use Rattle.claims.specs.declared.answers.Facts.{Facts}
@@ -30,16 +27,17 @@ use Rattle.claims.proofs.answers.Causes.{IsDue, Cause, left-out-for-a-cause, at
 use Rattle.facts.specs.Facts.{isAsked, isKnown, queryFacts, factsOf}
 use Rattle.writer.specs.own_packets.Own.{probeOf}
 use Rattle.responder.specs.declared.State.{State}
-use Rattle.link.specs.Responder.{Claim, instance, host}
+use Rattle.link.specs.Responder.{Claim}
 use Rattle.link.specs.Laws as law
-use Rattle.uniqueness.specs.Responder.{ownClaim, recordOf, rdata, name, responder}
-use Rattle.uniqueness.specs.Rules.{told, stageOf, claimAt, timeOf, timeIn, rules}
-use Rattle.uniqueness.proofs.Lists.{clash, never, or-right}
-use Rattle.uniqueness.proofs.Owned.{Owned, srv, txt, a, aaaa, owned, Has, has-data, own-claim, own-owner, own-at-once, is-present}
+use Rattle.responder.specs.Handed.{Arrival}
+use Rattle.uniqueness.specs.Responder.{ownClaim, rdata, name, responder}
+use Rattle.uniqueness.specs.Rules.{told, claimAt, timeOf, timeIn, rules}
+use Rattle.uniqueness.proofs.Lists.{never}
+use Rattle.uniqueness.proofs.Owned.{Owned, owned, Has, has-data, own-claim, own-owner, own-at-once, is-present}
 use Rattle.uniqueness.proofs.Data.{no-response, is-probe}
 use Rattle.uniqueness.proofs.Hearing.{query-facts, query-heard}
 use Rattle.uniqueness.proofs.Facts.{held-stage}
-use Rattle.uniqueness.proofs.Moves.{multicast}
+use Rattle.uniqueness.proofs.Sent.{multicast}
 
 -- what a query says of one record
 asked-of : (r : Own) (s : Setup) (m : Message) → has r (queryFacts s m .asked) ≡ isAsked s r m
@@ -69,7 +67,10 @@ lately : (v : When) (now gap : ℕ) → recently v now gap ≡ true → (u : ℕ
 lately Never now gap h = never h
 lately (At u) now gap h = (u, refl, recently-after (At u) u now gap refl h)
 
-module _ (x : State) (ok : validSetup (x .setup) ≡ true) (now : ℕ) (time : now ≤ lastTime) (draw : ℕ) (t : Setup) (k : Claim) (type : ℕ) (d : List ℕ) where
+module _ (x : State) (ok : validSetup (x .setup) ≡ true) (arrival : Arrival) (t : Setup) (k : Claim) (type : ℕ) (d : List ℕ) where
+  abbrev now : ℕ
+  now = arrival .time
+
   abbrev m : Message
   m = probeOf t (ownClaim k)
 
@@ -83,7 +84,7 @@ module _ (x : State) (ok : validSetup (x .setup) ≡ true) (now : ℕ) (time : n
       sameName (name t k) (name (x .setup) k) ≡ true
       → rdata (x .setup) k type ≡ some d
       → rules .stage x k ≡ law.held
-      → law.Multicasts responder rules (x .setup) x now (law.hears draw m) k type ⊎ ((u : ℕ) × (rules .multicast x k type ≡ some u) × (now < u + 250))
+      → law.Multicasts responder rules (x .setup) x (law.hears arrival m) k type ⊎ ((u : ℕ) × (rules .multicast x k type ≡ some u) × (now < u + 250))
   defends n e h = go (has r (wantedOf (x .progress) f now (x .setup .hasaaaa))) refl
     where
       w : Has (x .setup) k type d
@@ -123,11 +124,11 @@ module _ (x : State) (ok : validSetup (x .setup) ≡ true) (now : ℕ) (time : n
       recent (inr late) = subst (λ (b : Bool). recently (sentOf (w .own) (x .progress .sent)) now (gapOf b) ≡ true) probe late
 
       go : (b : Bool) → has (w .own) (wantedOf (x .progress) f now (x .setup .hasaaaa)) ≡ b
-          → law.Multicasts responder rules (x .setup) x now (law.hears draw m) k type ⊎ ((u : ℕ) × (rules .multicast x k type ≡ some u) × (now < u + 250))
+          → law.Multicasts responder rules (x .setup) x (law.hears arrival m) k type ⊎ ((u : ℕ) × (rules .multicast x k type ≡ some u) × (now < u + 250))
       go true g =
           inl
-          (multicast x ok now time (law.hears draw m) (told x now draw m .answers) refl k type (w .own) (w .is)
-          (at-once (x .progress) now f (x .setup .hasaaaa) draw (w .own) (own-at-once k type (w .own) o) ∙ g) (w .there))
+          (multicast x ok (law.hears arrival m) (told x arrival m .answers) refl k type (w .own) (w .is)
+          (at-once (x .progress) now f (x .setup .hasaaaa) (arrival .draw) (w .own) (own-at-once k type (w .own) o) ∙ g) (w .there))
       go false g =
           let l = lately (sentOf (w .own) (x .progress .sent)) now 250 (recent (left-out-for-a-cause (x .progress) now f (x .setup .hasaaaa) (w .own) is-due g)) in
           inr (l .0, ap (timeIn (x .progress .sent)) (w .is) ∙ l .1, l .2)

@@ -1,9 +1,10 @@
 -- The lists of specs/Example.antt, evaluated: they meet the premises; alone, a responder holds both names 1,200 ms after its start and is one of whom the
--- 1,200 ms are asked; of two that want one name with different data, one holds it and the other has lost it. Assumes nothing.
+-- 1,200 ms are asked; of two that want one name with different data, one holds it and the other has lost it; one that gives its name up to a stranger comes
+-- to hold it again. Assumes nothing.
 use mathlib.Core.Path.{_≡_, refl, sym}
 use mathlib.Core.Bool.{Bool, true, false, not}
-use mathlib.Core.Option.{Option, none, some}
-use mathlib.Core.List.{List}
+use mathlib.Core.Option.{some}
+use mathlib.Core.List.{List, [], _∷_}
 use Prim.Native.Nat.{ℕ, _+_}
 use lib.ListN.{length}
 use lib.Dec.{leb, ltb}
@@ -16,11 +17,13 @@ use Rattle.wire.specs.expansion.Equal.{sameBytes}
 use Rattle.wire.specs.message.Layout.{questionRead, recordRead, questionAt, recordAt, listFrom, andThen, messageAt}
 use Rattle.writer.specs.compression.Compression.{standsAt, placeOf, cutFrom, nameBytes, starts, namePlaces}
 use Rattle.own.specs.declared.records.Setup.{Setup}
-use Rattle.own.specs.records.Setups.{labelFits, isLetter, isNameByte, nameBytes as lettersOnly, someLetter, hyphensApart, serviceRule, serviceFits, protocolFits, domainFits, txtFits, validSetup, serviceLabels, instanceLabels, hostLabels}
+use Rattle.own.specs.records.Setups.{labelFits, isLetter, isNameByte, allNameBytes, someLetter, hyphensApart, serviceRule, serviceFits, protocolFits, domainFits, txtFits, validSetup, serviceLabels, instanceLabels, hostLabels}
 use Rattle.own.specs.records.Records.{hasRecord, ownLabels, ownName, srvRdata, ownRdata}
 use Rattle.claims.specs.Time.{afterMs, markedAll}
 use Rattle.claims.specs.Claims as claims
 use Rattle.claims.specs.records.Sets as sets
+use Rattle.claims.specs.records.Sets.{only}
+use Rattle.claims.specs.declared.records.Own.the-variants.{Ptr}
 use Rattle.claims.specs.declared.ClaimState.{ClaimState}
 use Rattle.claims.specs.declared.ClaimState.the-variants.{Waiting, Probing1, Probing2, Probing3, Deferred, Announced, Held, Lost}
 use Rattle.claims.specs.Refusals.{multicastsKept, kept, wrongTime}
@@ -34,19 +37,20 @@ use Rattle.claims.specs.answers.Answers as answers
 use Rattle.facts.specs.Facts.{isAsked, isKnown, conflicted, theirsLater, responseFacts, queryFacts, factsOf}
 use Rattle.writer.specs.Items.{putName, dataBytes, dataPlaces, putFields}
 use Rattle.writer.specs.own_packets.Packets.{packetOf}
-use Rattle.writer.specs.own_packets.Own.{ownRecord, responseRecords, probeRecords, responseOf, probeOf, responsePacket, probePacket}
+use Rattle.writer.specs.own_packets.Styles.{ownRecord}
+use Rattle.writer.specs.own_packets.Own.{responseRecords, probeRecords, responseOf, probeOf, responsePacket, probePacket}
 use Rattle.responder.specs.Refusals.{wrongState, startRefusal, receiveRefusal, tickRefusal}
 use Rattle.responder.specs.Calls.{blank, startOf, packetFor, receivedPacket, receiveOf, tickedPacket, tickOf}
 use Rattle.responder.specs.declared.State.{State}
 use Rattle.link.specs.Responder.{Claim, instance, host}
-use Rattle.link.specs.Entries.{entry, clockOf, ownerOf, setupIn, setupOf as startedWith, timeAt, reply, returned, called, after, runs, isAccepted, acceptedAt, packetsOf, heardIn, Entry}
+use Rattle.link.specs.Entries.{entry, clockOf, ownerOf, setupIn, setupOf as startedWith, timeAt, reply, returned, called, after, runs, isAccepted, acceptedAt, parcelsOf, sentAt, heardIn, Entry}
 use Rattle.link.specs.Premises.{Premises}
 use Rattle.link.specs.Holding.{isAnd, anyOf, respondsFor, conflictsWith, defeatsOf, writes, hears, holds}
 use Rattle.link.specs.Demand3.{Unopposed, holdingTime}
 use Rattle.link.specs.Witness.{every, someBelow, allOf, sameBytes as samePackets, ordered, atOneRate, owed, taken, allDelivered, allOnTime, meets}
 use Rattle.link.proofs.Witness.{met, below}
-use Rattle.uniqueness.specs.Responder.{start, tick, receive, dueTimes, due, responds, conflicts, defeats, responder}
-use Rattle.uniqueness.specs.Example.{setupOf, one, other, alone, contest, rivals}
+use Rattle.uniqueness.specs.Responder.{sends, start, tick, receive, dueTimes, due, responds, conflicts, defeats, responder}
+use Rattle.uniqueness.specs.Example.{setupOf, one, other, alone, contest, rivals, ptrQuery, three}
 
 -- the claim is lost; the instance claim of a state is
 abbrev pub isLost : ClaimState → Bool
@@ -78,7 +82,7 @@ Asked es d s n =
     × (ltb (timeAt responder es d + holdingTime) (timeAt responder es n) ≡ true)
     × (runs responder es d n ≡ true)
 
--- everything that the checker computes of the two lists
+-- everything that the checker computes of the lists
 abbrev Seen : Type 0
 Seen =
     (meets responder alone ≡ true)
@@ -100,11 +104,23 @@ Seen =
     × (isAnd lostBy (after responder rivals 30 (length rivals)) ≡ true)
     × (acceptedAt responder rivals 10 ≡ false)
     × (acceptedAt responder rivals 35 ≡ false)
+    × (meets responder three ≡ true)
+    × (holds responder three 0 other instance 17 ≡ true)
+    × (holds responder three 0 other instance 18 ≡ false)
+    × (holds responder three 0 other instance (length three) ≡ true)
+    × (acceptedAt responder three 3 ≡ true)
+    × (acceptedAt responder three 10 ≡ true)
+    × (acceptedAt responder three 15 ≡ true)
+    × (sentAt responder three 14 ≡ sends (responsePacket other (only Ptr)))
+    × (isAnd lostBy (after responder three 16 (length three)) ≡ true)
+    × (runs responder three 0 (length three) ≡ true)
+    × (runs responder three 16 (length three) ≡ true)
+    × (runs responder three 30 (length three) ≡ true)
 
 seen : Seen
-unfolding setupOf alone contest rivals holds writes hears anyOf respondsFor conflictsWith defeatsOf responds conflicts defeats meets ordered atOneRate owed taken allDelivered allOnTime every someBelow allOf samePackets entry clockOf ownerOf setupIn reply returned called after isAccepted packetsOf heardIn start tick receive dueTimes due blank startOf packetFor receivedPacket receiveOf tickedPacket tickOf wrongState startRefusal receiveRefusal tickRefusal ownRecord responseRecords probeRecords responseOf probeOf responsePacket probePacket putName dataBytes dataPlaces putFields packetOf isAsked isKnown conflicted theirsLater responseFacts queryFacts factsOf answers.heardOf answers.wantedOf answers.receiveOf listUnder someOf isProbe compareNumbers inTurn compareRecords insertBy sortBy tie steps.sends steps.actionTurn steps.claimTurn steps.ptrReply steps.replyTurn steps.stepTurn steps.walked steps.endedOf steps.tickOf moreDue actionOf unsentOf sets.someOf sets.everyOf sets.picked sets.only sets.anyOf sets.atOnce sets.recordsOf multicastsKept kept wrongTime claims.startOf afterMs markedAll hasRecord ownLabels ownName srvRdata ownRdata labelFits isLetter isNameByte lettersOnly someLetter hyphensApart serviceRule serviceFits protocolFits domainFits txtFits validSetup serviceLabels instanceLabels hostLabels standsAt placeOf cutFrom nameBytes starts namePlaces questionRead recordRead questionAt recordAt listFrom messageAt andThen sameBytes stringsFill nameAt fromRun readFrom pieceAt sameName rdataAt rdataIn
+unfolding setupOf alone contest rivals three ptrQuery holds writes hears anyOf respondsFor conflictsWith defeatsOf responds conflicts defeats meets ordered atOneRate owed taken allDelivered allOnTime every someBelow allOf samePackets entry clockOf ownerOf setupIn reply returned called after isAccepted parcelsOf heardIn start tick receive dueTimes due blank startOf packetFor receivedPacket receiveOf tickedPacket tickOf wrongState startRefusal receiveRefusal tickRefusal ownRecord responseRecords probeRecords responseOf probeOf responsePacket probePacket putName dataBytes dataPlaces putFields packetOf isAsked isKnown conflicted theirsLater responseFacts queryFacts factsOf answers.heardOf answers.wantedOf answers.receiveOf listUnder someOf isProbe compareNumbers inTurn compareRecords insertBy sortBy tie steps.sends steps.actionTurn steps.claimTurn steps.ptrReply steps.replyTurn steps.stepTurn steps.walked steps.endedOf steps.tickOf moreDue actionOf unsentOf sets.someOf sets.everyOf sets.picked sets.only sets.anyOf sets.atOnce sets.recordsOf multicastsKept kept wrongTime claims.begunAt afterMs markedAll hasRecord ownLabels ownName srvRdata ownRdata labelFits isLetter isNameByte allNameBytes someLetter hyphensApart serviceRule serviceFits protocolFits domainFits txtFits validSetup serviceLabels instanceLabels hostLabels standsAt placeOf cutFrom nameBytes starts namePlaces questionRead recordRead questionAt recordAt listFrom messageAt andThen sameBytes stringsFill nameAt fromRun readFrom pieceAt sameName rdataAt rdataIn
 seen =
-    (refl, (refl, refl, refl, refl, refl), (refl, refl, refl), (refl, refl, refl), refl, refl, refl, refl, refl, refl, (refl, refl, refl, refl, refl), (refl, refl, refl), (refl, refl, refl), refl, refl, refl, refl, refl, refl)
+    (refl, (refl, refl, refl, refl, refl), (refl, refl, refl), (refl, refl, refl), refl, refl, refl, refl, refl, refl, (refl, refl, refl, refl, refl), (refl, refl, refl), (refl, refl, refl), refl, refl, refl, refl, refl, refl, refl, refl, refl, refl, refl, refl, refl, refl, refl, refl, refl, refl)
 
 not-true : (b : Bool) → not b ≡ true → b ≡ false
 not-true false e = refl
@@ -176,3 +192,31 @@ loser-lost = (seen .15, seen .16)
 -- the two refused calls
 pub refused-calls : (acceptedAt responder rivals 10 ≡ false) × (acceptedAt responder rivals 35 ≡ false)
 refused-calls = (seen .17, seen .18)
+
+-- ---- three responders, and a stranger
+
+pub three-premises : Premises responder three
+three-premises = met responder three (seen .19)
+
+-- the first holds its instance name until it hears the stranger's response, then no more, and at the end again
+pub gives-up : (holds responder three 0 other instance 17 ≡ true) × (holds responder three 0 other instance 18 ≡ false)
+gives-up = (seen .20, seen .21)
+
+pub holds-again : holds responder three 0 other instance (length three) ≡ true
+holds-again = seen .22
+
+-- it takes its own probe, its own announcement and its own answer, and goes on
+pub hears-itself : (acceptedAt responder three 3 ≡ true) × (acceptedAt responder three 10 ≡ true) × (acceptedAt responder three 15 ≡ true)
+hears-itself = (seen .23, seen .24, seen .25)
+
+-- the question for its service is answered by the tick that comes 20 ms later
+pub answers-question : sentAt responder three 14 ≡ sends (responsePacket other (only Ptr))
+answers-question = seen .26
+
+-- the second, which wanted the name meanwhile, has lost it
+pub second-loses : isAnd lostBy (after responder three 16 (length three)) ≡ true
+second-loses = seen .27
+
+pub three-run :
+    (runs responder three 0 (length three) ≡ true) × (runs responder three 16 (length three) ≡ true) × (runs responder three 30 (length three) ≡ true)
+three-run = (seen .28, seen .29, seen .30)

@@ -20,13 +20,12 @@ use Rattle.claims.specs.declared.Multicasts.{Multicasts}
 use Rattle.claims.specs.declared.records.Set.{Set}
 use Rattle.claims.specs.steps.Steps.{takenAction}
 use Rattle.claims.specs.declared.steps.Action.the-variants as action
-use Rattle.claims.proofs.steps.Moves.{announces, repeats}
 use Rattle.facts.specs.Facts.{inConflict, responseFacts, queryFacts, factsOf}
 use Rattle.writer.specs.own_packets.Own.{probeOf}
 use Rattle.link.specs.Responder.{Claim, instance, host}
 use Rattle.link.specs.Premises.{Among}
 use Rattle.link.specs.Laws as law
-use Rattle.uniqueness.specs.Responder.{ownClaim, name, conflicts}
+use Rattle.uniqueness.specs.Responder.{ownClaim, conflicts}
 use Rattle.uniqueness.specs.Rules.{unlessEmpty, stageOf}
 use Rattle.uniqueness.proofs.Lists.{clash, never, and-left}
 use Rattle.uniqueness.proofs.Owned.{Owned, srv, txt, a, aaaa, is-present}

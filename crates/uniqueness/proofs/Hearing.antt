@@ -1,14 +1,11 @@
 -- What a message does to a claim, by what it says: laws `yields` and `defers`, and a message that says neither. Assumes nothing.
 use mathlib.Core.Path.{_≡_, refl, sym, ap, subst, _∙_}
-use mathlib.Core.Logic.{_⊎_, inl, inr}
-use mathlib.Core.Bool.{Bool, true, false, cond, not, _&&_, _||_}
-use mathlib.Core.Option.{Option, none, some}
-use mathlib.Core.List.{List, [], _∷_}
+use mathlib.Core.Bool.{Bool, true, false, cond, not, _&&_}
 use Prim.Native.Nat.{ℕ}
 use Rattle.wire.specs.message.Message.{Message, isResponse}
 use Rattle.own.specs.declared.records.Setup.{Setup}
 use Rattle.claims.specs.Time.{afterMs}
-use Rattle.claims.specs.Claims.{claimOf, heldNow, afterConflict, afterProbe}
+use Rattle.claims.specs.Claims.{heldNow, afterConflict, afterProbe}
 use Rattle.claims.specs.declared.ClaimState.{ClaimState}
 use Rattle.claims.specs.declared.ClaimState.the-variants.{Waiting, Probing1, Probing2, Probing3, Deferred, Announced, Held, Lost}
 use Rattle.claims.specs.declared.records.Claim as own
@@ -21,8 +18,9 @@ use Rattle.claims.specs.declared.answers.Facts.{Facts}
 use Rattle.claims.proofs.answers.Receives.{receive-claim}
 use Rattle.facts.specs.Facts.{inConflict, theirsLater, responseTo, queryTo, responseFacts, queryFacts, factsOf}
 use Rattle.responder.specs.declared.State.{State}
-use Rattle.link.specs.Responder.{Claim, instance, host}
-use Rattle.link.specs.Laws.{Unclaimed, probing, held}
+use Rattle.link.specs.Responder.{Claim}
+use Rattle.link.specs.Laws.{Unclaimed, probing}
+use Rattle.responder.specs.Handed.{Arrival}
 use Rattle.uniqueness.specs.Responder.{ownClaim, name, conflicts, defeats}
 use Rattle.uniqueness.specs.Rules.{with, told, stageOf, claimAt}
 use Rattle.uniqueness.proofs.Lists.{clash, never, and-left, and-right}
@@ -49,34 +47,37 @@ query-heard Host s m = (refl, refl)
 
 -- ---- a claim after a message
 
-module _ (x : State) (now draw : ℕ) (m : Message) (k : Claim) where
+module _ (x : State) (a : Arrival) (m : Message) (k : Claim) where
   abbrev f : Facts
   f = factsOf (x .setup) m
 
   abbrev pub after : ClaimState
-  after = claimAt (with x (told x now draw m .progress)) k
+  after = claimAt (with x (told x a m .progress)) k
 
   abbrev again : ℕ
-  again = afterMs now (x .progress .draw)
+  again = afterMs (a .time) (x .progress .draw)
 
-  heard-is : after ≡ heardOf (claimAt x k) (f .response) (heardFor (ownClaim k) f) again (afterMs now 1000)
-  heard-is = receive-claim now draw f (x .setup .hasaaaa) (ownClaim k) (x .progress)
+  abbrev later : ℕ
+  later = afterMs (a .time) 1000
+
+  heard-is : after ≡ heardOf (claimAt x k) (f .response) (heardFor (ownClaim k) f) again later
+  heard-is = receive-claim (a .time) (a .draw) f (x .setup .hasaaaa) (ownClaim k) (x .progress)
 
   by-response : isResponse (m .flags) ≡ true → after ≡ cond (inConflict (x .setup) (ownClaim k) m) (afterConflict (claimAt x k) again) (claimAt x k)
   unfolding heardOf
   by-response e =
       heard-is
-      ∙ ap (λ (g : Facts). heardOf (claimAt x k) (g .response) (heardFor (ownClaim k) g) again (afterMs now 1000)) (response-facts (x .setup) m e)
-      ∙ ap (λ (b : Bool). heardOf (claimAt x k) b (heardFor (ownClaim k) (responseFacts (x .setup) m)) again (afterMs now 1000)) (response-heard (ownClaim k) (x .setup) m .0)
-      ∙ ap (λ (h : Heard). heardOf (claimAt x k) true h again (afterMs now 1000)) (response-heard (ownClaim k) (x .setup) m .1)
+      ∙ ap (λ (g : Facts). heardOf (claimAt x k) (g .response) (heardFor (ownClaim k) g) again later) (response-facts (x .setup) m e)
+      ∙ ap (λ (b : Bool). heardOf (claimAt x k) b (heardFor (ownClaim k) (responseFacts (x .setup) m)) again later) (response-heard (ownClaim k) (x .setup) m .0)
+      ∙ ap (λ (h : Heard). heardOf (claimAt x k) true h again later) (response-heard (ownClaim k) (x .setup) m .1)
 
-  by-query : isResponse (m .flags) ≡ false → after ≡ cond (defeats m (x .setup) k) (afterProbe (claimAt x k) (afterMs now 1000)) (claimAt x k)
+  by-query : isResponse (m .flags) ≡ false → after ≡ cond (defeats m (x .setup) k) (afterProbe (claimAt x k) later) (claimAt x k)
   unfolding heardOf defeats
   by-query e =
       heard-is
-      ∙ ap (λ (g : Facts). heardOf (claimAt x k) (g .response) (heardFor (ownClaim k) g) again (afterMs now 1000)) (query-facts (x .setup) m e)
-      ∙ ap (λ (b : Bool). heardOf (claimAt x k) b (heardFor (ownClaim k) (queryFacts (x .setup) m)) again (afterMs now 1000)) (query-heard (ownClaim k) (x .setup) m .0)
-      ∙ ap (λ (h : Heard). heardOf (claimAt x k) false h again (afterMs now 1000)) (query-heard (ownClaim k) (x .setup) m .1)
+      ∙ ap (λ (g : Facts). heardOf (claimAt x k) (g .response) (heardFor (ownClaim k) g) again later) (query-facts (x .setup) m e)
+      ∙ ap (λ (b : Bool). heardOf (claimAt x k) b (heardFor (ownClaim k) (queryFacts (x .setup) m)) again later) (query-heard (ownClaim k) (x .setup) m .0)
+      ∙ ap (λ (h : Heard). heardOf (claimAt x k) false h again later) (query-heard (ownClaim k) (x .setup) m .1)
 
   -- what it does, as a case
   pub data Hears : Type 0 where
@@ -88,15 +89,15 @@ module _ (x : State) (now draw : ℕ) (m : Message) (k : Claim) where
   unfolding conflicts
   is-conflict e = rw e
 
-  put-off : (c : ClaimState) → claimAt x k ≡ c → defeats m (x .setup) k ≡ true → after ≡ afterProbe c (afterMs now 1000) → Hears
-  put-off (Waiting u) e d a = same (ap stageOf (a ∙ sym e)) (ap heldNow (a ∙ sym e))
-  put-off (Probing1 u) e d a = defers 1 u d (ap stageOf e) (subst (λ (c : ClaimState). Unclaimed (stageOf c)) (sym a) tt)
-  put-off (Probing2 u) e d a = defers 2 u d (ap stageOf e) (subst (λ (c : ClaimState). Unclaimed (stageOf c)) (sym a) tt)
-  put-off (Probing3 u) e d a = defers 3 u d (ap stageOf e) (subst (λ (c : ClaimState). Unclaimed (stageOf c)) (sym a) tt)
-  put-off (Deferred u) e d a = same (ap stageOf (a ∙ sym e)) (ap heldNow (a ∙ sym e))
-  put-off (Announced u) e d a = same (ap stageOf (a ∙ sym e)) (ap heldNow (a ∙ sym e))
-  put-off Held e d a = same (ap stageOf (a ∙ sym e)) (ap heldNow (a ∙ sym e))
-  put-off Lost e d a = same (ap stageOf (a ∙ sym e)) (ap heldNow (a ∙ sym e))
+  put-off : (c : ClaimState) → claimAt x k ≡ c → defeats m (x .setup) k ≡ true → after ≡ afterProbe c later → Hears
+  put-off (Waiting u) e d y = same (ap stageOf (y ∙ sym e)) (ap heldNow (y ∙ sym e))
+  put-off (Probing1 u) e d y = defers 1 u d (ap stageOf e) (subst (λ (c : ClaimState). Unclaimed (stageOf c)) (sym y) tt)
+  put-off (Probing2 u) e d y = defers 2 u d (ap stageOf e) (subst (λ (c : ClaimState). Unclaimed (stageOf c)) (sym y) tt)
+  put-off (Probing3 u) e d y = defers 3 u d (ap stageOf e) (subst (λ (c : ClaimState). Unclaimed (stageOf c)) (sym y) tt)
+  put-off (Deferred u) e d y = same (ap stageOf (y ∙ sym e)) (ap heldNow (y ∙ sym e))
+  put-off (Announced u) e d y = same (ap stageOf (y ∙ sym e)) (ap heldNow (y ∙ sym e))
+  put-off Held e d y = same (ap stageOf (y ∙ sym e)) (ap heldNow (y ∙ sym e))
+  put-off Lost e d y = same (ap stageOf (y ∙ sym e)) (ap heldNow (y ∙ sym e))
 
   given-up : (c : ClaimState) (u : ℕ) → Unclaimed (stageOf (afterConflict c u))
   given-up (Waiting v) u = tt
@@ -112,12 +113,12 @@ module _ (x : State) (now draw : ℕ) (m : Message) (k : Claim) where
   heard = go (isResponse (m .flags)) refl
     where
       response : isResponse (m .flags) ≡ true → (b : Bool) → inConflict (x .setup) (ownClaim k) m ≡ b → after ≡ cond b (afterConflict (claimAt x k) again) (claimAt x k) → Hears
-      response e true c a = yields (is-conflict e ∙ c) (subst (λ (d : ClaimState). Unclaimed (stageOf d)) (sym a) (given-up (claimAt x k) again))
-      response e false c a = same (ap stageOf a) (ap heldNow a)
+      response e true c y = yields (is-conflict e ∙ c) (subst (λ (d : ClaimState). Unclaimed (stageOf d)) (sym y) (given-up (claimAt x k) again))
+      response e false c y = same (ap stageOf y) (ap heldNow y)
 
-      query : (b : Bool) → defeats m (x .setup) k ≡ b → after ≡ cond b (afterProbe (claimAt x k) (afterMs now 1000)) (claimAt x k) → Hears
-      query true d a = put-off (claimAt x k) refl d a
-      query false d a = same (ap stageOf a) (ap heldNow a)
+      query : (b : Bool) → defeats m (x .setup) k ≡ b → after ≡ cond b (afterProbe (claimAt x k) later) (claimAt x k) → Hears
+      query true d y = put-off (claimAt x k) refl d y
+      query false d y = same (ap stageOf y) (ap heldNow y)
 
       go : (b : Bool) → isResponse (m .flags) ≡ b → Hears
       go true e =
@@ -161,5 +162,5 @@ module _ (x : State) (now draw : ℕ) (m : Message) (k : Claim) where
   pub defers-to : defeats m (x .setup) k ≡ true → (i u : ℕ) → stageOf (claimAt x k) ≡ probing i u → Unclaimed (stageOf after)
   defers-to h i u p =
       subst (λ (d : ClaimState). Unclaimed (stageOf d))
-      (sym (by-query (defeated-is h) ∙ ap (λ (b : Bool). cond b (afterProbe (claimAt x k) (afterMs now 1000)) (claimAt x k)) h))
-      (deferred (claimAt x k) i u (afterMs now 1000) p)
+      (sym (by-query (defeated-is h) ∙ ap (λ (b : Bool). cond b (afterProbe (claimAt x k) later) (claimAt x k)) h))
+      (deferred (claimAt x k) i u later p)

@@ -1,19 +1,17 @@
 -- Our responder meets the laws of `link`, so demand 3 holds of it. Assumes nothing.
 use mathlib.Core.Path.{_≡_, refl, sym, ap, subst, _∙_}
 use mathlib.Core.Logic.{_⊎_, inl, inr}
-use mathlib.Core.Bool.{Bool, true, false}
-use mathlib.Core.Option.{Option, none, some}
-use mathlib.Core.List.{List, [], _∷_, _++_}
-use Prim.Native.Nat.{ℕ, _+_, _≤_, _<_}
+use mathlib.Core.Bool.{true}
+use mathlib.Core.Option.{some}
+use mathlib.Core.List.{List, [], _∷_}
+use Prim.Native.Nat.{ℕ, _+_, _<_}
 use Rattle.wire.specs.case_folding.Fold.{sameName}
 use Rattle.wire.proofs.case_folding.Equal.{same-sym}
-use Rattle.wire.specs.message.Message.{Message}
 use Rattle.own.specs.declared.records.Setup.{Setup}
 use Rattle.own.specs.records.Setups.{validSetup}
-use Rattle.claims.specs.Time.{lastTime}
 use Rattle.claims.specs.Claims.{dueOf}
 use Rattle.claims.specs.declared.When.{When}
-use Rattle.claims.specs.declared.When.the-variants.{Never, At}
+use Rattle.claims.specs.declared.When.the-variants.{At}
 use Rattle.claims.specs.declared.Progress.{Progress}
 use Rattle.claims.specs.steps.Steps.{steps, stepDue}
 use Rattle.claims.specs.declared.steps.Step.{Step}
@@ -27,13 +25,14 @@ use Rattle.link.specs.Laws as law
 use Rattle.link.proofs.Demand3 as link
 use Rattle.uniqueness.specs.Responder.{ownClaim, listed, dueTimes, due, rdata, name, conflicts, defeats, responder}
 use Rattle.uniqueness.specs.Statement.{Theorem}
-use Rattle.uniqueness.specs.Rules.{with, hears, stageOf, claimAt, Of, Ready, rules}
+use Rattle.uniqueness.specs.Rules.{stageOf, claimAt, Of, Ready, rules}
 use Rattle.uniqueness.proofs.Lists.{clash, in-append, in-tail}
 use Rattle.uniqueness.proofs.Owned.{owned, Has, has-data, one-claim}
 use Rattle.uniqueness.proofs.Data.{tie-law, conflict-law}
 use Rattle.uniqueness.proofs.Calls.{begun, ticked, received}
 use Rattle.uniqueness.proofs.Hearing.{yields-to, defers-to}
-use Rattle.uniqueness.proofs.Moves.{next-is, noted, said, move}
+use Rattle.uniqueness.proofs.Sent.{noted, said}
+use Rattle.uniqueness.proofs.Moves.{move}
 use Rattle.uniqueness.proofs.Defence.{defends}
 
 -- ---- the due steps
@@ -74,12 +73,6 @@ probing-due (Announced v) i u e = clash (cc)
 probing-due Held i u e = clash (cc)
 probing-due Lost i u e = clash (cc)
 
--- ---- a message heard
-
-hear-next : (x : State) (now draw : ℕ) (m : Message) → law.next responder rules x now (law.hears draw m) ≡ hears x now draw m .0
-unfolding law.step
-hear-next x now draw m = refl
-
 -- ---- the laws
 
 one-claim-law : (s t : Setup) (k l : Claim) (type : ℕ) (d e : List ℕ) → rdata s k type ≡ some d → rdata t l type ≡ some e → k ≡ l
@@ -88,13 +81,11 @@ one-claim-law s t k l type d e p q =
     let yours : Has t l type e = has-data t l type e q in
     one-claim k l type (mine .own) (yours .own) (owned k type (mine .own) (mine .is)) (owned l type (yours .own) (yours .is))
 
-kept : (s : Setup) (x : State) (now : ℕ) (c : law.Step Message) → Ready x s now → Of (law.next responder rules x now c) s
-kept s x now c r =
-    subst (λ (y : State). Of y s) (sym (next-is x (r .of .valid) now (r .time) c)) (record { setup = r .of .setup; valid = r .of .valid })
+kept : (s : Setup) (x : State) (c : law.Step responder) → Ready x s c → Of (law.next responder rules x c) s
+kept s x c r = record { setup = r .of .setup; valid = r .of .valid }
 
 -- what is proved for the state's own set-up holds for the set-up that it is of
 pub lawful : law.Lawful responder rules
-unfolding hears
 lawful =
     record {
       nameSym = same-sym;
@@ -106,30 +97,29 @@ lawful =
       received = received;
       valid = λ x s of. subst (λ (t : Setup). validSetup t ≡ true) (of .setup) (of .valid);
       kept = kept;
-      move = λ s x now c k r.
-          subst (λ (t : Setup). law.Move responder rules t x now c k) (r .of .setup) (move x (r .of .valid) now (r .time) k c);
-      noted = λ s x now c k type d r e.
+      move = λ s x c k r. subst (λ (t : Setup). law.Move responder rules t x c k) (r .of .setup) (move x (r .of .valid) k c (r .time));
+      noted = λ s x c k type d r e.
           subst
           (λ (t : Setup). rdata t k type ≡ some d
-          → (rules .multicast (law.next responder rules x now c) k type ≡ rules .multicast x k type)
-          ⊎ ((rules .multicast (law.next responder rules x now c) k type ≡ some now) × law.Multicasts responder rules t x now c k type))
-          (r .of .setup) (noted x (r .of .valid) now (r .time) c k type d) e;
-      said = λ s x now c k m r h e.
-          subst (λ (t : Setup). responder .responds m (name t k) ≡ true → rules .stage (law.next responder rules x now c) k ≡ law.held) (r .of .setup)
-          (said x (r .of .valid) now (r .time) c k m h) e;
-      yields = λ s x now draw m k r h.
-          subst (λ (t : Setup). conflicts m t k ≡ true → law.Unclaimed (rules .stage (law.next responder rules x now (law.hears draw m)) k)) (r .of .setup)
-          (λ e. subst (λ (y : State). law.Unclaimed (stageOf (claimAt y k))) (sym (hear-next x now draw m)) (yields-to x now draw m k e)) h;
-      defers = λ s x now draw m k i u r h p.
-          subst (λ (t : Setup). defeats m t k ≡ true → law.Unclaimed (rules .stage (law.next responder rules x now (law.hears draw m)) k)) (r .of .setup)
-          (λ e. subst (λ (y : State). law.Unclaimed (stageOf (claimAt y k))) (sym (hear-next x now draw m)) (defers-to x now draw m k e i u p)) h;
-      defends = λ s x now draw t k type d r v n e h.
+          → (rules .multicast (law.next responder rules x c) k type ≡ rules .multicast x k type)
+          ⊎ ((rules .multicast (law.next responder rules x c) k type ≡ some (law.timeOf responder c)) × law.Multicasts responder rules t x c k type))
+          (r .of .setup) (noted x (r .of .valid) c k type d) e;
+      said = λ s x c k m r h e.
+          subst (λ (t : Setup). responder .responds m (name t k) ≡ true → rules .stage (law.next responder rules x c) k ≡ law.held) (r .of .setup)
+          (said x (r .of .valid) c k m h) e;
+      yields = λ s x a m k r h.
+          subst (λ (t : Setup). conflicts m t k ≡ true → law.Unclaimed (rules .stage (law.next responder rules x (law.hears a m)) k)) (r .of .setup)
+          (yields-to x a m k) h;
+      defers = λ s x a m k i u r h p.
+          subst (λ (t : Setup). defeats m t k ≡ true → law.Unclaimed (rules .stage (law.next responder rules x (law.hears a m)) k)) (r .of .setup)
+          (λ e. defers-to x a m k e i u p) h;
+      defends = λ s x a t k type d r v n e h.
           subst
           (λ (q : Setup). sameName (name t k) (name q k) ≡ true
           → rdata q k type ≡ some d
-          → law.Multicasts responder rules q x now (law.hears draw (rules .probe t k)) k type
-          ⊎ ((u : ℕ) × (rules .multicast x k type ≡ some u) × (now < u + 250)))
-          (r .of .setup) (λ f g. defends x (r .of .valid) now (r .time) draw t k type d f g h) n e;
+          → law.Multicasts responder rules q x (law.hears a (rules .probe t k)) k type
+          ⊎ ((u : ℕ) × (rules .multicast x k type ≡ some u) × (a .time < u + 250)))
+          (r .of .setup) (λ f g. defends x (r .of .valid) a t k type d f g h) n e;
       dueWaiting = λ x k u e. due-in x k u (waiting-due (claimAt x k) u e);
       dueProbing = λ x k i u e. due-in x k u (probing-due (claimAt x k) i u e);
     }

@@ -1,4 +1,5 @@
--- Demand 3 for our responder. The theorem: Lawful. The laws: Data, Calls, Hearing, Moves, Defence. What keeps it from being empty: Example, Taken, Settled.
+-- Demand 3 for our responder. The theorem: Lawful. The laws: Data, Calls, Hearing, Sent, Moves, Defence. What keeps it from being empty: Example, Taken,
+-- Settled.
 pub mod Lists
 pub mod Owned
 pub mod Data
@@ -6,6 +7,7 @@ pub mod Messages
 pub mod Calls
 pub mod Hearing
 pub mod Facts
+pub mod Sent
 pub mod Moves
 pub mod Defence
 pub mod Lawful

@@ -1,15 +1,14 @@
 -- What a response of own records says: it carries each of them, and a record under a claim's name is one of the claim's. Assumes nothing.
-use mathlib.Core.Path.{_≡_, refl, sym, ap, subst, _∙_}
+use mathlib.Core.Path.{_≡_, refl, ap, subst}
 use mathlib.Core.Logic.{_⊎_, inl, inr}
-use mathlib.Core.Bool.{Bool, true, false, cond, not, _&&_, _||_}
-use mathlib.Core.Option.{Option, none, some}
+use mathlib.Core.Bool.{true, false, _&&_, _||_}
+use mathlib.Core.Option.{some}
 use mathlib.Core.List.{List, [], _∷_, _++_, map}
 use Prim.Native.Nat.{ℕ}
-use native.Mathlib.Omega.{arith}
 use Rattle.wire.specs.case_folding.Fold.{sameName}
 use Rattle.wire.proofs.case_folding.Equal.{same-refl}
 use Rattle.wire.specs.message.Message.{Record, Message, isResponse, allRecords}
-use Rattle.wire.specs.message.Layout.{Reads, read, refused, messageAt}
+use Rattle.wire.specs.message.Layout.{messageAt}
 use Rattle.own.specs.declared.records.Setup.{Setup}
 use Rattle.own.specs.records.Setups.{validSetup}
 use Rattle.own.specs.records.Records.{hasRecord, ownLabels, ownName}
@@ -23,15 +22,16 @@ use Rattle.claims.specs.declared.steps.Output.{Output}
 use Rattle.claims.specs.declared.steps.Output.the-variants.{Nothing, Probe, Response}
 use Rattle.wire.specs.Lists.{some as someOf}
 use Rattle.facts.specs.probe.Probe.{under}
-use Rattle.writer.specs.own_packets.Own.{ownRecord, responseRecords, responseOf, noneIfEmpty, responsePacket, probePacket, probeOf}
+use Rattle.writer.specs.own_packets.Styles.{responseStyle, ownRecord}
+use Rattle.writer.specs.own_packets.Own.{responseRecords, responseOf, noneIfEmpty, responsePacket, probePacket, probeOf}
 use Rattle.roundtrip.proofs.OwnPackets.{response-back, probe-back}
-use Rattle.responder.specs.Calls.{packets, packetFor}
+use Rattle.responder.specs.Calls.{packetFor}
 use Rattle.link.specs.Responder.{Claim, instance, host}
 use Rattle.link.specs.Premises.{Among}
 use Rattle.link.specs.Laws.{ReadAs}
-use Rattle.uniqueness.specs.Responder.{ownClaim, recordOf, name, messageOf, readAs, responds}
+use Rattle.uniqueness.specs.Responder.{sends, ownClaim, claimRecord, name, messageOf, readAs, responds}
 use Rattle.uniqueness.specs.Rules.{unlessEmpty, messagesFor, Carried}
-use Rattle.uniqueness.proofs.Lists.{clash, never, and-left, and-right, and-both, or-left, or-right, some-in, some-out, in-append, out-append, in-map, out-map, in-picked, out-picked}
+use Rattle.uniqueness.proofs.Lists.{clash, and-left, and-right, and-both, or-left, or-right, some-in, some-out, in-append, out-append, in-map, out-map, in-picked, out-picked}
 use Rattle.uniqueness.proofs.Owned.{Owned, srv, txt, a, aaaa, owned, own-owner}
 
 among-all : (r : Own) → Among r all
@@ -64,12 +64,12 @@ module _ (s : Setup) (set : Set) where
   unfolding messagesFor
   goes-out r h t = not-empty r (responseRecords s set) (responseOf s set) (in-response r h t)
 
-  member : (r : Own) → has r set ≡ true → hasRecord s r ≡ true → Among (ownRecord s false r) (responseOf s set .answers)
+  member : (r : Own) → has r set ≡ true → hasRecord s r ≡ true → Among (ownRecord s responseStyle r) (responseOf s set .answers)
   unfolding responseOf
-  member r h t = in-map (ownRecord s false) r (responseRecords s set) (in-response r h t)
+  member r h t = in-map (ownRecord s responseStyle) r (responseRecords s set) (in-response r h t)
 
   -- and it carries each
-  pub carries : (k : Claim) (type : ℕ) (r : Own) → recordOf k type ≡ some r → has r set ≡ true → hasRecord s r ≡ true
+  pub carries : (k : Claim) (type : ℕ) (r : Own) → claimRecord k type ≡ some r → has r set ≡ true → hasRecord s r ≡ true
       → Carried (responseOf s set) s k type
   carries k type r e h t = record { own = r; owned = e; response = response-flag; member = member r h t }
 
@@ -79,8 +79,8 @@ module _ (s : Setup) (set : Set) where
   unfolding responds ownRecord
   says-name k type r o h t =
       and-both (isResponse (responseOf s set .flags)) (someOf (under (name s k)) (allRecords (responseOf s set))) response-flag
-      (some-in (under (name s k)) (ownRecord s false r) (allRecords (responseOf s set))
-      (in-append (ownRecord s false r) (responseOf s set .answers)
+      (some-in (under (name s k)) (ownRecord s responseStyle r) (allRecords (responseOf s set))
+      (in-append (ownRecord s responseStyle r) (responseOf s set .answers)
       (responseOf s set .authorities ++ responseOf s set .additionals) (member r h t))
       (rw (own-owner s k type r o) (same-refl (name s k))))
 
@@ -100,11 +100,11 @@ module _ (s : Setup) (ok : validSetup s ≡ true) (set : Set) where
   by-name host A g n = or-left (set .a) (set .aaaa || false) g
   by-name host Aaaa g n = or-right (set .a) (set .aaaa || false) (or-left (set .aaaa) false g)
 
-  answers-only : (r : Record) → Among r (allRecords (responseOf s set)) → Among r (map (ownRecord s false) (responseRecords s set))
+  answers-only : (r : Record) → Among r (allRecords (responseOf s set)) → Among r (map (ownRecord s responseStyle) (responseRecords s set))
   unfolding responseOf
-  answers-only r h = go (out-append r (map (ownRecord s false) (responseRecords s set)) [] h)
+  answers-only r h = go (out-append r (map (ownRecord s responseStyle) (responseRecords s set)) [] h)
     where
-      go : Among r (map (ownRecord s false) (responseRecords s set)) ⊎ Among r [] → Among r (map (ownRecord s false) (responseRecords s set))
+      go : Among r (map (ownRecord s responseStyle) (responseRecords s set)) ⊎ Among r [] → Among r (map (ownRecord s responseStyle) (responseRecords s set))
       go (inl k) = k
       go (inr k) = absurd k
 
@@ -114,7 +114,7 @@ module _ (s : Setup) (ok : validSetup s ≡ true) (set : Set) where
   name-said k h =
       let found = some-out (under (name s k)) (allRecords (responseOf s set))
       (and-right (isResponse (responseOf s set .flags)) (someOf (under (name s k)) (allRecords (responseOf s set))) h) in
-      let made = out-map (ownRecord s false) (found .0) (responseRecords s set) (answers-only (found .0) (found .1)) in
+      let made = out-map (ownRecord s responseStyle) (found .0) (responseRecords s set) (answers-only (found .0) (found .1)) in
       let taken = out-picked (λ (o : Own). has o set && hasRecord s o) (made .0) all (made .1) in
       by-name k (made .0) (and-left (has (made .0) set) (hasRecord s (made .0)) (taken .1))
       (subst (λ (r : Record). sameName (r .owner) (name s k) ≡ true) (made .2) (found .2))
@@ -122,14 +122,14 @@ module _ (s : Setup) (ok : validSetup s ≡ true) (set : Set) where
 -- ---- what is written reads back
 
 -- a packet that is read as a message is not empty
-pub reads : (p : List ℕ) (m : Message) → readAs p ≡ some m → ReadAs readAs (packets p) (m ∷ [])
+pub reads : (p : List ℕ) (m : Message) → readAs p ≡ some m → ReadAs readAs (sends p) (m ∷ [])
 unfolding messageAt
 reads [] m e = clash (cc)
 reads (b ∷ bs) m e = (e, tt)
 
 module _ (s : Setup) (ok : validSetup s ≡ true) where
   response-reads : (set : Set) (os : List Own) → responseRecords s set ≡ os
-      → ReadAs readAs (packets (noneIfEmpty os (responsePacket s set))) (unlessEmpty os (responseOf s set))
+      → ReadAs readAs (sends (noneIfEmpty os (responsePacket s set))) (unlessEmpty os (responseOf s set))
   response-reads set [] e = tt
   response-reads set (o ∷ os) e = reads (responsePacket s set) (responseOf s set) (ap messageOf (response-back s ok set (λ z. clash (cc))))
 
@@ -142,10 +142,10 @@ module _ (s : Setup) (ok : validSetup s ≡ true) where
   response-none set = none-twice (responseRecords s set) _
 
   -- the packet of an output is read as its message
-  pub output-reads : (o : Output) → ReadAs readAs (packets (packetFor s o)) (messagesFor s o)
+  pub output-reads : (o : Output) → ReadAs readAs (sends (packetFor s o)) (messagesFor s o)
   unfolding packetFor messagesFor
   output-reads Nothing = tt
   output-reads (Probe k) = reads (probePacket s k) (probeOf s k) (ap messageOf (probe-back s ok k))
   output-reads (Response set) =
-      subst (λ (p : List ℕ). ReadAs readAs (packets p) (unlessEmpty (responseRecords s set) (responseOf s set))) (response-none set)
+      subst (λ (p : List ℕ). ReadAs readAs (sends p) (unlessEmpty (responseRecords s set) (responseOf s set))) (response-none set)
       (response-reads set (responseRecords s set) refl)

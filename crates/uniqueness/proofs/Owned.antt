@@ -1,5 +1,5 @@
 -- A claim's records: the type says which of the own records it is, and all stand under the claim's name. Assumes nothing.
-use mathlib.Core.Path.{_≡_, refl, sym, ap, subst, _∙_}
+use mathlib.Core.Path.{_≡_, refl, sym, subst}
 use mathlib.Core.Bool.{Bool, true, false, cond}
 use mathlib.Core.Logic.{inl, inr}
 use mathlib.Core.Option.{Option, none, some}
@@ -7,7 +7,7 @@ use mathlib.Core.List.{List}
 use Prim.Native.Nat.{ℕ}
 use native.Mathlib.Omega.{arith}
 use lib.Dec.{eqb}
-use borrow.Author.Tests.{eqb-true, eq-eqb}
+use borrow.Author.Tests.{eqb-true}
 use Rattle.own.specs.declared.records.Setup.{Setup}
 use Rattle.own.specs.records.Records.{hasRecord, ownLabels, ownName, ownRdata}
 use Rattle.claims.specs.records.Own.{ownType, claimFor, claimed, present, goesAtOnce}
@@ -15,7 +15,7 @@ use Rattle.claims.specs.declared.records.Own.{Own}
 use Rattle.claims.specs.declared.records.Own.the-variants.{Srv, Txt, A, Aaaa}
 use Rattle.link.specs.Responder.{Claim, instance, host}
 use Rattle.link.specs.Premises.{Among}
-use Rattle.uniqueness.specs.Responder.{ownClaim, ofType, recordOf, dataOf, rdata, name}
+use Rattle.uniqueness.specs.Responder.{ownClaim, ofType, claimRecord, dataOf, rdata, name}
 use Rattle.uniqueness.proofs.Lists.{clash}
 
 pub data Owned : Claim → ℕ → Own → Type 0 where
@@ -24,8 +24,8 @@ pub data Owned : Claim → ℕ → Own → Type 0 where
   a : {type : ℕ} → type ≡ 1 → Owned host type A
   aaaa : {type : ℕ} → type ≡ 28 → Owned host type Aaaa
 
-pub owned : (k : Claim) (type : ℕ) (r : Own) → recordOf k type ≡ some r → Owned k type r
-unfolding recordOf ofType
+pub owned : (k : Claim) (type : ℕ) (r : Own) → claimRecord k type ≡ some r → Owned k type r
+unfolding claimRecord ofType
 owned instance type r e = go (eqb type 16) (eqb type 33) refl refl e
   where
     go : (b c : Bool) → eqb type 16 ≡ b → eqb type 33 ≡ c → cond b (some Txt) (cond c (some Srv) none) ≡ some r → Owned instance type r
@@ -42,18 +42,18 @@ owned host type r e = go (eqb type 1) (eqb type 28) refl refl e
 -- a record that the set-up has of a claim and type
 pub record Has (s : Setup) (k : Claim) (type : ℕ) (d : List ℕ) : Type 0 where
   pub own : Own
-  pub is : recordOf k type ≡ some own
+  pub is : claimRecord k type ≡ some own
   pub there : hasRecord s own ≡ true
   pub is-data : ownRdata s own ≡ d
 
 pub has-data : (s : Setup) (k : Claim) (type : ℕ) (d : List ℕ) → rdata s k type ≡ some d → Has s k type d
-has-data s k type d e = go (recordOf k type) refl e
+has-data s k type d e = go (claimRecord k type) refl e
   where
-    by : (r : Own) → recordOf k type ≡ some r → (b : Bool) → hasRecord s r ≡ b → cond b (some (ownRdata s r)) none ≡ some d → Has s k type d
+    by : (r : Own) → claimRecord k type ≡ some r → (b : Bool) → hasRecord s r ≡ b → cond b (some (ownRdata s r)) none ≡ some d → Has s k type d
     by r p true q f = record { own = r; is = p; there = q; is-data = cc }
     by r p false q f = clash (cc)
 
-    go : (o : Option Own) → recordOf k type ≡ o → dataOf s o ≡ some d → Has s k type d
+    go : (o : Option Own) → claimRecord k type ≡ o → dataOf s o ≡ some d → Has s k type d
     go none p f = clash (cc)
     go (some r) p f = by r p (hasRecord s r) refl f
 

@@ -1,12 +1,11 @@
 -- The premise about due steps can be met: a sound state (any that an accepted call returns) is ticked at any time from its last one to 2^62, and after
 -- three ticks in one millisecond nothing is due then. Assumes nothing.
-use mathlib.Core.Path.{_≡_, refl, sym, ap, subst, _∙_}
+use mathlib.Core.Path.{_≡_, refl, ap, subst, _∙_}
 use mathlib.Core.Logic.{_⊎_, inl, inr}
-use mathlib.Core.Bool.{Bool, true, false, cond, _||_}
-use mathlib.Core.List.{List, [], _∷_, _++_}
+use mathlib.Core.Bool.{false}
+use mathlib.Core.List.{List, [], _∷_}
 use Prim.Native.Nat.{ℕ, _≤_, _<_}
 use native.Mathlib.Omega.{arith}
-use lib.Dec.{leb, ltb}
 use borrow.Author.Tests.{le-ltb, leb-false}
 use mathlib.Mathlib.Data.Bool.Basic.{or-eq-false-eq-eq-false-and-eq-false as neither}
 use Rattle.claims.specs.Time.{lastTime, dueBy}
@@ -14,52 +13,57 @@ use Rattle.claims.specs.records.Sets.{someOf}
 use Rattle.claims.specs.declared.When.{When}
 use Rattle.claims.specs.declared.When.the-variants.{Never, At}
 use Rattle.claims.specs.declared.Progress.{Progress}
-use Rattle.claims.specs.Refusals.{lateStart, wrongTime}
+use Rattle.claims.specs.Refusals.{wrongTime}
 use Rattle.claims.specs.steps.Steps.{steps, stepDue, moreDue}
 use Rattle.claims.specs.declared.steps.Step.{Step}
 use Rattle.claims.proofs.steps.Ticks.{tick-last}
 use Rattle.claims.proofs.steps.Settles.{three-ticks}
-use Rattle.responder.specs.Refusals.{smallBuffer, tickRefusal}
-use Rattle.responder.specs.Calls.{answerOf, packets, walkedOf, tickedPacket, tickOf}
+use Rattle.responder.specs.Refusals.{tickRefusal}
+use Rattle.responder.specs.Calls.{answerOf, walkedOf, tickedPacket, tickOf}
 use Rattle.responder.specs.Runs.{ticked}
 use Rattle.responder.specs.declared.State.{State}
 use Rattle.responder.proofs.Closure.{Sound, sound-time, accepted-sound}
 use Rattle.link.specs.Responder as link
+use Rattle.link.specs.Responder.{Parcel}
 use Rattle.link.specs.Premises.{Among}
-use Rattle.uniqueness.specs.Responder.{listed, dueTimes, answeredBy, tick, due}
+use Rattle.responder.specs.Handed.{Tick}
+use Rattle.uniqueness.specs.Responder.{sends, listed, dueTimes, answeredBy, tick, due}
 use Rattle.uniqueness.specs.Rules.{with}
-use Rattle.uniqueness.proofs.Lists.{clash, out-append}
+use Rattle.uniqueness.proofs.Lists.{out-append}
 use Rattle.uniqueness.proofs.Calls.{ticked-state}
 
 -- a tick that is accepted, from x to y
-abbrev pub Ticks : State → ℕ → ℕ → State → Type 0
-Ticks x now room y = (ps : List (List ℕ)) × (tick x now room ≡ link.accepted y ps)
+abbrev pub Ticks : State → Tick → State → Type 0
+Ticks x t y = (ps : List Parcel) × (tick x t ≡ link.accepted y ps)
 
-module _ (now room : ℕ) (time : now ≤ lastTime) (long : 1452 ≤ room) where
+module _ (t : Tick) (time : t .time ≤ lastTime) (long : 1452 ≤ t .room) where
+  abbrev now : ℕ
+  now = t .time
+
   abbrev next : State → State
   next x = with x (walkedOf x now .progress)
 
-  not-refused : (x : State) → Sound x → x .progress .last ≤ now → tickRefusal x now room ≡ 0
+  not-refused : (x : State) → Sound x → x .progress .last ≤ now → tickRefusal x t ≡ 0
   unfolding tickRefusal
   not-refused x s l =
-      let t : wrongTime (x .progress) now ≡ false = sound-time x now s ∙ rw (le-ltb lastTime now time, le-ltb now (x .progress .last) l) refl in
-      rw (t, le-ltb room 1452 long, s .right) refl
+      let e : wrongTime (x .progress) now ≡ false = sound-time x now s ∙ rw (le-ltb lastTime now time, le-ltb now (x .progress .last) l) refl in
+      rw (e, le-ltb (t .room) 1452 long, s .right) refl
 
-  answered : (n : ℕ) (p : List ℕ) (y : State) → n ≡ 0 → answeredBy (answerOf n p) y p ≡ link.accepted y (packets p)
+  answered : (n : ℕ) (p : List ℕ) (y : State) → n ≡ 0 → answeredBy (answerOf n p) y p ≡ link.accepted y (sends p)
   answered n [] y e = rw e refl
   answered n (b ∷ bs) y e = rw e refl
 
-  accepts : (x : State) → Sound x → x .progress .last ≤ now → Ticks x now room (next x)
+  accepts : (x : State) → Sound x → x .progress .last ≤ now → Ticks x t (next x)
   unfolding tick tickOf
   accepts x s l =
       let n = not-refused x s l in (
-        packets (tickedPacket x now room),
-        answered (tickRefusal x now room) (tickedPacket x now room) (tickOf x now room .state) n
-            ∙ ap (λ (y : State). link.accepted y (packets (tickedPacket x now room))) (ticked-state x now room n),
+        sends (tickedPacket x t),
+        answered (tickRefusal x t) (tickedPacket x t) (tickOf x t .state) n
+            ∙ ap (λ (y : State). link.accepted y (sends (tickedPacket x t))) (ticked-state x t n),
       )
 
   sound-next : (x : State) → Sound x → x .progress .last ≤ now → Sound (next x)
-  sound-next x s l = let n = not-refused x s l in subst Sound (ticked-state x now room n) (accepted-sound x (ticked now room) n)
+  sound-next x s l = let n = not-refused x s l in subst Sound (ticked-state x t n) (accepted-sound x (ticked t) n)
 
   last-next : (x : State) → next x .progress .last ≤ now
   last-next x = rw (tick-last now (x .setup .hasaaaa) (x .progress)) (omega arith)
@@ -91,7 +95,7 @@ module _ (now room : ℕ) (time : now ≤ lastTime) (long : 1452 ≤ room) where
       (x : State)
       → Sound x
       → x .progress .last ≤ now
-      → (y : State) × (z : State) × (w : State) × Ticks x now room y × Ticks y now room z × Ticks z now room w × ((u : ℕ) → Among u (due w) → now < u)
+      → (y : State) × (z : State) × (w : State) × Ticks x t y × Ticks y t z × Ticks z t w × ((u : ℕ) → Among u (due w) → now < u)
   settles x s l =
       let s₁ = sound-next x s l in
       let s₂ = sound-next (next x) s₁ (last-next x) in (

@@ -1,21 +1,25 @@
 -- What our responder sends is taken by any other: whatever state sends it, a packet of an accepted call is never refused as 4, 5 or 6 by a packet received
 -- call that gets it from port 5353. Assumes nothing.
-use mathlib.Core.Path.{_≡_, refl, subst, sym}
+use mathlib.Core.Path.{_≡_, refl, subst, sym, ap, _∙_}
 use mathlib.Core.Logic.{inl, inr}
-use mathlib.Core.Bool.{Bool, true, false, cond}
-use mathlib.Core.Option.{Option, some}
+use mathlib.Core.Bool.{Bool, true, false, cond, _||_}
+use mathlib.Core.Option.{some}
 use mathlib.Core.List.{List, [], _∷_}
 use Prim.Native.Nat.{ℕ, _≤_}
 use native.Mathlib.Omega.{arith}
 use Rattle.wire.specs.message.Message.{Message}
-use Rattle.wire.specs.message.Layout.{Reads, read, refused, messageAt}
+use Rattle.wire.specs.message.Layout.{Reads, read, refused, wrongLength, wrongHeader, messageAt, readOf, refusalOf}
+use Rattle.wire.specs.message.Refusals.{isMalformed, packetRefusal, messageRefusal}
+use Rattle.wire.proofs.message.Refused.{refusal-is}
 use Rattle.claims.specs.Refusals.{wrongTime, wrongReplyDraw}
-use Rattle.responder.specs.Refusals.{smallBuffer, wrongState, readRefusal, byPort, orElse, receiveRefusal}
+use Rattle.responder.specs.Refusals.{smallBuffer, wrongState, receiveRefusal}
 use Rattle.responder.specs.declared.State.{State}
-use Rattle.responder.proofs.Refusals.{receive-accepted, tick-accepted}
+use Rattle.responder.proofs.Refusals.{in-order, receive-accepted, tick-accepted}
 use Rattle.link.specs.Responder as link
+use Rattle.link.specs.Responder.{Parcel}
 use Rattle.link.specs.Premises.{Among}
 use Rattle.link.specs.Laws.{ReadAs}
+use Rattle.responder.specs.Handed.{Arrival, Tick}
 use Rattle.uniqueness.specs.Responder.{tick, receive, messageOf, readAs}
 use Rattle.uniqueness.specs.Rules.{Of}
 use Rattle.uniqueness.proofs.Lists.{clash}
@@ -23,16 +27,28 @@ use Rattle.uniqueness.proofs.Calls.{right-setup, tick-is, receive-is, t
 
 -- "4: message under 12 or over 8,972 bytes", "5: opcode or RCODE not zero, or source port not 5353", "6: message malformed"
 abbrev pub Taken : List ℕ → Type 0
-Taken p = (z : State) (now draw room n : ℕ) → receiveRefusal z now 5353 draw p room ≡ n → 4 ≤ n → n ≤ 6 → ⊥
+Taken p = (z : State) (a : Arrival) (n : ℕ) → a .port ≡ 5353 → a .packet ≡ p → receiveRefusal z a ≡ n → 4 ≤ n → n ≤ 6 → ⊥
 
-no-refusal : (r : Reads) (m : Message) → messageOf r ≡ some m → byPort (readRefusal r) 5353 ≡ 0
+no-refusal : (r : Reads) (m : Message) → messageOf r ≡ some m → refusalOf (readOf r) ≡ 0
 no-refusal (read l n) m e = refl
 no-refusal (refused n) m e = clash (cc)
 
+-- a packet that is read is refused from another port only
+from-port : (p : List ℕ) (m : Message) → readAs p ≡ some m → messageRefusal 5353 p ≡ 0
+unfolding messageRefusal packetRefusal
+from-port p m e = go (wrongHeader p) ∙ sym (refusal-is p) ∙ no-refusal (messageAt p) m e
+  where
+    first : Bool → ℕ
+    first h = cond (wrongLength p) 4 (cond h 5 (cond (isMalformed p) 6 0))
+
+    go : (h : Bool) → first (h || false) ≡ first h
+    go true = refl
+    go false = refl
+
 read-taken : (p : List ℕ) (m : Message) → readAs p ≡ some m → Taken p
-unfolding receiveRefusal
-read-taken p m e z now draw room n h lo hi =
-    go (wrongTime (z .progress) now) (wrongReplyDraw draw) (smallBuffer room) (wrongState z) (rw (no-refusal (messageAt p) m e) at h)
+read-taken p m e z a n i j h lo hi =
+    let none : messageRefusal (a .port) (a .packet) ≡ 0 = ap (λ (v : ℕ). messageRefusal v (a .packet)) i ∙ ap (messageRefusal 5353) j ∙ from-port p m e in
+    go (wrongTime (z .progress) (a .time)) (wrongReplyDraw (a .draw)) (smallBuffer (a .room)) (wrongState z) (rw none at (sym (in-order z a) ∙ h))
   where
     go : (t d b w : Bool) → cond t 1 (cond d 2 (cond b 3 (cond w 7 0))) ≡ n → ⊥
     go true d b w f = omega (arith, f)
@@ -41,25 +57,21 @@ read-taken p m e z now draw room n h lo hi =
     go false false false true f = omega (arith, f)
     go false false false false f = omega (arith, f)
 
-all-taken : (ps : List (List ℕ)) (ms : List Message) → ReadAs readAs ps ms → (p : List ℕ) → Among p ps → Taken p
+all-taken : (ps : List Parcel) (ms : List Message) → ReadAs readAs ps ms → (p : Parcel) → Among p ps → Taken (p .bytes)
 all-taken [] ms r p h = absurd h
 all-taken (q ∷ qs) [] r p h = absurd r
-all-taken (q ∷ qs) (m ∷ ms) r p (inl e) = subst Taken (sym e) (read-taken q m (r .0))
+all-taken (q ∷ qs) (m ∷ ms) r p (inl e) = subst (λ (v : Parcel). Taken (v .bytes)) (sym e) (read-taken (q .bytes) m (r .0))
 all-taken (q ∷ qs) (m ∷ ms) r p (inr h) = all-taken qs ms (r .1) p h
 
-pub ticked-taken : (x : State) (now room : ℕ) (y : State) (ps : List (List ℕ)) → tick x now room ≡ link.accepted y ps → (p : List ℕ) → Among p ps → Taken p
-ticked-taken x now room y ps e p h =
-    let a = tick-accepted x now room (tick-is x now room y ps e .none-refused) in
+pub ticked-taken : (x : State) (t : Tick) (y : State) (ps : List Parcel) → tick x t ≡ link.accepted y ps → (p : Parcel) → Among p ps → Taken (p .bytes)
+ticked-taken x t y ps e p h =
+    let a = tick-accepted x t (tick-is x t y ps e .none-refused) in
     let of : Of x (x .setup) = record { setup = refl; valid = right-setup x (a .right) } in
-    all-taken ps _ (ticked (x .setup) x now room y ps of e .1 .packets) p h
+    all-taken ps _ (ticked (x .setup) x t y ps of e .1 .reads) p h
 
 pub received-taken :
-    (x : State) (now port draw : ℕ) (q : List ℕ) (room : ℕ) (y : State) (ps : List (List ℕ))
-    → receive x now port draw q room ≡ link.accepted y ps
-    → (p : List ℕ)
-    → Among p ps
-    → Taken p
-received-taken x now port draw q room y ps e p h =
-    let a = receive-accepted x now port draw q room (receive-is x now port draw q room y ps e .none-refused) in
-    let of : Of x (x .setup) = record { setup = refl; valid = right-setup x (a .right) } in
-    all-taken ps _ (received (x .setup) x now port draw q room y ps of e .2 .2 .packets) p h
+    (x : State) (a : Arrival) (y : State) (ps : List Parcel) → receive x a ≡ link.accepted y ps → (p : Parcel) → Among p ps → Taken (p .bytes)
+received-taken x a y ps e p h =
+    let g = receive-accepted x a (receive-is x a y ps e .none-refused) in
+    let of : Of x (x .setup) = record { setup = refl; valid = right-setup x (g .right) } in
+    all-taken ps _ (received (x .setup) x a y ps of e .1 .3 .reads) p h

@@ -1,9 +1,10 @@
--- Three lists on which the theorem says something: a responder alone, as late as the premises allow; two that want one instance name with different SRV
--- data, one after the other; and two at once, with refused calls, a power cut and a new start. Assumes nothing: these are definitions.
-use mathlib.Core.Bool.{Bool, true, false}
+-- Four lists on which the theorem says something: a responder alone, as late as the premises allow; two that want one instance name with different SRV
+-- data, one after the other; two at once, with refused calls, a power cut and a new start; and three, of which one answers a question for its service,
+-- gives its name up to a stranger and takes it again. Assumes nothing: these are definitions.
+use mathlib.Core.Bool.{false}
 use mathlib.Core.List.{List, [], _∷_}
 use lib.ListN.{replicate}
-use Prim.Native.Nat.{ℕ, _+_}
+use Prim.Native.Nat.{ℕ, _+_, _-_}
 use Rattle.own.specs.declared.records.Setup.{Setup}
 use Rattle.claims.specs.records.Sets.{only, atOnce, recordsOf}
 use Rattle.claims.specs.declared.records.Claim.the-variants.{Instance, Host}
@@ -13,10 +14,10 @@ use Rattle.writer.specs.own_packets.Own.{responsePacket, probePacket}
 use Rattle.link.specs.Entries.{Call, starts, ticks, receives, cut, Entry}
 use Rattle.uniqueness.specs.Responder.{responder}
 
--- instance "A" of "_x._udp.local", a host of one letter, its port, an empty TXT string, 10.0.0.7, no AAAA
-unfoldable pub setupOf : ℕ → ℕ → Setup
-setupOf host port = record {
-  instance = record { bytes = 0x41 ∷ replicate 62 0; len = 1 };
+-- an instance of one letter of "_x._udp.local", a host of one letter, its port, an empty TXT string, 10.0.0.7, no AAAA
+unfoldable pub setupOf : ℕ → ℕ → ℕ → Setup
+setupOf instance host port = record {
+  instance = record { bytes = instance ∷ replicate 62 0; len = 1 };
   service = record { bytes = 0x5f ∷ 0x78 ∷ replicate 14 0; len = 2 };
   protocol = 0x5f ∷ 0x75 ∷ 0x64 ∷ 0x70 ∷ [];
   host = record { bytes = host ∷ replicate 62 0; len = 1 };
@@ -28,12 +29,20 @@ setupOf host port = record {
   aaaa = replicate 16 0;
 }
 
--- hosts "h" and "i", ports 515 and 516
+-- instance "A", hosts "h" and "i", ports 515 and 516
 abbrev pub one : Setup
-one = setupOf 0x68 515
+one = setupOf 0x41 0x68 515
 
 abbrev pub other : Setup
-other = setupOf 0x69 516
+other = setupOf 0x41 0x69 516
+
+-- instance "B", host "j"
+abbrev pub third : Setup
+third = setupOf 0x42 0x6a 517
+
+-- a device that is no responder of the list, with the instance "A" and host "k"
+abbrev pub stranger : Setup
+stranger = setupOf 0x41 0x6b 518
 
 -- what answers a probe for the instance name; its first announcement has PTR too
 abbrev pub srvAndTxt : Set
@@ -44,10 +53,10 @@ at t c = record { time = t; call = c }
 
 -- the clock of a responder that is so far ahead of the link's time
 abbrev pub tickAt : ℕ → ℕ → ℕ → Entry responder
-tickAt d ahead t = at t (ticks d (t + ahead) 1452)
+tickAt d ahead t = at t (ticks d (record { time = t + ahead; room = 1452 }))
 
 abbrev pub hearAt : ℕ → ℕ → ℕ → List ℕ → Entry responder
-hearAt d ahead t p = at t (receives d (t + ahead) 5353 20 p 1452)
+hearAt d ahead t p = at t (receives d (record { time = t + ahead; port = 5353; draw = 20; packet = p; room = 1452 }))
 
 -- The largest draw, and every step 50 ms late: both names are held 1,200 ms after the start.
 unfoldable pub alone : List (Entry responder)
@@ -109,7 +118,7 @@ rivals =
     ∷ hearAt 0 0 60 (probePacket other Host)
     ∷ hearAt 1 5000 100 (probePacket one Instance)
     ∷ hearAt 1 5000 100 (probePacket one Host)
-    ∷ at 120 (ticks 0 0 1452)
+    ∷ at 120 (ticks 0 (record { time = 0; room = 1452 }))
     ∷ tickAt 1 5000 250
     ∷ tickAt 1 5000 250
     ∷ tickAt 0 0 290
@@ -139,4 +148,69 @@ rivals =
     ∷ tickAt 30 0 1200
     ∷ hearAt 1 5000 1230 (probePacket one Host)
     ∷ tickAt 1 5000 1260
+    ∷ []
+
+-- a question for the PTR record of "_x._udp.local"
+unfoldable pub ptrQuery : List ℕ
+ptrQuery =
+    0 ∷ 0 ∷ 0 ∷ 0 ∷ 0 ∷ 1 ∷ 0 ∷ 0 ∷ 0 ∷ 0 ∷ 0 ∷ 0
+    ∷ 2 ∷ 0x5f ∷ 0x78 ∷ 4 ∷ 0x5f ∷ 0x75 ∷ 0x64 ∷ 0x70 ∷ 5 ∷ 0x6c ∷ 0x6f ∷ 0x63 ∷ 0x61 ∷ 0x6c ∷ 0 ∷ 0 ∷ 12 ∷ 0 ∷ 1 ∷ []
+
+-- the clock of a responder that is so far behind the link's time
+abbrev pub tickBehind : ℕ → ℕ → ℕ → Entry responder
+tickBehind d behind t = at t (ticks d (record { time = t - behind; room = 1452 }))
+
+abbrev pub hearBehind : ℕ → ℕ → ℕ → List ℕ → Entry responder
+hearBehind d behind t p = at t (receives d (record { time = t - behind; port = 5353; draw = 20; packet = p; room = 1452 }))
+
+-- The first holds its names, hears its own packets and answers a question for its service. A stranger's response with other data makes it give up the
+-- instance name; it probes again, against a second responder that wants the name, and holds it again: the second hears its probe, whose records are later,
+-- and is deferred, then its announcement, and loses. A third, with names of its own and a clock that is behind, starts meanwhile.
+unfoldable pub three : List (Entry responder)
+three =
+    at 0 (starts other 0 0)
+    ∷ tickAt 0 0 0
+    ∷ tickAt 0 0 0
+    ∷ hearAt 0 0 10 (probePacket other Instance)
+    ∷ tickAt 0 0 250
+    ∷ tickAt 0 0 250
+    ∷ tickAt 0 0 500
+    ∷ tickAt 0 0 500
+    ∷ tickAt 0 0 750
+    ∷ tickAt 0 0 750
+    ∷ hearAt 0 0 770 (responsePacket other (recordsOf Instance false))
+    ∷ tickAt 0 0 1750
+    ∷ tickAt 0 0 1750
+    ∷ hearAt 0 0 2760 ptrQuery
+    ∷ tickAt 0 0 2780
+    ∷ hearAt 0 0 2785 (responsePacket other (only Ptr))
+    ∷ at 2790 (starts one 7790 250)
+    ∷ hearAt 0 0 2800 (responsePacket stranger srvAndTxt)
+    ∷ tickAt 0 0 2800
+    ∷ hearAt 16 5000 2850 (probePacket other Instance)
+    ∷ tickAt 16 5000 3040
+    ∷ tickAt 16 5000 3040
+    ∷ tickAt 0 0 3050
+    ∷ hearAt 0 0 3060 (probePacket one Instance)
+    ∷ hearAt 0 0 3060 (probePacket one Host)
+    ∷ hearAt 16 5000 3070 (probePacket one Instance)
+    ∷ hearAt 16 5000 3100 (probePacket other Instance)
+    ∷ tickAt 16 5000 3290
+    ∷ tickAt 0 0 3300
+    ∷ hearAt 0 0 3310 (probePacket one Host)
+    ∷ at 3310 (starts third 310 250)
+    ∷ hearAt 16 5000 3400 (probePacket other Instance)
+    ∷ tickAt 16 5000 3540
+    ∷ tickAt 0 0 3550
+    ∷ hearAt 0 0 3560 (probePacket one Host)
+    ∷ hearBehind 30 3000 3560 (probePacket one Host)
+    ∷ tickBehind 30 3000 3560
+    ∷ tickBehind 30 3000 3560
+    ∷ hearAt 16 5000 3600 (responsePacket other (recordsOf Instance false))
+    ∷ hearBehind 30 3000 3600 (responsePacket other (recordsOf Instance false))
+    ∷ hearAt 0 0 3620 (probePacket third Instance)
+    ∷ hearAt 0 0 3620 (probePacket third Host)
+    ∷ hearAt 16 5000 3620 (probePacket third Instance)
+    ∷ hearAt 16 5000 3620 (probePacket third Host)
+    ∷ tickBehind 30 3000 3780
     ∷ []

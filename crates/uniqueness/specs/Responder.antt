@@ -1,12 +1,12 @@
--- Our responder (the dock of the specification) as a `Responder` of `link`: its calls are what the contracts of start, receive and tick give outright, its names and
--- data are the set-up's, and conflicting and later are the tests that receive itself makes. Assumes nothing: these are definitions.
+-- Our responder (the dock of the specification) as a `Responder` of `link`: its calls are what the contracts of start, receive and tick give outright, its
+-- names and data are the set-up's, and conflicting and later are the tests that receive itself makes. Assumes nothing: these are definitions.
 use mathlib.Core.Bool.{Bool, cond, _&&_}
 use mathlib.Core.Option.{Option, none, some}
-use mathlib.Core.List.{List, [], _∷_, _++_}
+use mathlib.Core.List.{List, [], _∷_, _++_, map}
 use Prim.Native.Nat.{ℕ}
 use lib.Dec.{eqb}
 use Rattle.wire.specs.case_folding.Fold.{sameName}
-use Rattle.wire.specs.message.Message.{Record, Message, isResponse, allRecords}
+use Rattle.wire.specs.message.Message.{Message, isResponse, allRecords}
 use Rattle.wire.specs.message.Layout.{Reads, read, refused, messageAt}
 use Rattle.own.specs.declared.records.Setup.{Setup}
 use Rattle.own.specs.records.Records.{hasRecord, ownRdata}
@@ -22,12 +22,14 @@ use Rattle.claims.specs.declared.steps.Step.{Step}
 use Rattle.wire.specs.Lists.{some as someOf}
 use Rattle.facts.specs.probe.Probe.{isProbe, under}
 use Rattle.facts.specs.Facts.{inConflict, claimName, theirsLater}
+use Rattle.responder.specs.Handed.{Arrival, Tick}
+use Rattle.responder.specs.Calls as calls
 use Rattle.responder.specs.Calls.{startOf, receivedPacket, receiveOf, tickedPacket, tickOf}
 use Rattle.responder.specs.declared.State.{State}
 use Rattle.responder.specs.declared.Answer.{Answer}
 use Rattle.responder.specs.declared.Answer.the-variants.{Refused, Quiet, Sent}
 use Rattle.link.specs.Responder as link
-use Rattle.link.specs.Responder.{Responder, Claim, instance, host}
+use Rattle.link.specs.Responder.{Responder, Claim, instance, host, Parcel}
 
 -- the two claims by the names that the own records' crate has for them
 abbrev pub ownClaim : Claim → own.Claim
@@ -42,21 +44,31 @@ begunBy (Refused n) x = none
 begunBy Quiet x = some x
 begunBy (Sent n) x = some x  -- never: a start sends nothing
 
--- what a call that may send answers: `p` is the packet that it lays over the out buffer, none where it is empty
+-- a parcel in `link`'s words
+abbrev pub destination : calls.Destination → link.Destination
+destination calls.multicast = link.everyone
+
+abbrev pub posted : calls.Parcel → Parcel
+posted p = record { to = destination (p .to); bytes = p .bytes }
+
+-- what is sent of a packet, nothing where it is empty
+abbrev pub sends : List ℕ → List Parcel
+sends p = map posted (calls.parcels p)
+
+-- what a call that may send answers: `p` is the packet that it lays over the out buffer, empty where it sends none
 abbrev pub answeredBy : Answer → State → List ℕ → link.Answer State
 answeredBy (Refused n) x p = link.refused
-answeredBy Quiet x p = link.accepted x []
-answeredBy (Sent n) x p = link.accepted x (p ∷ [])
+answeredBy Quiet x p = link.accepted x (sends p)
+answeredBy (Sent n) x p = link.accepted x (sends p)
 
 unfoldable pub start : Setup → ℕ → ℕ → Option State
 start s now draw = begunBy (startOf s now draw .answer) (startOf s now draw .state)
 
-unfoldable pub tick : State → ℕ → ℕ → link.Answer State
-tick x now room = answeredBy (tickOf x now room .answer) (tickOf x now room .state) (tickedPacket x now room)
+unfoldable pub tick : State → Tick → link.Answer State
+tick x t = answeredBy (tickOf x t .answer) (tickOf x t .state) (tickedPacket x t)
 
-unfoldable pub receive : State → ℕ → ℕ → ℕ → List ℕ → ℕ → link.Answer State
-receive x now port draw p room =
-    answeredBy (receiveOf x now port draw p room .answer) (receiveOf x now port draw p room .state) (receivedPacket x now port draw p room)
+unfoldable pub receive : State → Arrival → link.Answer State
+receive x a = answeredBy (receiveOf x a .answer) (receiveOf x a .state) (receivedPacket x a)
 
 -- a time, where there is one
 abbrev pub listed : When → List ℕ
@@ -81,8 +93,8 @@ ofType type (o ∷ os) = cond (eqb type (ownType o)) (some o) (ofType type os)
 
 -- "Claims: the instance name with SRV and TXT, the host name with A and AAAA": the claim's record of a type (SRV 33, TXT 16, A 1, AAAA 28).
 -- `claimed` has the records by which a message is tested below.
-unfoldable pub recordOf : Claim → ℕ → Option Own
-recordOf k type = ofType type (claimed (ownClaim k))
+unfoldable pub claimRecord : Claim → ℕ → Option Own
+claimRecord k type = ofType type (claimed (ownClaim k))
 
 -- its rdata, names expanded, if the set-up has the record (AAAA "may be missing")
 abbrev pub dataOf : Setup → Option Own → Option (List ℕ)
@@ -90,7 +102,7 @@ dataOf s none = none
 dataOf s (some r) = cond (hasRecord s r) (some (ownRdata s r)) none
 
 abbrev pub rdata : Setup → Claim → ℕ → Option (List ℕ)
-rdata s k type = dataOf s (recordOf k type)
+rdata s k type = dataOf s (claimRecord k type)
 
 -- the claim's name, uncompressed
 abbrev pub name : Setup → Claim → List ℕ
@@ -123,6 +135,12 @@ responder = record {
   Setup = Setup;
   State = State;
   Message = Message;
+  Tick = Tick;
+  Arrival = Arrival;
+  tickTime = λ t. t .time;
+  arrivalTime = λ a. a .time;
+  packet = λ a. a .packet;
+  port = λ a. a .port;
   start = start;
   tick = tick;
   receive = receive;

@@ -1,14 +1,13 @@
 -- What the proof of demand 3 reads of our responder: what an accepted call does, in messages; a claim's stage; when a record was last multicast. No part
 -- of the statement. Assumes nothing: these are definitions.
 use mathlib.Core.Path.{_≡_}
-use mathlib.Core.Bool.{Bool, true, false}
+use mathlib.Core.Bool.{true, false}
 use mathlib.Core.Option.{Option, none, some}
 use mathlib.Core.List.{List, [], _∷_}
 use Prim.Native.Nat.{ℕ, _≤_}
 use Rattle.wire.specs.message.Message.{Message, isResponse}
 use Rattle.own.specs.declared.records.Setup.{Setup}
 use Rattle.own.specs.records.Setups.{validSetup}
-use Rattle.own.specs.records.Records.{hasRecord}
 use Rattle.claims.specs.Time.{lastTime, sentOf}
 use Rattle.claims.specs.Claims as claims
 use Rattle.claims.specs.declared.records.Own.{Own}
@@ -23,13 +22,16 @@ use Rattle.claims.specs.declared.steps.Output.the-variants.{Nothing, Probe, Res
 use Rattle.claims.specs.answers.Answers as answers
 use Rattle.claims.specs.declared.answers.Received as heard
 use Rattle.facts.specs.Facts.{factsOf}
-use Rattle.writer.specs.own_packets.Own.{ownRecord, responseRecords, responseOf, probeOf}
+use Rattle.writer.specs.own_packets.Styles.{responseStyle, ownRecord}
+use Rattle.writer.specs.own_packets.Own.{responseRecords, responseOf, probeOf}
 use Rattle.responder.specs.Calls.{walkedOf}
 use Rattle.responder.specs.declared.State.{State}
 use Rattle.link.specs.Responder.{Claim}
+use Rattle.link.specs.Laws as law
 use Rattle.link.specs.Laws.{Rules, Stage, waiting, probing, held, apart}
 use Rattle.link.specs.Premises.{Among}
-use Rattle.uniqueness.specs.Responder.{ownClaim, recordOf, responder}
+use Rattle.responder.specs.Handed.{Arrival}
+use Rattle.uniqueness.specs.Responder.{ownClaim, claimRecord, responder}
 
 -- the messages of an output, at most one; none where it has no record
 abbrev pub unlessEmpty : List Own → Message → List Message
@@ -46,14 +48,20 @@ abbrev pub with : State → Progress → State
 with x progress = record { setup = x .setup; progress = progress }
 
 -- what a message does to a state
-abbrev pub told : State → ℕ → ℕ → Message → heard.Received
-told x now draw m = answers.receiveOf (x .progress) now draw (factsOf (x .setup) m) (x .setup .hasaaaa)
+abbrev pub told : State → Arrival → Message → heard.Received
+told x a m = answers.receiveOf (x .progress) (a .time) (a .draw) (factsOf (x .setup) m) (x .setup .hasaaaa)
 
-unfoldable pub ticks : State → ℕ → State × List Message
-ticks x now = (with x (walkedOf x now .progress), messagesFor (x .setup) (walkedOf x now .output))
+-- what an accepted call leaves and sends
+abbrev pub progressOf : State → law.Step responder → Progress
+progressOf x (law.ticks t) = walkedOf x (t .time) .progress
+progressOf x (law.hears a m) = told x a m .progress
 
-unfoldable pub hears : State → ℕ → ℕ → Message → State × List Message
-hears x now draw m = (with x (told x now draw m .progress), messagesFor (x .setup) (Response (told x now draw m .answers)))
+abbrev pub outputOf : State → law.Step responder → Output
+outputOf x (law.ticks t) = walkedOf x (t .time) .output
+outputOf x (law.hears a m) = Response (told x a m .answers)
+
+abbrev pub step : State → law.Step responder → State × List Message
+step x c = (with x (progressOf x c), messagesFor (x .setup) (outputOf x c))
 
 -- a claim's stage
 abbrev pub stageOf : ClaimState → Stage
@@ -81,29 +89,28 @@ timeIn sent (some r) = timeOf (sentOf r sent)
 -- the message is a response with the set-up's record of the claim and type
 pub record Carried (m : Message) (s : Setup) (k : Claim) (type : ℕ) : Type 0 where
   pub own : Own
-  pub owned : recordOf k type ≡ some own
+  pub owned : claimRecord k type ≡ some own
   pub response : isResponse (m .flags) ≡ true
-  pub member : Among (ownRecord s false own) (m .answers)
+  pub member : Among (ownRecord s responseStyle own) (m .answers)
 
 -- x is a state with the set-up s, which keeps the rules
 pub record Of (x : State) (s : Setup) : Type 0 where
   pub setup : x .setup ≡ s
   pub valid : validSetup (x .setup) ≡ true
 
--- and a call at time `now` is not refused as 1
-pub record Ready (x : State) (s : Setup) (now : ℕ) : Type 0 where
+-- and the call is not refused as 1
+pub record Ready (x : State) (s : Setup) (c : law.Step responder) : Type 0 where
   pub of : Of x s
-  pub time : now ≤ lastTime
+  pub time : law.timeOf responder c ≤ lastTime
 
 abbrev pub rules : Rules responder
 rules = record {
-  tick = ticks;
-  hear = hears;
+  step = step;
   Of = Of;
   Ready = Ready;
   Valid = λ s. validSetup s ≡ true;
   stage = λ x k. stageOf (claimAt x k);
-  multicast = λ x k type. timeIn (x .progress .sent) (recordOf k type);
+  multicast = λ x k type. timeIn (x .progress .sent) (claimRecord k type);
   probe = λ s k. probeOf s (ownClaim k);
   Carries = Carried;
 }

@@ -1,3 +1,4 @@
 -- Laws that belong to no one function.
 pub mod Strings
+pub mod Parts
 pub mod Fits

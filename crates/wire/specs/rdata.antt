@@ -1,2 +1,3 @@
 pub mod Rdata
+pub mod Readers
 pub mod Answers

@@ -6,7 +6,7 @@ ghost use Prim.Native.Nat.{_+_, _≤_};
 ghost use lib.ListN.{length, take, drop};
 ghost use Rattle.wire.specs.names.Names.{nameAt};
 ghost use Rattle.wire.specs.rdata.Rdata.{rdataAt};
-ghost use Rattle.wire.specs.expansion.Equal.{sameBytes, rdataIs, rdataSame};
+ghost use Rattle.wire.specs.expansion.Equal.{sameBytes, rdataIs};
 ghost use Rattle.wire.specs.expansion.Opened.{openedName, openedAt, viewOf, viewStart};
 use crate::message::RecordAt;
 
@@ -103,17 +103,4 @@ pub fn rdata_is(p: &[u8], f: RecordAt, other: &[u8]) -> bool
     let b = o.bytes;
     let n = o.len;
     same_bytes(view(p, &b, n, f), other)
-}
-
-// Whether the rdata of two records of one type are equal, the first in the packet `p` and the second in the packet `q`.
-pub fn same_rdata(p: &[u8], f: RecordAt, q: &[u8], g: RecordAt) -> bool
-    ensures { λ r. ⌜ r ≡ rdataSame (rdataAt (now (p .entry)) f) (rdataAt (now (q .entry)) g) ⌝ }
-{
-    if !crate::rdata::rdata_fits(q, g) {
-        return false;
-    }
-    let o = open(q, g);
-    let b = o.bytes;
-    let n = o.len;
-    rdata_is(p, f, view(q, &b, n, g))
 }

@@ -2,13 +2,17 @@
 // message once, and then walks a section with a cursor.
 ghost use mathlib.Core.Path.{_≡_};
 ghost use Rattle.wire.specs.message.Message.{ttlOf};
-ghost use Rattle.wire.specs.message.Layout.{questionRead, recordRead, questionAt, recordAt, listFrom, sectionsOf, plainHeader, messageAt, readOf};
+ghost use Rattle.wire.specs.message.Layout.{questionRead, recordRead, questionAt, recordAt, listFrom, sectionsOf, plainHeader, messageAt, readOf, refusalOf};
 ghost use Rattle.wire.specs.message.Places.{pastItem, pastList};
 ghost use Rattle.wire.specs.message.Readable.{wholeRead};
+ghost use Rattle.wire.specs.message.Refusals.{packetRefusal, messageFrom};
 
 pub const LEAST_MESSAGE: usize = 12;
 
 pub const MOST_MESSAGE: usize = 8972;
+
+// The port that messages come from.
+pub const MDNS_PORT: u16 = 5353;
 
 // A question as it lies: where its name starts and how long that is uncompressed, its type and class, and the offset past it.
 pub struct QuestionAt {
@@ -275,7 +279,8 @@ fn read_sections(p: &[u8]) -> MessageRead
 
 // The whole message: refused as 4, 5 or 6, in this order, or where its sections lie.
 pub fn read_message(p: &[u8]) -> MessageRead
-    ensures { λ r. ⌜ r ≡ readOf (messageAt (now (p .entry))) ⌝ }
+    ensures answer { λ r. ⌜ r ≡ readOf (messageAt (now (p .entry))) ⌝ }
+    ensures number { λ r. ⌜ refusalOf r ≡ packetRefusal (now (p .entry)) ⌝ }
 {
     if p.len() < LEAST_MESSAGE {
         return MessageRead::Refused(crate::refusals::LENGTH);
@@ -287,4 +292,20 @@ pub fn read_message(p: &[u8]) -> MessageRead
         return MessageRead::Refused(crate::refusals::HEADER);
     }
     read_sections(p)
+}
+
+// The message of a packet that came from a port: refused as 4, 5 or 6, in this order, or where its sections lie. From a wrong port nothing is read.
+pub fn read_from(p: &[u8], port: u16) -> MessageRead
+    ensures { λ r. ⌜ r ≡ readOf (messageFrom port (now (p .entry))) ⌝ }
+{
+    if p.len() < LEAST_MESSAGE {
+        return MessageRead::Refused(crate::refusals::LENGTH);
+    }
+    if MOST_MESSAGE < p.len() {
+        return MessageRead::Refused(crate::refusals::LENGTH);
+    }
+    if port != MDNS_PORT {
+        return MessageRead::Refused(crate::refusals::HEADER);
+    }
+    read_message(p)
 }

@@ -3,8 +3,10 @@
 ghost use mathlib.Core.Path.{_≡_};
 ghost use Prim.Native.Nat.{_+_, _<_};
 ghost use lib.ListN.{length};
+ghost use mathlib.Core.Bool.{false};
+ghost use Rattle.wire.specs.name_pieces.Pieces.{pieceAt};
 ghost use Rattle.wire.specs.names.Names.{nameAt, fromRun, ending, isName};
-ghost use Rattle.wire.specs.names.Answers.{Wrote, Chased, expanded, foundOf, nameIs};
+ghost use Rattle.wire.specs.names.Answers.{Wrote, isPointer, Chased, seenOf, expanded, foundOf, nameIs};
 use crate::name_pieces::Piece;
 
 // Where a name ends in place, and its uncompressed length.
@@ -28,7 +30,8 @@ pub struct Expanded {
 // The end of a chain of pointers: the first place, from `target` on, at which no pointer stands. A loop, so that a long chain takes no stack.
 fn chase(p: &[u8], target: usize, used: usize) -> usize
     requires { ⌜ used < 255 ⌝ }
-    ensures { λ r. ⌜ Chased (now (p .entry)) used target r ⌝ }
+    ensures chain { λ r. ⌜ Chased (now (p .entry)) used target r ⌝ }
+    ensures end { λ r. ⌜ isPointer (pieceAt (now (p .entry)) r r used) ≡ false ⌝ }
 {
     let mut run = target;
     loop {
@@ -105,7 +108,49 @@ pub fn expand(p: &[u8], at: usize) -> Expanded
     }
 }
 
+// The label walker that copies nothing: the rest of a name of which `used` bytes were read, in the run of labels that begins at `start`. `end` is past the
+// first pointer that was followed, and 0 until one was.
+fn pass(p: &[u8], start: usize, at: usize, used: usize, end: usize) -> Name
+    requires { ⌜ used < 255 ⌝ }
+    ensures { λ r. ⌜ r ≡ seenOf used end (fromRun (now (p .entry)) start at used) ⌝ }
+{
+    match crate::name_pieces::piece_at(p, start, at, used) {
+        Piece::Root => {
+            if end == 0 {
+                return Name::Found(Span {
+                    end: at + 1,
+                    len: used + 1,
+                });
+            }
+            Name::Found(Span { end, len: used + 1 })
+        }
+        Piece::Label(n) => pass(p, start, at + 1 + n, used + 1 + n, end),
+        Piece::Pointer(target) => jump(p, at, target, used, end),
+        Piece::Bad => Name::Malformed,
+    }
+}
+
+// Its pointer follower: the same for a pointer at `at`, whose target has been found good.
+fn jump(p: &[u8], at: usize, target: usize, used: usize, end: usize) -> Name
+    requires { ⌜ used < 255 ⌝ }
+    requires { ⌜ at + 1 < length (now p) ⌝ }
+    ensures { λ r. ⌜ r ≡ seenOf used end (ending (at + 2) (fromRun (now (p .entry)) target target used)) ⌝ }
+{
+    let run = chase(p, target, used);
+    if end == 0 {
+        return pass(p, run, run, used, at + 2);
+    }
+    pass(p, run, run, used, end)
+}
+
 // The name at an offset of a packet, without its bytes: nothing is copied.
+pub fn read_name(p: &[u8], at: usize) -> Name
+    ensures { λ r. ⌜ r ≡ foundOf (nameAt (now (p .entry)) at) ⌝ }
+{
+    pass(p, at, at, 0, 0)
+}
+
+// The same by a loop, which is faster: for the reading of a whole message.
 pub fn name_at(p: &[u8], at: usize) -> Name
     ensures { λ r. ⌜ r ≡ foundOf (nameAt (now (p .entry)) at) ⌝ }
 {

@@ -1,15 +1,14 @@
 // The rdata of a record (specification, 'Reading a message'), handed on as a part of the packet that starts in its middle, together with the whole
-// packet for pointers: whether it is as its type asks, and what it holds.
+// packet for pointers. The readers of an address, of an SRV and of a TXT's strings read such a part; whether rdata is as its type asks is what they say.
 ghost use mathlib.Core.Path.{_≡_};
 ghost use denote.Ref.{ptr};
 ghost use Prim.Native.Nat.{_+_, _≤_};
 ghost use lib.ListN.{length, take, drop};
-ghost use mathlib.Core.List.{[]};
-ghost use Rattle.wire.specs.names.Names.{nameAt};
-ghost use Rattle.wire.specs.names.Answers.{expanded};
-ghost use Rattle.wire.specs.rdata.Rdata.{stringsFill, formOf, rdataIn, rdataAt, endingName};
-ghost use Rattle.wire.specs.rdata.Answers.{fits, srvOf, startIn};
+ghost use Rattle.wire.specs.rdata.Rdata.{stringsFill, formOf, rdataIn, rdataAt};
+ghost use Rattle.wire.specs.rdata.Readers.{addressBytes, addressIn, stringAt, nameIn, srvIn};
+ghost use Rattle.wire.specs.rdata.Answers.{fits, startIn};
 use crate::message::RecordAt;
+use crate::names::Name;
 
 // The five types (RFC 1035, RFC 2782, RFC 3596).
 pub const A: u16 = 1;
@@ -28,11 +27,75 @@ pub struct Form {
     pub before: usize,
 }
 
-// The numbers in front of an SRV's target.
-pub struct SrvNumbers {
+// A string of a TXT as it lies: where its text starts, how long that is, and where the next string starts.
+pub struct StringAt {
+    pub text: usize,
+    pub len: usize,
+    pub next: usize,
+}
+
+// What stands at a place of a TXT: a string, the end of the TXT, or a string that runs past it.
+pub enum StringRead {
+    Found(StringAt),
+    End,
+    Malformed,
+}
+
+// An SRV as it lies: its numbers, and where in the packet its target starts and how long that is uncompressed.
+pub struct SrvAt {
     pub priority: u16,
     pub weight: u16,
     pub port: u16,
+    pub target: usize,
+    pub span: usize,
+}
+
+pub enum SrvRead {
+    Found(SrvAt),
+    Malformed,
+}
+
+// How many bytes the address of a type has: 4 of an A, 16 of an AAAA, and 0 where it has none.
+fn address_bytes(rtype: u16) -> usize
+    ensures { λ r. ⌜ r ≡ addressBytes rtype ⌝ }
+{
+    if rtype == A {
+        return 4;
+    }
+    if rtype == AAAA {
+        return 16;
+    }
+    0
+}
+
+// The address in `d`, the rdata of a type: the part itself, and the empty part at its start where it is no address.
+pub fn address_in<'a>(d: &'a [u8], rtype: u16) -> &'a [u8]
+    ensures bytes { λ r. ⌜ now r ≡ addressIn rtype (now (d .entry)) ⌝ }
+    ensures start { λ r. ⌜ ptr r ≡ ptr (d .entry) ⌝ }
+{
+    if d.len() == address_bytes(rtype) {
+        return d;
+    }
+    &d[..0]
+}
+
+// The string at a place of `d`, the rdata of a TXT.
+pub fn string_at(d: &[u8], at: usize) -> StringRead
+    ensures { λ r. ⌜ r ≡ stringAt (now (d .entry)) at ⌝ }
+{
+    if d.len() <= at {
+        return StringRead::End;
+    }
+    let len = d[at] as usize;
+    let text = at + 1;
+    if d.len() - text < len {
+        return StringRead::Malformed;
+    }
+    StringRead::Found(StringAt {
+        text,
+        len,
+        next: text + len,
+    })
 }
 
 // Whether strings, each after its length byte, fill the data exactly.
@@ -40,24 +103,58 @@ pub fn strings_fill(d: &[u8]) -> bool
     ensures { λ r. ⌜ r ≡ stringsFill 0 (now (d .entry)) ⌝ }
 {
     let mut at = 0;
-    while at < d.len() {
-        let n = d[at] as usize;
-        let left = d.len() - at - 1;
-        if left < n {
-            return false;
+    loop {
+        match string_at(d, at) {
+            StringRead::Found(s) => {
+                at = s.next;
+            }
+            StringRead::End => {
+                return true;
+            }
+            StringRead::Malformed => {
+                return false;
+            }
         }
-        at = at + 1 + n;
     }
-    true
 }
 
-// Whether the name at an offset ends at another.
-fn name_ends(p: &[u8], at: usize, end: usize) -> bool
-    ensures { λ r. ⌜ r ≡ fits (endingName [] end (nameAt (now (p .entry)) at)) ⌝ }
+// The name behind `before` bytes of `d`, the part of `p` that starts at `at`, if it ends exactly where the part does.
+pub fn name_in(p: &[u8], at: usize, d: &[u8], before: usize) -> Name
+    ensures { λ r. ⌜ r ≡ nameIn (now (p .entry)) at (now (d .entry)) before ⌝ }
 {
-    match crate::names::name_at(p, at) {
-        crate::names::Name::Found(span) => span.end == end,
-        crate::names::Name::Malformed => false,
+    if p.len() < at {
+        return Name::Malformed;
+    }
+    if p.len() - at < d.len() {
+        return Name::Malformed;
+    }
+    if d.len() < before {
+        return Name::Malformed;
+    }
+    match crate::names::name_at(p, at + before) {
+        Name::Found(span) => {
+            if span.end == at + d.len() {
+                return Name::Found(span);
+            }
+            Name::Malformed
+        }
+        Name::Malformed => Name::Malformed,
+    }
+}
+
+// The SRV in `d`, the part of `p` that starts at `at`: priority, weight, port and target.
+pub fn srv_in(p: &[u8], at: usize, d: &[u8]) -> SrvRead
+    ensures { λ r. ⌜ r ≡ srvIn (now (p .entry)) at (now (d .entry)) ⌝ }
+{
+    match name_in(p, at, d, 6) {
+        Name::Found(span) => SrvRead::Found(SrvAt {
+            priority: crate::octets::be16(d, 0),
+            weight: crate::octets::be16(d, 2),
+            port: crate::octets::be16(d, 4),
+            target: at + 6,
+            span: span.len,
+        }),
+        Name::Malformed => SrvRead::Malformed,
     }
 }
 
@@ -89,24 +186,29 @@ fn part_fits(p: &[u8], d: &[u8], f: RecordAt) -> bool
     requires { ⌜ f .rdata + length (now d) ≤ length (now p) ⌝ }
     ensures { λ r. ⌜ r ≡ fits (rdataIn (now (p .entry)) f (now (d .entry))) ⌝ }
 {
-    let n = d.len();
     if f.rtype == A {
-        return n == 4;
+        return address_in(d, A).len() == 4;
     }
     if f.rtype == TXT {
         return strings_fill(d);
     }
     if f.rtype == AAAA {
-        return n == 16;
+        return address_in(d, AAAA).len() == 16;
+    }
+    if f.rtype == SRV {
+        return match srv_in(p, f.rdata, d) {
+            SrvRead::Found(_) => true,
+            SrvRead::Malformed => false,
+        };
     }
     let held = form_of(f.rtype);
     if !held.named {
         return true;
     }
-    if n < held.before {
-        return false;
+    match name_in(p, f.rdata, d, held.before) {
+        Name::Found(_) => true,
+        Name::Malformed => false,
     }
-    name_ends(p, f.rdata + held.before, f.rdata + n)
 }
 
 // Whether the rdata of a record as it lies is as its type asks.
@@ -124,17 +226,6 @@ pub fn rdata_fits(p: &[u8], f: RecordAt) -> bool
     part_fits(p, &p[at..end], f)
 }
 
-// The numbers of an SRV, from the part that is its rdata.
-pub fn srv_numbers(d: &[u8]) -> SrvNumbers
-    ensures { λ r. ⌜ r ≡ srvOf (now (d .entry)) ⌝ }
-{
-    SrvNumbers {
-        priority: crate::octets::be16(d, 0),
-        weight: crate::octets::be16(d, 2),
-        port: crate::octets::be16(d, 4),
-    }
-}
-
 // The rdata itself, as a part of the packet: the address of an A or AAAA record, the strings of a TXT. What lies past the packet's end is left out.
 pub fn part<'a>(p: &'a [u8], at: usize, len: usize) -> &'a [u8]
     ensures bytes { λ r. ⌜ now r ≡ take len (drop at (now (p .entry))) ⌝ }
@@ -149,18 +240,4 @@ pub fn part<'a>(p: &'a [u8], at: usize, len: usize) -> &'a [u8]
     }
     let end = at + len;
     &p[at..end]
-}
-
-// The target of a PTR or an SRV, expanded.
-pub fn target(p: &[u8], f: RecordAt) -> crate::names::Expanded
-    ensures { λ r. ⌜ r ≡ expanded (nameAt (now (p .entry)) (f .rdata + formOf (f .rtype) .before)) ⌝ }
-{
-    let held = form_of(f.rtype);
-    if p.len() < f.rdata {
-        return crate::names::expand(p, p.len());
-    }
-    if p.len() - f.rdata < held.before {
-        return crate::names::expand(p, p.len());
-    }
-    crate::names::expand(p, f.rdata + held.before)
 }

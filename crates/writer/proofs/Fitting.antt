@@ -1,22 +1,25 @@
--- Whether a name, rdata or a record fits, test by test. Assumes nothing.
+-- Whether a record is fit, and whether there is room for a name or a record, test by test. Assumes nothing.
 use mathlib.Core.Path.{_≡_, refl, sym, ap, _∙_}
 use mathlib.Core.List.{List, [], _∷_, _++_}
 use mathlib.Core.Bool.{Bool, true, false, cond, _&&_, and-false, and-true}
 use Prim.Native.Nat.{ℕ, _+_, _-_, _<_, _≤_}
 use native.Mathlib.Omega.{arith}
-use borrow.Author.Tests.{le-leb, lt-leb, leb-true, leb-false}
+use borrow.Author.Tests.{le-leb, lt-leb, leb-true, leb-false, lt-ltb, ltb-true, eq-eqb, ne-eqb}
 use lib.ListN.{length, take, drop, length-drop, drop-of-length-le}
 use lib.Seq.{take-all}
-use lib.Dec.{leb}
+use lib.Dec.{leb, ltb, eqb}
+use mathlib.Mathlib.Data.Bool.Basic.{and-eq-true-eq-eq-true-and-eq-true as both}
 use Rattle.wire.specs.names.Names.{isName}
-use Rattle.wire.specs.rdata.Rdata.{formOf}
+use Rattle.wire.specs.rdata.Rdata.{stringsFill, formOf}
 use Rattle.wire.specs.declared.rdata.Form.{Form}
 use Rattle.writer.specs.compression.Compression.{labelsIn, starts}
 use Rattle.writer.specs.declared.Spot.{Spot}
+use Rattle.writer.specs.declared.Room.{Room}
 use Rattle.writer.specs.declared.Placed.{Placed}
-use Rattle.writer.specs.declared.Placed.the-variants.{Done, Full}
+use Rattle.writer.specs.declared.Placed.the-variants.{Done, Full, Unfit}
 use Rattle.writer.specs.Items.{Writing}
-use Rattle.writer.specs.Writer.{spotOf, namesFit, labelsFor, nameFits, recordFits, Placing, Grown}
+use Rattle.writer.specs.Writer.{spotOf, labelsFor, nameFits, recordFits, Placing, Grown}
+use Rattle.writer.specs.Fit.{isShaped, fitRecord}
 
 -- a test with a sum moved to the other side
 moved : (x c s : ℕ) → c ≤ s → leb x (s - c) ≡ leb (c + x) s
@@ -26,35 +29,107 @@ moved x c s h = go (leb (c + x) s) refl
     go true e = let k : c + x ≤ s = leb-true _ _ e in le-leb x (s - c) (omega arith)
     go false e = let k : s < c + x = leb-false _ _ e in lt-leb x (s - c) (omega arith)
 
-module _ (at count : ℕ) (name : List ℕ) (more also room slots : ℕ) where
-  pub not-named : (v : Bool) → v ≡ isName name → v ≡ false → false ≡ nameFits at count name more also room slots
+module _ (r : Room) (name : List ℕ) (more also : ℕ) where
+  pub no-room : r .len < r .at + length name + more → false ≡ nameFits r name more also
   unfolding nameFits
-  not-named v is t = sym (simp (sym is ∙ t))
+  no-room h = sym (simp (lt-leb _ _ h))
 
-  pub no-room : room < at + length name + more → false ≡ nameFits at count name more also room slots
+  pub no-pointer : 16384 < r .at + length name → false ≡ nameFits r name more also
   unfolding nameFits
-  no-room h = sym (simp (lt-leb _ _ h) (and-false (isName name)))
+  no-pointer h = sym (simp (lt-leb _ _ h) (and-false (leb (r .at + length name + more) (r .len))))
 
-  pub no-pointer : 16384 < at + length name → false ≡ nameFits at count name more also room slots
-  unfolding nameFits
-  no-pointer h = sym (simp (lt-leb _ _ h, and-false (leb (at + length name + more) room)) (and-false (isName name)))
-
-  pub no-slots : slots < count + labelsIn name + also → false ≡ nameFits at count name more also room slots
+  pub no-slots : r .slots < r .count + labelsIn name + also → false ≡ nameFits r name more also
   unfolding nameFits
   no-slots h =
       sym
-      (ap (λ (b : Bool). isName name && (leb (at + length name + more) room && (leb (at + length name) 16384 && b))) (lt-leb _ _ h)
-      ∙ ap (λ (b : Bool). isName name && (leb (at + length name + more) room && b)) (and-false (leb (at + length name) 16384))
-      ∙ ap (λ (b : Bool). isName name && b) (and-false (leb (at + length name + more) room)) ∙ and-false (isName name))
+      (ap (λ (b : Bool). leb (r .at + length name + more) (r .len) && (leb (r .at + length name) 16384 && b)) (lt-leb _ _ h)
+      ∙ ap (λ (b : Bool). leb (r .at + length name + more) (r .len) && b) (and-false (leb (r .at + length name) 16384))
+      ∙ and-false (leb (r .at + length name + more) (r .len)))
 
-  pub by-slots : (v : Bool) → v ≡ isName name → v ≡ true → at + length name + more ≤ room → at + length name ≤ 16384 → (n : ℕ) → n ≡ labelsIn name → count + n ≤ slots
-      → leb also (slots - count - n) ≡ nameFits at count name more also room slots
+  pub by-slots : r .at + length name + more ≤ r .len → r .at + length name ≤ 16384 → (n : ℕ) → n ≡ labelsIn name → r .count + n ≤ r .slots
+      → leb also (r .slots - r .count - n) ≡ nameFits r name more also
   unfolding nameFits
-  by-slots v is t h k n e l =
-      let d : slots - count - n ≡ slots - (count + n) = omega arith in
-      sym (simp (sym is ∙ t, le-leb _ _ h, le-leb _ _ k) (ap (λ (m : ℕ). leb (count + m + also) slots) (sym e) ∙ sym (moved also (count + n) slots l) ∙ ap (leb also) (sym d)))
+  by-slots h k n e l =
+      let d : r .slots - r .count - n ≡ r .slots - (r .count + n) = omega arith in
+      sym (simp (le-leb _ _ h, le-leb _ _ k)
+      (ap (λ (m : ℕ). leb (r .count + m + also) (r .slots)) (sym e) ∙ sym (moved also (r .count + n) (r .slots) l) ∙ ap (leb also) (sym d)))
 
--- the name in rdata
+-- rdata as its type asks: by its form where it holds a name, else by its type
+module _ (rtype : ℕ) (d : List ℕ) (g : Form) (same : g ≡ formOf rtype) where
+  form-named : g .named ≡ formOf rtype .named
+  form-named = ap (λ (y : Form). y .named) same
+
+  form-before : g .before ≡ formOf rtype .before
+  form-before = ap (λ (y : Form). y .before) same
+
+  module _ (t : g .named ≡ true) where
+    pub too-short : length d < g .before → false ≡ isShaped rtype d
+    unfolding isShaped
+    too-short h =
+        let k : length d < formOf rtype .before = omega (arith, form-before) in
+        sym (simp (sym form-named ∙ t, lt-leb (formOf rtype .before) (length d) k))
+
+    pub by-name : g .before ≤ length d → (w : Bool) → w ≡ isName (take (length d - g .before) (drop (g .before) d)) → w ≡ isShaped rtype d
+    unfolding isShaped
+    by-name h w e =
+        let k : formOf rtype .before ≤ length d = omega (arith, form-before) in
+        let rest : take (length d - g .before) (drop (g .before) d) ≡ drop (formOf rtype .before) d =
+        take-all (length d - g .before) (drop (g .before) d) (omega (arith, length-drop (g .before) d)) ∙ ap (λ (n : ℕ). drop n d) form-before in
+        sym (simp (sym form-named ∙ t, le-leb (formOf rtype .before) (length d) k) (sym (e ∙ ap isName rest)))
+
+  module _ (t : g .named ≡ false) where
+    pub by-four : rtype ≡ 1 → eqb (length d) 4 ≡ isShaped rtype d
+    unfolding isShaped
+    by-four e = sym (simp (sym form-named ∙ t, eq-eqb _ _ e))
+
+    module _ (a : rtype ≡ 1 → ⊥) where
+      pub by-strings : rtype ≡ 16 → (w : Bool) → w ≡ stringsFill 0 d → w ≡ isShaped rtype d
+      unfolding isShaped
+      by-strings e w is = sym (simp (sym form-named ∙ t, ne-eqb _ _ a, eq-eqb _ _ e) (sym is))
+
+      module _ (b : rtype ≡ 16 → ⊥) where
+        pub by-sixteen : rtype ≡ 28 → eqb (length d) 16 ≡ isShaped rtype d
+        unfolding isShaped
+        by-sixteen e = sym (simp (sym form-named ∙ t, ne-eqb _ _ a, ne-eqb _ _ b, eq-eqb _ _ e))
+
+        pub by-other : (rtype ≡ 28 → ⊥) → true ≡ isShaped rtype d
+        unfolding isShaped
+        by-other e = sym (simp (sym form-named ∙ t, ne-eqb _ _ a, ne-eqb _ _ b, ne-eqb _ _ e))
+
+-- a record that is fit, test by test
+module _ (owner : List ℕ) (rtype ttl : ℕ) (d : List ℕ) where
+  pub fit-parts : fitRecord owner rtype ttl d ≡ true → (isName owner ≡ true) × (isShaped rtype d ≡ true) × (length d ≤ 65535) × (ttl < 2147483648)
+  unfolding fitRecord
+  fit-parts h =
+      let f = both (isName owner) (isShaped rtype d && (leb (length d) 65535 && ltb ttl 2147483648)) .0 h in
+      let g = both (isShaped rtype d) (leb (length d) 65535 && ltb ttl 2147483648) .0 (f .1) in
+      let k = both (leb (length d) 65535) (ltb ttl 2147483648) .0 (g .1) in
+      (f .0, g .0, leb-true _ _ (k .0), ltb-true _ _ (k .1))
+
+  pub fit-of : isName owner ≡ true → isShaped rtype d ≡ true → length d ≤ 65535 → ttl < 2147483648 → fitRecord owner rtype ttl d ≡ true
+  unfolding fitRecord
+  fit-of a b l t = simp (a, b, le-leb _ _ l, lt-ltb _ _ t)
+
+  module _ (u : Bool) (eu : u ≡ isName owner) where
+    pub unnamed : u ≡ false → false ≡ fitRecord owner rtype ttl d
+    unfolding fitRecord
+    unnamed t = sym (simp (sym eu ∙ t))
+
+    module _ (tu : u ≡ true) (v : Bool) (ev : v ≡ isShaped rtype d) where
+      pub misshaped : v ≡ false → false ≡ fitRecord owner rtype ttl d
+      unfolding fitRecord
+      misshaped t = sym (simp (sym eu ∙ tu, sym ev ∙ t))
+
+      module _ (tv : v ≡ true) where
+        pub too-long : 65535 < length d → false ≡ fitRecord owner rtype ttl d
+        unfolding fitRecord
+        too-long h = sym (simp (sym eu ∙ tu, sym ev ∙ tv, lt-leb _ _ h))
+
+        pub by-ttl : length d ≤ 65535 → ltb ttl 2147483648 ≡ fitRecord owner rtype ttl d
+        unfolding fitRecord
+        by-ttl h = sym (simp (sym eu ∙ tu, sym ev ∙ tv, le-leb _ _ h))
+
+-- the labels of the name in rdata
 module _ (rtype : ℕ) (d : List ℕ) (g : Form) (same : g ≡ formOf rtype) where
   is : g .named ≡ formOf rtype .named
   is = ap (λ (y : Form). y .named) same
@@ -65,25 +140,13 @@ module _ (rtype : ℕ) (d : List ℕ) (g : Form) (same : g ≡ formOf rtype) whe
   hd : n ≡ formOf rtype .before
   hd = ap (λ (y : Form). y .before) same
 
-  pub no-name : g .named ≡ false → true ≡ namesFit rtype d
-  unfolding namesFit
-  no-name t = sym (simp (sym is ∙ t))
-
   pub no-labels : g .named ≡ false → 0 ≡ labelsFor rtype d
   unfolding labelsFor
   no-labels t = sym (simp (sym is ∙ t))
 
   module _ (t : g .named ≡ true) where
-    pub too-short : length d < n → false ≡ namesFit rtype d
-    unfolding namesFit
-    too-short h = let k : length d < formOf rtype .before = omega (arith, hd) in sym (simp (sym is ∙ t, lt-leb (formOf rtype .before) (length d) k))
-
     rest : take (length d - n) (drop n d) ≡ drop (formOf rtype .before) d
     rest = take-all (length d - n) (drop n d) (omega (arith, length-drop n d)) ∙ ap (λ (k : ℕ). drop k d) hd
-
-    pub by-name : n ≤ length d → (w : Bool) → w ≡ isName (take (length d - n) (drop n d)) → w ≡ namesFit rtype d
-    unfolding namesFit
-    by-name h w e = let k : formOf rtype .before ≤ length d = omega (arith, hd) in sym (simp (sym is ∙ t, le-leb (formOf rtype .before) (length d) k) (sym (e ∙ ap isName rest)))
 
     pub none-there : length d < n → 0 ≡ labelsFor rtype d
     unfolding labelsFor starts
@@ -93,28 +156,32 @@ module _ (rtype : ℕ) (d : List ℕ) (g : Form) (same : g ≡ formOf rtype) whe
     unfolding labelsFor
     by-labels m e = sym (simp (sym is ∙ t) (sym (e ∙ ap labelsIn rest)))
 
--- a record
-module _ (at count : ℕ) (owner : List ℕ) (rtype : ℕ) (d : List ℕ) (room slots : ℕ) (v : Bool) (is : v ≡ namesFit rtype d) where
-  pub bad-data : v ≡ false → false ≡ recordFits at count owner rtype d room slots
-  unfolding recordFits
-  bad-data t = sym (simp (sym is ∙ t))
+-- a record: its owner with the rest behind it
+pub by-owner : (room : Room) (owner : List ℕ) (rtype : ℕ) (d : List ℕ) (n : ℕ) → n ≡ labelsFor rtype d
+    → (w : Bool) → w ≡ nameFits room owner (10 + length d) n → w ≡ recordFits room owner rtype d
+unfolding recordFits
+by-owner room owner rtype d n e w k = k ∙ ap (nameFits room owner (10 + length d)) e
 
-  module _ (t : v ≡ true) where
-    pub long-data : 65535 < length d → false ≡ recordFits at count owner rtype d room slots
-    unfolding recordFits
-    long-data h = sym (simp (sym is ∙ t, lt-leb _ _ h))
+-- the three answers
+module _ (fit fits : Bool) (w : Writing) (o pl : List ℕ) (a : Bool) (ia : a ≡ fit) where
+  pub placed-unfit : a ≡ false → Placing fit fits w o pl Unfit o pl
+  placed-unfit t = let f : fit ≡ false = sym ia ∙ t in record { answer = sym (simp f); bytes = sym (simp f); places = sym (simp f) }
 
-    pub by-owner : length d ≤ 65535 → (n : ℕ) → n ≡ labelsFor rtype d → (w : Bool) → w ≡ nameFits at count owner (10 + length d) n room slots → w ≡ recordFits at count owner rtype d room slots
-    unfolding recordFits
-    by-owner h n e w k = sym (simp (sym is ∙ t, le-leb _ _ h) (ap (λ (m : ℕ). nameFits at count owner (10 + length d) m room slots) (sym e) ∙ sym k))
+  module _ (ta : a ≡ true) (b : Bool) (ib : b ≡ fits) where
+    is-fit : fit ≡ true
+    is-fit = sym ia ∙ ta
 
--- the two answers
-module _ (fits : Bool) (w : Writing) (o pl : List ℕ) (b : Bool) (is : b ≡ fits) where
-  pub placed-full : b ≡ false → Placing fits w o pl Full o pl
-  placed-full t = let f : fits ≡ false = sym is ∙ t in record { answer = sym (simp f); bytes = sym (simp f); places = sym (simp f) }
+    pub placed-full : b ≡ false → Placing fit fits w o pl Full o pl
+    placed-full t =
+        let f : fits ≡ false = sym ib ∙ t in
+        record { answer = sym (simp (is-fit, f)); bytes = sym (simp (is-fit, f)); places = sym (simp (is-fit, f)) }
 
-  pub placed-done : b ≡ true → (r : Spot) (o′ pl′ : List ℕ) → Grown w o pl r o′ pl′ → Placing fits w o pl (Done r) o′ pl′
-  placed-done t r o′ pl′ g =
-      let f : fits ≡ true = sym is ∙ t in
-      let e : r ≡ spotOf (length (w .bytes)) (length (w .places)) = λ i. spotOf (g .ended i) (g .counted i) in
-      record { answer = sym (simp f (ap Done (sym e))); bytes = sym (simp f (sym (g .bytes))); places = sym (simp f (sym (g .places))) }
+    pub placed-done : b ≡ true → (r : Spot) (o′ pl′ : List ℕ) → Grown w o pl r o′ pl′ → Placing fit fits w o pl (Done r) o′ pl′
+    placed-done t r o′ pl′ g =
+        let f : fits ≡ true = sym ib ∙ t in
+        let e : r ≡ spotOf (length (w .bytes)) (length (w .places)) = λ i. spotOf (g .ended i) (g .counted i) in
+        record {
+          answer = sym (simp (is-fit, f) (ap Done (sym e)));
+          bytes = sym (simp (is-fit, f) (sym (g .bytes)));
+          places = sym (simp (is-fit, f) (sym (g .places)));
+        }

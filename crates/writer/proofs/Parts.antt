@@ -1,33 +1,62 @@
 -- Records and questions written part by part: a name, ten or four bytes, and rdata. Assumes nothing.
-use mathlib.Core.Path.{_≡_, sym, ap, ap₂, _∙_}
-use mathlib.Core.List.{List, _++_, append-assoc}
-use mathlib.Core.Bool.{true, _&&_}
+use mathlib.Core.Path.{_≡_, refl, sym, ap, ap₂, _∙_}
+use mathlib.Core.List.{List, [], _++_, append-assoc}
+use mathlib.Core.Bool.{Bool, true, false, cond, _&&_, and-false}
 use Prim.Native.Nat.{ℕ, _+_, _-_, _<_, _≤_}
 use native.Mathlib.Omega.{arith}
-use borrow.Author.Tests.{leb-true}
+use borrow.Author.Tests.{leb-true, eq-eqb, ne-eqb}
 use lib.ListN.{length, take, drop, length-append}
 use lib.Seq.{sets, length-sets, length-take-le}
-use lib.Dec.{leb}
+use lib.Dec.{leb, eqb}
 use mathlib.Mathlib.Data.Bool.Basic.{and-eq-true-eq-eq-true-and-eq-true as both}
 use Rattle.wire.proofs.octets.Sets.{sets-append}
 use Rattle.wire.specs.names.Names.{isName}
 use Rattle.writer.specs.compression.Compression.{nameBytes, namePlaces, labelsIn}
 use Rattle.writer.proofs.compression.Written.{name-short, places-few}
 use Rattle.writer.specs.declared.Spot.{Spot}
-use Rattle.writer.specs.Items.{u16, fields, dataBytes, dataPlaces, putName, putFields, putRecord, putQuestion}
+use Rattle.writer.specs.Items.{u16, fields, dataBytes, dataPlaces, searched, triedFor, putName, putFields, putRecord, putQuestion}
 use Rattle.wire.specs.message.Message.{recordOf}
-use Rattle.writer.specs.Writer.{heldIn, spotOf, questionOf, namesFit, labelsFor, nameFits, recordFits, Wrote, Grown, NameReady, DataReady}
+use Rattle.writer.specs.Fit.{isShaped}
+use Rattle.writer.specs.Writer.{heldIn, spotOf, roomIn, questionOf, labelsFor, nameFits, recordFits, Wrote, Grown}
+use Rattle.writer.specs.Writer.{NameReady, DataReady, QuestionReady, RecordReady}
+use Rattle.writer.proofs.Fitting.{fit-parts}
 use Rattle.writer.proofs.Runs.{sets-swap, take-run, run-rest}
 use Rattle.writer.proofs.Rdata.{data-short, data-few}
 
 -- five runs of two bytes
-pub five : (o : List ℕ) (at a b c d e : ℕ) (o₁ o₂ o₃ o₄ o₅ : List ℕ) → o₁ ≡ sets o at (u16 a) → o₂ ≡ sets o₁ (at + 2) (u16 b) → o₃ ≡ sets o₂ (at + 4) (u16 c) → o₄ ≡ sets o₃ (at + 6) (u16 d)
+pub five : (o : List ℕ) (at a b c d e : ℕ) (o₁ o₂ o₃ o₄ o₅ : List ℕ) → o₁ ≡ sets o at (u16 a) → o₂ ≡ sets o₁ (at + 2) (u16 b) → o₃ ≡ sets o₂ (at + 4) (u16 c) →
+    o₄ ≡ sets o₃ (at + 6) (u16 d)
     → o₅ ≡ sets o₄ (at + 8) (u16 e) → o₅ ≡ sets o at (u16 a ++ u16 b ++ (u16 c ++ u16 d) ++ u16 e)
 five o at a b c d e o₁ o₂ o₃ o₄ o₅ h₁ h₂ h₃ h₄ h₅ =
     let s₂ : o₂ ≡ sets o at (u16 a ++ u16 b) = h₂ ∙ ap (λ (m : List ℕ). sets m (at + 2) (u16 b)) h₁ ∙ sets-append o at (u16 a) (u16 b) in
     let s₃ : o₃ ≡ sets o at (u16 a ++ u16 b ++ u16 c) = h₃ ∙ ap (λ (m : List ℕ). sets m (at + 4) (u16 c)) s₂ ∙ sets-append o at (u16 a ++ u16 b) (u16 c) in
-    let s₄ : o₄ ≡ sets o at (u16 a ++ u16 b ++ u16 c ++ u16 d) = h₄ ∙ ap (λ (m : List ℕ). sets m (at + 6) (u16 d)) s₃ ∙ sets-append o at (u16 a ++ u16 b ++ u16 c) (u16 d) in
+    let s₄ : o₄ ≡ sets o at (u16 a ++ u16 b ++ u16 c ++ u16 d) = h₄ ∙ ap (λ (m : List ℕ). sets m (at + 6) (u16 d)) s₃ ∙ sets-append o at
+    (u16 a ++ u16 b ++ u16 c) (u16 d) in
     h₅ ∙ ap (λ (m : List ℕ). sets m (at + 8) (u16 e)) s₄ ∙ sets-append o at (u16 a ++ u16 b ++ u16 c ++ u16 d) (u16 e)
+
+-- the places that are tried are those that are searched, and none besides those noted
+tried-searched : (whole : Bool) (rtype count t : ℕ) → t ≡ triedFor whole rtype count → (pl : List ℕ) → take t pl ≡ searched whole rtype (take count pl)
+tried-searched whole rtype count t e pl = ap (λ (k : ℕ). take k pl) e ∙ go (whole && eqb rtype 33)
+  where
+    go : (b : Bool) → take (cond b 0 count) pl ≡ cond b [] (take count pl)
+    go true = refl
+    go false = refl
+
+pub tried-all : (whole : Bool) (rtype count : ℕ) → whole ≡ false → count ≡ triedFor whole rtype count
+tried-all whole rtype count t = sym (simp t)
+
+pub tried-none : (whole : Bool) (rtype count : ℕ) → whole ≡ true → rtype ≡ 33 → 0 ≡ triedFor whole rtype count
+tried-none whole rtype count t e = sym (simp (t, eq-eqb _ _ e))
+
+pub tried-other : (whole : Bool) (rtype count : ℕ) → (rtype ≡ 33 → ⊥) → count ≡ triedFor whole rtype count
+tried-other whole rtype count n = sym (ap (λ (b : Bool). cond (whole && b) 0 count) (ne-eqb _ _ n) ∙ ap (λ (b : Bool). cond b 0 count) (and-false whole))
+
+tried-few : (whole : Bool) (rtype count t : ℕ) → t ≡ triedFor whole rtype count → t ≤ count
+tried-few whole rtype count t e = go (whole && eqb rtype 33) e
+  where
+    go : (b : Bool) → t ≡ cond b 0 count → t ≤ count
+    go true e = omega arith
+    go false e = omega arith
 
 -- what fits
 pub record NameRoom (at count : ℕ) (name : List ℕ) (more also : ℕ) (o pl : List ℕ) : Type 0 where
@@ -36,21 +65,22 @@ pub record NameRoom (at count : ℕ) (name : List ℕ) (more also : ℕ) (o pl :
   pub small : at + length name ≤ 16384
   pub slots : count + labelsIn name + also ≤ length pl
 
-pub name-room : (at count : ℕ) (name : List ℕ) (more also : ℕ) (o pl : List ℕ) → nameFits at count name more also (length o) (length pl) ≡ true → NameRoom at count name more also o pl
+pub name-room : (at count : ℕ) (name : List ℕ) (more also : ℕ) (o pl : List ℕ) → isName name ≡ true
+    → nameFits (roomIn o pl at count) name more also ≡ true → NameRoom at count name more also o pl
 unfolding nameFits
-name-room at count name more also o pl h =
-    let f = both (isName name) (leb (at + length name + more) (length o) && (leb (at + length name) 16384 && leb (count + labelsIn name + also) (length pl))) .0 h in
-    let g = both (leb (at + length name + more) (length o)) (leb (at + length name) 16384 && leb (count + labelsIn name + also) (length pl)) .0 (f .1) in
+name-room at count name more also o pl named h =
+    let g = both (leb (at + length name + more) (length o)) (leb (at + length name) 16384 && leb (count + labelsIn name + also) (length pl)) .0 h in
     let k = both (leb (at + length name) 16384) (leb (count + labelsIn name + also) (length pl)) .0 (g .1) in
-    record { named = f .0; room = leb-true _ _ (g .0); small = leb-true _ _ (k .0); slots = leb-true _ _ (k .1) }
+    record { named = named; room = leb-true _ _ (g .0); small = leb-true _ _ (k .0); slots = leb-true _ _ (k .1) }
 
 -- the name in front
 module _ (at count : ℕ) (name : List ℕ) (more also : ℕ) (o pl : List ℕ) (nr : NameRoom at count name more also o pl) where
-  pub name-ready : NameReady at at count name o pl
+  pub name-ready : NameReady at at count count name o pl
   name-ready = record {
     named = nr .named;
     known-before = omega arith;
     known-small = omega (arith, nr .small);
+    tried-noted = omega arith;
     room = omega (arith, nr .room);
     slots = omega (arith, nr .slots);
   }
@@ -132,12 +162,14 @@ module _ (at count : ℕ) (name : List ℕ) (more also : ℕ) (o pl : List ℕ) 
           same-spots = ap (λ (x : List ℕ). os ++ x) (sym moved)
 
     -- a record: ten bytes and the rdata
-    module _ (rtype : ℕ) (d : List ℕ) (fits : namesFit rtype d ≡ true) (short : length d ≤ 65535) (em : more ≡ 10 + length d) (ea : also ≡ labelsFor rtype d) where
-      pub data-ready : DataReady (a .end) (a .end + 10) (a .count) rtype d o₁ pl₁
+    module _ (rtype : ℕ) (d : List ℕ) (fits : isShaped rtype d ≡ true) (short : length d ≤ 65535) (em : more ≡ 10 + length d)
+        (ea : also ≡ labelsFor rtype d) (whole : Bool) (t : ℕ) (et : t ≡ triedFor whole rtype (a .count)) where
+      pub data-ready : DataReady (a .end) (a .end + 10) (a .count) t rtype d o₁ pl₁
       data-ready = record {
-        named = fits;
+        shaped = fits;
         known-before = omega arith;
         known-small = omega (arith, nr .small, first-end);
+        tried-noted = tried-few whole rtype (a .count) t et;
         room = omega (arith, first-room);
         slots = omega (arith, nr .slots, first-count, first-places);
       }
@@ -146,9 +178,10 @@ module _ (at count : ℕ) (name : List ℕ) (more also : ℕ) (o pl : List ℕ) 
       P = take (a .end) o₁
 
       abbrev OS : List ℕ
-      OS = take (a .count) pl₁
+      OS = take t pl₁
 
-      module _ (b : Spot) (o₂ pl₂ : List ℕ) (w₂ : Wrote (dataBytes P OS rtype d) (dataPlaces P OS (a .end + 10) rtype d) (a .end + 10) (a .count) o₁ pl₁ b o₂ pl₂) where
+      module _ (b : Spot) (o₂ pl₂ : List ℕ) (w₂ : Wrote (dataBytes P OS rtype d) (dataPlaces P OS (a .end + 10) rtype d) (a .end + 10) (a .count) o₁ pl₁ b o₂
+          pl₂) where
         pub second-low : a .end + 10 ≤ b .end
         second-low = omega (arith, w₂ .ended)
 
@@ -159,13 +192,24 @@ module _ (at count : ℕ) (name : List ℕ) (more also : ℕ) (o pl : List ℕ) 
         fields-room = omega (arith, first-room, ap length (w₂ .bytes), length-sets o₁ (a .end + 10) (dataBytes P OS rtype d))
 
         pub record-grown : (class ttl : ℕ) (o₃ : List ℕ) → o₃ ≡ sets o₂ (a .end) (fields rtype class ttl (b .end - (a .end + 10)))
-            → Grown (putRecord (heldIn o pl at count) (recordOf name rtype class ttl d)) o pl b o₃ pl₂
+            → Grown (putRecord whole (heldIn o pl at count) (recordOf name rtype class ttl d)) o pl b o₃ pl₂
         unfolding putName putFields
         record-grown class ttl o₃ w₃ = record {
-          bytes = whole ∙ run-rest o at (nb ++ (F ++ D)) room ∙ ap (λ (x : List ℕ). x ++ drop (length x) o) (sym (append-assoc p nb (F ++ D)));
+          bytes = run ∙ run-rest o at (nb ++ (F ++ D)) room ∙ ap (λ (x : List ℕ). x ++ drop (length x) o) (sym (append-assoc p nb (F ++ D)));
           places = noted ∙ run-rest pl count (np ++ np₂) slots ∙ ap (λ (x : List ℕ). x ++ drop (length x) pl) (sym (append-assoc os np np₂) ∙ same-spots);
           ended = omega (arith, w₂ .ended, ap length same-data, length-append p₁ (F ++ D), first-total);
-          counted = omega (arith, w₂ .counted, ap length same-places, w₁ .counted, length-append (os ++ np) np₂, length-append os np, length-take-le count pl (omega (arith, nr .slots)), ap length same-spots);
+          counted =
+              omega (
+                arith,
+                w₂ .counted,
+                ap length same-places,
+                w₁ .counted,
+                length-append (os ++ np) np₂,
+                length-append os np,
+                length-take-le count pl
+                    (omega (arith, nr .slots)),
+                ap length same-spots,
+              );
         }
           where
             nb : List ℕ
@@ -180,17 +224,22 @@ module _ (at count : ℕ) (name : List ℕ) (more also : ℕ) (o pl : List ℕ) 
             os₁ : List ℕ
             os₁ = os ++ namePlaces p os (length p) name
 
-            held : OS ≡ os₁
-            held = first-noted ∙ ap (λ (x : List ℕ). os ++ x) (sym moved)
+            os₂ : List ℕ
+            os₂ = searched whole rtype os₁
+
+            held : OS ≡ os₂
+            held =
+                tried-searched whole rtype (a .count) t et pl₁
+                ∙ ap (searched whole rtype) (first-noted ∙ ap (λ (x : List ℕ). os ++ x) (sym moved))
 
             D : List ℕ
-            D = dataBytes p₁ os₁ rtype d
+            D = dataBytes p₁ os₂ rtype d
 
             same-data : dataBytes P OS rtype d ≡ D
             same-data = ap₂ (λ (x y : List ℕ). dataBytes x y rtype d) first-held held
 
             np₂ : List ℕ
-            np₂ = dataPlaces p₁ os₁ (a .end + 10) rtype d
+            np₂ = dataPlaces p₁ os₂ (a .end + 10) rtype d
 
             same-places : dataPlaces P OS (a .end + 10) rtype d ≡ np₂
             same-places = ap₂ (λ (x y : List ℕ). dataPlaces x y (a .end + 10) rtype d) first-held held
@@ -201,33 +250,38 @@ module _ (at count : ℕ) (name : List ℕ) (more also : ℕ) (o pl : List ℕ) 
             counted-data : b .end - (a .end + 10) ≡ length D
             counted-data = omega (arith, w₂ .ended, ap length same-data)
 
-            whole : o₃ ≡ sets o at (nb ++ (F ++ D))
-            whole =
+            run : o₃ ≡ sets o at (nb ++ (F ++ D))
+            run =
                 w₃ ∙ ap₂ (λ (m : List ℕ) (n : ℕ). sets m (a .end) (fields rtype class ttl n)) (w₂ .bytes ∙ ap (sets o₁ (a .end + 10)) same-data) counted-data
                 ∙ sets-swap o₁ (a .end) F (a .end + 10) D (omega arith) ∙ sets-append o₁ (a .end) F D
                 ∙ ap₂ (λ (m : List ℕ) (j : ℕ). sets m j (F ++ D)) (w₁ .bytes) (w₁ .ended) ∙ sets-append o at nb (F ++ D)
 
             noted : pl₂ ≡ sets pl count (np ++ np₂)
-            noted = w₂ .places ∙ ap (sets pl₁ (a .count)) same-places ∙ ap₂ (λ (m : List ℕ) (j : ℕ). sets m j np₂) (w₁ .places) (w₁ .counted) ∙ sets-append pl count np np₂
+            noted =
+                w₂ .places ∙ ap (sets pl₁ (a .count)) same-places ∙ ap₂ (λ (m : List ℕ) (j : ℕ). sets m j np₂) (w₁ .places) (w₁ .counted) ∙ sets-append pl count
+                np np₂
 
             room : at + length (nb ++ (F ++ D)) ≤ length o
-            room = omega (arith, length-append nb (F ++ D), nr .room, name-short p os name (nr .named), data-short rtype d fits p₁ os₁)
+            room = omega (arith, length-append nb (F ++ D), nr .room, name-short p os name (nr .named), data-short rtype d fits p₁ os₂)
 
             slots : count + length (np ++ np₂) ≤ length pl
-            slots = omega (arith, length-append np np₂, nr .slots, places-few p os name at, data-few rtype d fits p₁ os₁ (a .end + 10))
+            slots = omega (arith, length-append np np₂, nr .slots, places-few p os name at, data-few rtype d fits p₁ os₂ (a .end + 10))
 
-            same-spots : (os ++ np) ++ np₂ ≡ os₁ ++ dataPlaces p₁ os₁ (length p₁ + 10) rtype d
-            same-spots = ap₂ (λ (x : List ℕ) (j : ℕ). (os ++ x) ++ dataPlaces p₁ os₁ (j + 10) rtype d) (sym moved) (sym first-total)
+            same-spots : (os ++ np) ++ np₂ ≡ os₁ ++ dataPlaces p₁ os₂ (length p₁ + 10) rtype d
+            same-spots = ap₂ (λ (x : List ℕ) (j : ℕ). (os ++ x) ++ dataPlaces p₁ os₂ (j + 10) rtype d) (sym moved) (sym first-total)
 
--- a record that fits
+-- a record that is fit and has room
 pub record RecordRoom (at count : ℕ) (owner : List ℕ) (rtype : ℕ) (d o pl : List ℕ) : Type 0 where
-  pub names : namesFit rtype d ≡ true
+  pub shaped : isShaped rtype d ≡ true
   pub short : length d ≤ 65535
   pub front : NameRoom at count owner (10 + length d) (labelsFor rtype d) o pl
 
-pub record-room : (at count : ℕ) (owner : List ℕ) (rtype : ℕ) (d o pl : List ℕ) → recordFits at count owner rtype d (length o) (length pl) ≡ true → RecordRoom at count owner rtype d o pl
+pub record-room : (at count : ℕ) (owner : List ℕ) (rtype ttl : ℕ) (d o pl : List ℕ) → RecordReady (roomIn o pl at count) owner rtype ttl d
+    → RecordRoom at count owner rtype d o pl
 unfolding recordFits
-record-room at count owner rtype d o pl h =
-    let f = both (namesFit rtype d) (leb (length d) 65535 && nameFits at count owner (10 + length d) (labelsFor rtype d) (length o) (length pl)) .0 h in
-    let g = both (leb (length d) 65535) (nameFits at count owner (10 + length d) (labelsFor rtype d) (length o) (length pl)) .0 (f .1) in
-    record { names = f .0; short = leb-true _ _ (g .0); front = name-room at count owner (10 + length d) (labelsFor rtype d) o pl (g .1) }
+record-room at count owner rtype ttl d o pl ready =
+    let f = fit-parts owner rtype ttl d (ready .fit) in
+    record { shaped = f .1; short = f .2; front = name-room at count owner (10 + length d) (labelsFor rtype d) o pl (f .0) (ready .fits) }
+
+pub question-front : (at count : ℕ) (name o pl : List ℕ) → QuestionReady (roomIn o pl at count) name → NameRoom at count name 4 0 o pl
+question-front at count name o pl ready = name-room at count name 4 0 o pl (ready .fit) (ready .fits)

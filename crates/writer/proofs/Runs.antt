@@ -31,5 +31,6 @@ take-run l i vs h =
 -- a run of stores and the rest
 pub run-rest : (l : List ℕ) (i : ℕ) (vs : List ℕ) → i + length vs ≤ length l → sets l i vs ≡ (take i l ++ vs) ++ drop (length (take i l ++ vs)) l
 run-rest l i vs h =
-    let front : i + length vs ≡ length (take i l ++ vs) = sym (length-append (take i l) vs ∙ ap (λ (k : ℕ). k + length vs) (length-take-le i l (omega arith))) in
+    let front : i + length vs ≡ length (take i l ++ vs) = sym
+    (length-append (take i l) vs ∙ ap (λ (k : ℕ). k + length vs) (length-take-le i l (omega arith))) in
     sets-eq vs l i h ∙ ap (λ (k : ℕ). (take i l ++ vs) ++ drop k l) front

@@ -84,6 +84,8 @@ module _ (at count : ℕ) (s pl₀ pl : List ℕ) (next i : ℕ) (inv : Noting a
         label ∙ ap (λ (n : ℕ). (at + i) ∷ starts n 0 (drop (i + 1 + getD s i 0) s)) e in
         record {
           same = l ∙ inv .same;
-          stores = inv .stores ∙ ap (sets pl next) more ∙ ap (λ (n : ℕ). sets (set pl next (at + i)) n (starts (at + (i + 1 + getD s i 0)) 0 (drop (i + 1 + getD s i 0) s))) (sym (add-one next));
+          stores =
+              inv .stores ∙ ap (sets pl next) more ∙ ap (λ (n : ℕ). sets (set pl next (at + i)) n
+              (starts (at + (i + 1 + getD s i 0)) 0 (drop (i + 1 + getD s i 0) s))) (sym (add-one next));
           total = omega (arith, inv .total, ap length more);
         }

@@ -3,8 +3,9 @@
 -- reader's own: names and rdata expanded. Assumes nothing: these are definitions.
 use Prim.Native.Nat.{ℕ, _+_, _/_, _%_}
 use mathlib.Core.List.{List, [], _∷_, _++_}
-use mathlib.Core.Bool.{cond}
+use mathlib.Core.Bool.{Bool, cond, _&&_}
 use lib.ListN.{length, take, drop}
+use lib.Dec.{eqb}
 use Rattle.wire.specs.rdata.Rdata.{formOf}
 use Rattle.writer.specs.compression.Compression.{nameBytes, namePlaces}
 use Rattle.wire.specs.message.Message.{Question, Record}
@@ -39,16 +40,25 @@ dataPlaces p os at rtype d = cond (formOf rtype .named) (namePlaces p os (at + f
 abbrev pub fields : ℕ → ℕ → ℕ → ℕ → List ℕ
 fields rtype class ttl n = u16 rtype ++ u16 class ++ u32 ttl ++ u16 n
 
+-- the offsets at which the name in rdata is looked for: all, but none where the target of an SRV (33) is to be written whole
+abbrev pub searched : Bool → ℕ → List ℕ → List ℕ
+searched whole rtype os = cond (whole && eqb rtype 33) [] os
+
+abbrev pub triedFor : Bool → ℕ → ℕ → ℕ
+triedFor whole rtype count = cond (whole && eqb rtype 33) 0 count
+
 -- what follows the owner's name: ten bytes, in which no name stands, and the rdata, whose name is cut by what stands up to the owner's name
-unfoldable pub putFields : Writing → Record → Writing
-putFields w r =
-    let d : List ℕ = dataBytes (w .bytes) (w .places) (r .rtype) (r .rdata) in record {
+unfoldable pub putFields : Bool → Writing → Record → Writing
+putFields whole w r =
+    let os : List ℕ = searched whole (r .rtype) (w .places) in
+    let d : List ℕ = dataBytes (w .bytes) os (r .rtype) (r .rdata) in record {
       bytes = w .bytes ++ (fields (r .rtype) (r .class) (r .ttl) (length d) ++ d);
-      places = w .places ++ dataPlaces (w .bytes) (w .places) (length (w .bytes) + 10) (r .rtype) (r .rdata);
+      places = w .places ++ dataPlaces (w .bytes) os (length (w .bytes) + 10) (r .rtype) (r .rdata);
     }
 
-abbrev pub putRecord : Writing → Record → Writing
-putRecord w r = putFields (putName w (r .owner)) r
+-- a record: every name in it is cut, or, with `whole`, every name but the target of an SRV
+abbrev pub putRecord : Bool → Writing → Record → Writing
+putRecord whole w r = putFields whole (putName w (r .owner)) r
 
 abbrev pub putBytes : Writing → List ℕ → Writing
 putBytes w bs = record { bytes = w .bytes ++ bs; places = w .places }

@@ -1,4 +1,5 @@
 pub mod Items
+pub mod Fit
 pub mod Writer
 pub mod compression
 pub mod own_packets

@@ -1,5 +1,5 @@
 -- The general writer (specification, 'Writing a packet', for any names): a question or a record, put into a lent buffer behind what was written before, or
--- the answer that it does not fit. Assumes nothing: these are definitions.
+-- the answer that there is no room for it or that no reader takes it. Assumes nothing: these are definitions.
 use Prim.Native.Nat.{ℕ, _+_, _≤_}
 use mathlib.Core.Path.{_≡_}
 use mathlib.Core.List.{List, _++_}
@@ -12,9 +12,11 @@ use Rattle.wire.specs.rdata.Rdata.{formOf}
 use Rattle.writer.specs.compression.Compression.{labelsIn}
 use Rattle.wire.specs.message.Message.{Question}
 use Rattle.writer.specs.Items.{Writing}
+use Rattle.writer.specs.Fit.{isShaped, fitRecord}
 use Rattle.writer.specs.declared.Spot.{Spot}
+use Rattle.writer.specs.declared.Room.{Room}
 use Rattle.writer.specs.declared.Placed.{Placed}
-use Rattle.writer.specs.declared.Placed.the-variants.{Done, Full}
+use Rattle.writer.specs.declared.Placed.the-variants.{Done, Full, Unfit}
 
 -- the packet in the first `at` bytes of a buffer, with `count` places noted
 abbrev pub heldIn : List ℕ → List ℕ → ℕ → ℕ → Writing
@@ -26,47 +28,45 @@ spotOf e c = record { end = e; count = c }
 abbrev pub questionOf : List ℕ → ℕ → ℕ → Question
 questionOf name rtype class = record { name = name; rtype = rtype; class = class }
 
--- the rdata of PTR and SRV ends in one name
-unfoldable pub namesFit : ℕ → List ℕ → Bool
-namesFit rtype d = cond (formOf rtype .named) (leb (formOf rtype .before) (length d) && isName (drop (formOf rtype .before) d)) true
-
--- the labels of that name
+-- the labels of the name in the rdata of PTR and SRV
 unfoldable pub labelsFor : ℕ → List ℕ → ℕ
 labelsFor rtype d = cond (formOf rtype .named) (labelsIn (drop (formOf rtype .before) d)) 0
 
--- A name is one; in a buffer of `room` bytes there is room at `at` for it whole, with `more` bytes behind it, and in a table of `slots` offsets, of
--- which `count` are noted, for its labels and `also` others; and a pointer, of 14 bits, can name every offset up to its end.
-unfoldable pub nameFits : ℕ → ℕ → List ℕ → ℕ → ℕ → ℕ → ℕ → Bool
-nameFits at count name more also room slots =
-    isName name
-    && (leb (at + length name + more) room
-    && (leb (at + length name) 16384
-    && leb (count + labelsIn name + also) slots))
+-- what is left of a buffer with `at` bytes written, and of its table with `count` places noted
+abbrev pub roomIn : List ℕ → List ℕ → ℕ → ℕ → Room
+roomIn out places at count = record { at = at; len = length out; count = count; slots = length places }
 
--- a question fits: its name and four bytes
-abbrev pub questionFits : ℕ → ℕ → List ℕ → ℕ → ℕ → Bool
-questionFits at count name room slots = nameFits at count name 4 0 room slots
+-- There is room for a name whole, with `more` bytes behind it; in the table for its labels and `also` others; and a pointer, of 14 bits, can name every
+-- offset up to its end.
+unfoldable pub nameFits : Room → List ℕ → ℕ → ℕ → Bool
+nameFits room name more also =
+    leb (room .at + length name + more) (room .len)
+    && (leb (room .at + length name) 16384
+    && leb (room .count + labelsIn name + also) (room .slots))
 
--- a record fits: its owner, ten bytes and its rdata, of at most 65,535 bytes, the names in it whole
-unfoldable pub recordFits : ℕ → ℕ → List ℕ → ℕ → List ℕ → ℕ → ℕ → Bool
-recordFits at count owner rtype d room slots =
-    namesFit rtype d && (leb (length d) 65535 && nameFits at count owner (10 + length d) (labelsFor rtype d) room slots)
+-- a question: its name and four bytes
+abbrev pub questionFits : Room → List ℕ → Bool
+questionFits room name = nameFits room name 4 0
+
+-- a record: its owner, ten bytes and its rdata, the name in it whole
+unfoldable pub recordFits : Room → List ℕ → ℕ → List ℕ → Bool
+recordFits room owner rtype d = nameFits room owner (10 + length d) (labelsFor rtype d)
 
 -- the answer, and the two lent buffers then: the packet `v` in front and the rest as it was; or all as it was
-abbrev pub placedOf : Bool → Writing → Placed
-placedOf fits v = cond fits (Done (spotOf (length (v .bytes)) (length (v .places)))) Full
+abbrev pub placedOf : Bool → Bool → Writing → Placed
+placedOf fit fits v = cond fit (cond fits (Done (spotOf (length (v .bytes)) (length (v .places)))) Full) Unfit
 
 abbrev pub bytesAfter : Bool → Writing → List ℕ → List ℕ
-bytesAfter fits v out = cond fits (v .bytes ++ drop (length (v .bytes)) out) out
+bytesAfter put v out = cond put (v .bytes ++ drop (length (v .bytes)) out) out
 
 abbrev pub placesAfter : Bool → Writing → List ℕ → List ℕ
-placesAfter fits v places = cond fits (v .places ++ drop (length (v .places)) places) places
+placesAfter put v places = cond put (v .places ++ drop (length (v .places)) places) places
 
--- all three together
-pub record Placing (fits : Bool) (v : Writing) (o pl : List ℕ) (r : Placed) (o′ pl′ : List ℕ) : Type 0 where
-  pub answer : r ≡ placedOf fits v
-  pub bytes : o′ ≡ bytesAfter fits v o
-  pub places : pl′ ≡ placesAfter fits v pl
+-- all three together: what is `fit` for a message and `fits` into the room is put
+pub record Placing (fit fits : Bool) (v : Writing) (o pl : List ℕ) (r : Placed) (o′ pl′ : List ℕ) : Type 0 where
+  pub answer : r ≡ placedOf fit fits v
+  pub bytes : o′ ≡ bytesAfter (fit && fits) v o
+  pub places : pl′ ≡ placesAfter (fit && fits) v pl
 
 -- Bytes stand in a buffer from `at` on and offsets in a table from `count` on, and nothing else is changed.
 pub record Wrote (bs ps : List ℕ) (at count : ℕ) (o pl : List ℕ) (r : Spot) (o′ pl′ : List ℕ) : Type 0 where
@@ -82,18 +82,29 @@ pub record Grown (v : Writing) (o pl : List ℕ) (r : Spot) (o′ pl′ : List �
   pub ended : r .end ≡ length (v .bytes)
   pub counted : r .count ≡ length (v .places)
 
--- what writing a name asks for: the packet before it ends at `known`
-pub record NameReady (known at count : ℕ) (name out places : List ℕ) : Type 0 where
+-- what writing a name asks for: the packet before it ends at `known`, and the first `tried` places are looked at
+pub record NameReady (known at count tried : ℕ) (name out places : List ℕ) : Type 0 where
   pub named : isName name ≡ true
   pub known-before : known ≤ at
   pub known-small : known ≤ 16384
+  pub tried-noted : tried ≤ count
   pub room : at + length name ≤ length out
   pub slots : count + labelsIn name ≤ length places
 
 -- what writing rdata asks for
-pub record DataReady (known at count rtype : ℕ) (d out places : List ℕ) : Type 0 where
-  pub named : namesFit rtype d ≡ true
+pub record DataReady (known at count tried rtype : ℕ) (d out places : List ℕ) : Type 0 where
+  pub shaped : isShaped rtype d ≡ true
   pub known-before : known ≤ at
   pub known-small : known ≤ 16384
+  pub tried-noted : tried ≤ count
   pub room : at + length d ≤ length out
   pub slots : count + labelsFor rtype d ≤ length places
+
+-- what writing a question or a record asks for: it is fit, and there is room for it
+pub record QuestionReady (room : Room) (name : List ℕ) : Type 0 where
+  pub fit : isName name ≡ true
+  pub fits : questionFits room name ≡ true
+
+pub record RecordReady (room : Room) (owner : List ℕ) (rtype ttl : ℕ) (d : List ℕ) : Type 0 where
+  pub fit : fitRecord owner rtype ttl d ≡ true
+  pub fits : recordFits room owner rtype d ≡ true

@@ -1,3 +1,4 @@
 pub mod Packets
+pub mod Styles
 pub mod Own
 pub mod Ready

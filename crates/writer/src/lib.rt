@@ -1,18 +1,20 @@
 // The general writer (specification, 'Writing a packet': "Every name, SRV and PTR rdata too, is cut at its longest suffix of whole labels that stands
-// earlier"): puts a question or a record of any names behind the packet in a lent buffer, or answers that it does not fit.
+// earlier"): puts a question or a record of any names behind the packet in a lent buffer, or answers that there is no room for it or that no message has it.
 pub mod compression;
 pub mod own_packets;
 
 use crate::compression::Place;
 ghost use mathlib.Core.Path.{_≡_};
-ghost use mathlib.Core.Bool.{true};
 ghost use Prim.Native.Nat.{_+_, _≤_, _<_};
 ghost use lib.ListN.{length, take};
 ghost use lib.Seq.{sets};
 ghost use Rattle.writer.specs.compression.Compression.{nameBytes, namePlaces, starts, labelsIn};
-ghost use Rattle.writer.specs.Items.{u16, fields, dataBytes, dataPlaces, putQuestion, putRecord};
+ghost use Rattle.writer.specs.Items.{u16, fields, dataBytes, dataPlaces, triedFor, putQuestion, putRecord};
 ghost use Rattle.wire.specs.message.Message.{Record, recordOf};
-ghost use Rattle.writer.specs.Writer.{heldIn, questionOf, namesFit, labelsFor, nameFits, questionFits, recordFits, Placing, Wrote, Grown, NameReady, DataReady};
+ghost use Rattle.wire.specs.names.Names.{isName};
+ghost use Rattle.writer.specs.Fit.{isShaped, fitRecord};
+ghost use Rattle.writer.specs.Writer.{heldIn, roomIn, questionOf, labelsFor, nameFits, questionFits, recordFits};
+ghost use Rattle.writer.specs.Writer.{Placing, Wrote, Grown, NameReady, DataReady, RecordReady, QuestionReady};
 
 // A pointer has 14 bits: no name is written that would end behind this offset.
 pub const MOST_POINTED: usize = 16384;
@@ -23,11 +25,26 @@ pub struct Spot {
     pub count: usize,
 }
 
-// Whether a question or a record was put into the packet.
+// What is left of a lent buffer of `len` bytes, of which `at` are written, and of its table of `slots` places, of which `count` are noted.
+pub struct Room {
+    pub at: usize,
+    pub len: usize,
+    pub count: usize,
+    pub slots: usize,
+}
+
+// Whether a question or a record was put into the packet: there is no room for it, or it is none that a reader takes.
 pub enum Placed {
     Done(Spot),
     Full,
+    Unfit,
 }
+
+// A TTL from here on has its top bit set and is read as 0.
+pub const TOP_TTL: u32 = 2147483648;
+
+// The most bytes of rdata: its length is written in two.
+pub const MOST_RDATA: usize = 65535;
 
 // Writes a number of two bytes, most significant first.
 fn put_u16(out: &mut [u8], at: usize, v: usize)
@@ -75,21 +92,22 @@ fn note_starts(places: &mut [usize], count: usize, at: usize, s: &[u8]) -> usize
     next
 }
 
-// Writes a name at `at`, cut by what stands in the packet `out[..known]`, whose names have labels at the offsets `places[..count]`.
+// Writes a name at `at`, cut by what stands in the packet `out[..known]` at the offsets `places[..tried]`; its labels are noted from `count` on.
 fn put_name(
     out: &mut [u8],
     known: usize,
     at: usize,
     places: &mut [usize],
     count: usize,
+    tried: usize,
     name: &[u8],
 ) -> Spot
-    requires { ⌜ NameReady known at count (now name) (now out) (now places) ⌝ }
-    ensures { λ r. ⌜ Wrote (nameBytes (take known (now (out .entry))) (take count (now (places .entry))) (now (name .entry)))
-        (namePlaces (take known (now (out .entry))) (take count (now (places .entry))) at (now (name .entry)))
+    requires { ⌜ NameReady known at count tried (now name) (now out) (now places) ⌝ }
+    ensures { λ r. ⌜ Wrote (nameBytes (take known (now (out .entry))) (take tried (now (places .entry))) (now (name .entry)))
+        (namePlaces (take known (now (out .entry))) (take tried (now (places .entry))) at (now (name .entry)))
         at count (now (out .entry)) (now (places .entry)) r (now (out .exit)) (now (places .exit)) ⌝ }
 {
-    let cut = crate::compression::cut_of(&out[..known], &places[..count], name);
+    let cut = crate::compression::cut_of(&out[..known], &places[..tried], name);
     let kept = cut.kept;
     let place = cut.place;
     wire::buffer::put(out, at, &name[..kept]);
@@ -113,26 +131,27 @@ fn put_name(
     }
 }
 
-// Writes rdata at `at`, the name in it cut by what stands in the packet `out[..known]`.
+// Writes rdata at `at`, the name in it cut by what stands in the packet `out[..known]` at the offsets `places[..tried]`.
 fn put_data(
     out: &mut [u8],
     known: usize,
     at: usize,
     places: &mut [usize],
     count: usize,
+    tried: usize,
     rtype: u16,
     d: &[u8],
 ) -> Spot
-    requires { ⌜ DataReady known at count rtype (now d) (now out) (now places) ⌝ }
-    ensures { λ r. ⌜ Wrote (dataBytes (take known (now (out .entry))) (take count (now (places .entry))) rtype (now (d .entry)))
-        (dataPlaces (take known (now (out .entry))) (take count (now (places .entry))) at rtype (now (d .entry)))
+    requires { ⌜ DataReady known at count tried rtype (now d) (now out) (now places) ⌝ }
+    ensures { λ r. ⌜ Wrote (dataBytes (take known (now (out .entry))) (take tried (now (places .entry))) rtype (now (d .entry)))
+        (dataPlaces (take known (now (out .entry))) (take tried (now (places .entry))) at rtype (now (d .entry)))
         at count (now (out .entry)) (now (places .entry)) r (now (out .exit)) (now (places .exit)) ⌝ }
 {
     let held = wire::rdata::form_of(rtype);
     if held.named {
         let head = held.before;
         wire::buffer::put(out, at, &d[..head]);
-        return put_name(out, known, at + head, places, count, &d[head..]);
+        return put_name(out, known, at + head, places, count, tried, &d[head..]);
     }
     wire::buffer::put(out, at, d);
     Spot {
@@ -153,27 +172,43 @@ fn put_fields(out: &mut [u8], at: usize, rtype: u16, class: u16, ttl: u32, len: 
     put_u16(out, at + 8, len);
 }
 
+// How many of the noted places are tried for the name in rdata: none where the target of an SRV is written whole.
+fn tried_for(whole: bool, rtype: u16, count: usize) -> usize
+    ensures { λ r. ⌜ r ≡ triedFor whole rtype count ⌝ }
+{
+    if !whole {
+        return count;
+    }
+    if rtype == wire::rdata::SRV {
+        return 0;
+    }
+    count
+}
+
 // Writes a record behind the packet `out[..at]`: the owner, the rdata ten bytes further, and then the ten bytes, when the length is known.
 fn write_record(
     out: &mut [u8],
     at: usize,
     places: &mut [usize],
     count: usize,
+    whole: bool,
     owner: &[u8],
     rtype: u16,
     class: u16,
     ttl: u32,
     d: &[u8],
 ) -> Spot
-    requires { ⌜ recordFits at count (now owner) rtype (now d) (length (now out)) (length (now places)) ≡ true ⌝ }
+    requires { ⌜ RecordReady (roomIn (now out) (now places) at count) (now owner) rtype ttl (now d) ⌝ }
     ensures { λ r. ⌜ (let x : Record = recordOf (now (owner .entry)) rtype class ttl (now (d .entry)) in
-        Grown (putRecord (heldIn (now (out .entry)) (now (places .entry)) at count) x) (now (out .entry)) (now (places .entry)) r (now (out .exit)) (now (places .exit))) ⌝ }
+        Grown (putRecord whole (heldIn (now (out .entry)) (now (places .entry)) at count) x)
+        (now (out .entry)) (now (places .entry)) r (now (out .exit)) (now (places .exit))) ⌝ }
 {
-    let a = put_name(out, at, at, places, count, owner);
+    let a = put_name(out, at, at, places, count, count, owner);
     let e = a.end;
     let c = a.count;
     let body = e + 10;
-    let b = put_data(out, e, body, places, c, rtype, d);
+    let tried = tried_for(whole, rtype, c);
+    let b = put_data(out, e, body, places, c, tried, rtype, d);
     let end = b.end;
     put_fields(out, e, rtype, class, ttl, end - body);
     b
@@ -189,11 +224,11 @@ fn write_question(
     rtype: u16,
     class: u16,
 ) -> Spot
-    requires { ⌜ questionFits at count (now name) (length (now out)) (length (now places)) ≡ true ⌝ }
+    requires { ⌜ QuestionReady (roomIn (now out) (now places) at count) (now name) ⌝ }
     ensures { λ r. ⌜ Grown (putQuestion (heldIn (now (out .entry)) (now (places .entry)) at count) (questionOf (now (name .entry)) rtype class))
         (now (out .entry)) (now (places .entry)) r (now (out .exit)) (now (places .exit)) ⌝ }
 {
-    let a = put_name(out, at, at, places, count, name);
+    let a = put_name(out, at, at, places, count, count, name);
     let e = a.end;
     let c = a.count;
     put_u16(out, e, rtype as usize);
@@ -205,27 +240,20 @@ fn write_question(
 }
 
 // Whether there is room for a name, with `more` bytes behind it and `also` places besides those of its labels.
-fn name_fits(
-    at: usize,
-    count: usize,
-    name: &[u8],
-    more: usize,
-    also: usize,
-    room: usize,
-    slots: usize,
-) -> bool
-    ensures { λ r. ⌜ r ≡ nameFits at count (now (name .entry)) more also room slots ⌝ }
+fn name_fits(room: Room, name: &[u8], more: usize, also: usize) -> bool
+    ensures { λ r. ⌜ r ≡ nameFits room (now (name .entry)) more also ⌝ }
 {
-    if !wire::names::is_name(name) {
+    let at = room.at;
+    let len = room.len;
+    let count = room.count;
+    let slots = room.slots;
+    if len < at {
         return false;
     }
-    if room < at {
+    if len - at < name.len() {
         return false;
     }
-    if room - at < name.len() {
-        return false;
-    }
-    if room - at - name.len() < more {
+    if len - at - name.len() < more {
         return false;
     }
     if MOST_POINTED < at {
@@ -244,21 +272,6 @@ fn name_fits(
     also <= slots - count - labels
 }
 
-// Whether the rdata of PTR and SRV ends in one name.
-fn names_fit(rtype: u16, d: &[u8]) -> bool
-    ensures { λ r. ⌜ r ≡ namesFit rtype (now (d .entry)) ⌝ }
-{
-    let held = wire::rdata::form_of(rtype);
-    if !held.named {
-        return true;
-    }
-    let head = held.before;
-    if d.len() < head {
-        return false;
-    }
-    wire::names::is_name(&d[head..])
-}
-
 // How many labels the name in the rdata of PTR and SRV has.
 fn labels_for(rtype: u16, d: &[u8]) -> usize
     ensures { λ r. ⌜ r ≡ labelsFor rtype (now (d .entry)) ⌝ }
@@ -275,29 +288,56 @@ fn labels_for(rtype: u16, d: &[u8]) -> usize
 }
 
 // Whether there is room for a record.
-fn record_fits(
-    at: usize,
-    count: usize,
-    owner: &[u8],
-    rtype: u16,
-    d: &[u8],
-    room: usize,
-    slots: usize,
-) -> bool
-    ensures { λ r. ⌜ r ≡ recordFits at count (now (owner .entry)) rtype (now (d .entry)) room slots ⌝ }
+fn record_fits(room: Room, owner: &[u8], rtype: u16, d: &[u8]) -> bool
+    requires { ⌜ length (now d) ≤ 65535 ⌝ }
+    ensures { λ r. ⌜ r ≡ recordFits room (now (owner .entry)) rtype (now (d .entry)) ⌝ }
 {
-    if !names_fit(rtype, d) {
-        return false;
-    }
-    let len = d.len();
-    if 65535 < len {
-        return false;
-    }
     let also = labels_for(rtype, d);
-    name_fits(at, count, owner, 10 + len, also, room, slots)
+    name_fits(room, owner, 10 + d.len(), also)
 }
 
-// Puts a question behind the packet `out[..at]`, whose names have labels at the offsets `places[..count]`. Where it does not fit every byte is kept.
+// Whether rdata is as its type asks, the name in it expanded.
+fn is_shaped(rtype: u16, d: &[u8]) -> bool
+    ensures { λ r. ⌜ r ≡ isShaped rtype (now (d .entry)) ⌝ }
+{
+    let n = d.len();
+    let held = wire::rdata::form_of(rtype);
+    if held.named {
+        let head = held.before;
+        if n < head {
+            return false;
+        }
+        return wire::names::is_name(&d[head..]);
+    }
+    if rtype == wire::rdata::A {
+        return n == 4;
+    }
+    if rtype == wire::rdata::TXT {
+        return wire::rdata::strings_fill(d);
+    }
+    if rtype == wire::rdata::AAAA {
+        return n == 16;
+    }
+    true
+}
+
+// Whether a record is one that a reader takes as it is written.
+fn fit_record(owner: &[u8], rtype: u16, ttl: u32, d: &[u8]) -> bool
+    ensures { λ r. ⌜ r ≡ fitRecord (now (owner .entry)) rtype ttl (now (d .entry)) ⌝ }
+{
+    if !wire::names::is_name(owner) {
+        return false;
+    }
+    if !is_shaped(rtype, d) {
+        return false;
+    }
+    if MOST_RDATA < d.len() {
+        return false;
+    }
+    ttl < TOP_TTL
+}
+
+// Puts a question behind the packet `out[..at]`, whose names have labels at the offsets `places[..count]`. Where it is not put every byte is kept.
 pub fn put_question(
     out: &mut [u8],
     at: usize,
@@ -307,34 +347,56 @@ pub fn put_question(
     rtype: u16,
     class: u16,
 ) -> Placed
-    ensures { λ r. ⌜ Placing (questionFits at count (now (name .entry)) (length (now (out .entry))) (length (now (places .entry))))
+    ensures { λ r. ⌜ Placing (isName (now (name .entry)))
+        (questionFits (roomIn (now (out .entry)) (now (places .entry)) at count) (now (name .entry)))
         (putQuestion (heldIn (now (out .entry)) (now (places .entry)) at count) (questionOf (now (name .entry)) rtype class))
         (now (out .entry)) (now (places .entry)) r (now (out .exit)) (now (places .exit)) ⌝ }
 {
-    if !name_fits(at, count, name, 4, 0, out.len(), places.len()) {
+    if !wire::names::is_name(name) {
+        return Placed::Unfit;
+    }
+    let room = Room {
+        at,
+        len: out.len(),
+        count,
+        slots: places.len(),
+    };
+    if !name_fits(room, name, 4, 0) {
         return Placed::Full;
     }
     Placed::Done(write_question(out, at, places, count, name, rtype, class))
 }
 
-// Puts a record, its rdata given with names expanded, behind the packet `out[..at]`. Where it does not fit every byte is kept.
+// Puts a record, its rdata given with names expanded, behind the packet `out[..at]`; every name in it is cut, or with `whole` every name but the target
+// of an SRV. Where it is not put every byte is kept.
 pub fn put_record(
     out: &mut [u8],
     at: usize,
     places: &mut [usize],
     count: usize,
+    whole: bool,
     owner: &[u8],
     rtype: u16,
     class: u16,
     ttl: u32,
     d: &[u8],
 ) -> Placed
-    ensures { λ r. ⌜ Placing (recordFits at count (now (owner .entry)) rtype (now (d .entry)) (length (now (out .entry))) (length (now (places .entry))))
-        (putRecord (heldIn (now (out .entry)) (now (places .entry)) at count) (recordOf (now (owner .entry)) rtype class ttl (now (d .entry))))
+    ensures { λ r. ⌜ Placing (fitRecord (now (owner .entry)) rtype ttl (now (d .entry)))
+        (recordFits (roomIn (now (out .entry)) (now (places .entry)) at count) (now (owner .entry)) rtype (now (d .entry)))
+        (putRecord whole (heldIn (now (out .entry)) (now (places .entry)) at count) (recordOf (now (owner .entry)) rtype class ttl (now (d .entry))))
         (now (out .entry)) (now (places .entry)) r (now (out .exit)) (now (places .exit)) ⌝ }
 {
-    if !record_fits(at, count, owner, rtype, d, out.len(), places.len()) {
+    if !fit_record(owner, rtype, ttl, d) {
+        return Placed::Unfit;
+    }
+    let room = Room {
+        at,
+        len: out.len(),
+        count,
+        slots: places.len(),
+    };
+    if !record_fits(room, owner, rtype, d) {
         return Placed::Full;
     }
-    Placed::Done(write_record(out, at, places, count, owner, rtype, class, ttl, d))
+    Placed::Done(write_record(out, at, places, count, whole, owner, rtype, class, ttl, d))
 }

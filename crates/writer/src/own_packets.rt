@@ -8,19 +8,42 @@ use claims::records::RECORDS;
 use claims::records::Set;
 use own::records::Setup;
 ghost use mathlib.Core.Path.{_≡_};
+ghost use mathlib.Core.Bool.{cond};
 ghost use mathlib.Core.List.{map};
 ghost use Prim.Native.Nat.{_+_, _≤_, _<_};
 ghost use lib.ListN.{length};
 ghost use Rattle.claims.specs.records.Own.{records};
 ghost use lib.Seq.{sets};
-ghost use Rattle.writer.specs.Items.{u16, putRecord};
+ghost use Rattle.writer.specs.Items.{putQuestion, putRecord};
 ghost use Rattle.writer.specs.Writer.{heldIn, Grown};
 ghost use Rattle.writer.specs.own_packets.Packets.{putAll, headerBytes};
-ghost use Rattle.writer.specs.own_packets.Ready.{HeaderReady, spotAfter, OwnReady, Picks, listed, ListReady};
-ghost use Rattle.writer.specs.own_packets.Own.{refusalOf, lengthOf, classIn, ownRecord, responseRecords, probeRecords, responsePacket, probePacket, refusal, unlessRefused, writtenOf, laidOver};
+ghost use Rattle.writer.specs.own_packets.Ready.{HeaderReady, spotAfter, OwnReady, Picks, listed, ListReady, AskReady, PacketReady};
+ghost use Rattle.writer.specs.own_packets.Styles.{responseStyle, probeStyle, classIn, ttlIn, asked, ownRecord, packetIn};
+ghost use Rattle.writer.specs.own_packets.Own.{refusalOf, lengthOf, responseRecords, probeRecords, responsePacket, probePacket};
+ghost use Rattle.writer.specs.own_packets.Own.{refusal, unlessRefused, writtenOf, laidOver};
 
 // The least buffer that a packet is written into.
 pub const LEAST_OUT: usize = 1452;
+
+// Which TTL records are written with: each its own, or one for all.
+pub enum TtlRule {
+    Each,
+    Fixed(u32),
+}
+
+// How a packet of own records is written: its header, whether a question stands in front and of which type and class, the section of the records
+// (Authority, else Answers), their TTLs, whether those that are not shared have the class's top bit, and whether the target of the SRV is written whole.
+pub struct Style {
+    pub id: u16,
+    pub flags: u16,
+    pub asks: bool,
+    pub qtype: u16,
+    pub qclass: u16,
+    pub authority: bool,
+    pub ttl: TtlRule,
+    pub flush: bool,
+    pub whole: bool,
+}
 
 // Own records to write, in this order: those of the first `n` indices.
 pub struct Picked {
@@ -35,13 +58,48 @@ pub enum Written {
     Refused(u8),
 }
 
-// Writes a number of two bytes, most significant first.
-fn put_u16(out: &mut [u8], at: usize, v: usize)
-    requires { ⌜ (at + 2 ≤ length (now out)) × (v < 65536) ⌝ }
-    ensures { λ _. ⌜ now (out .exit) ≡ sets (now (out .entry)) at (u16 v) ⌝ }
+// "Responses have flags 0x8400", and of the own records all but PTR have class 0x8001.
+fn response_style() -> Style
+    ensures { λ r. ⌜ r ≡ responseStyle ⌝ }
 {
-    out[at] = (v / 256) as u8;
-    out[at + 1] = (v % 256) as u8;
+    Style {
+        id: 0,
+        flags: 0x8400,
+        asks: false,
+        qtype: 0,
+        qclass: 0,
+        authority: false,
+        ttl: TtlRule::Each,
+        flush: true,
+        whole: false,
+    }
+}
+
+// "A probe is one question (type 255, class 1) with the claim's records in Authority, .. class 1."
+fn probe_style() -> Style
+    ensures { λ r. ⌜ r ≡ probeStyle ⌝ }
+{
+    Style {
+        id: 0,
+        flags: 0,
+        asks: true,
+        qtype: 255,
+        qclass: 1,
+        authority: true,
+        ttl: TtlRule::Each,
+        flush: false,
+        whole: false,
+    }
+}
+
+// One of two numbers.
+fn either(first: bool, a: usize, b: usize) -> usize
+    ensures { λ r. ⌜ r ≡ cond first a b ⌝ }
+{
+    if first {
+        return a;
+    }
+    b
 }
 
 // Writes a header; there are no additional records.
@@ -56,46 +114,57 @@ fn put_header(
     requires { ⌜ HeaderReady id flags questions answers authorities (now out) ⌝ }
     ensures { λ _. ⌜ now (out .exit) ≡ sets (now (out .entry)) 0 (headerBytes id flags questions answers authorities 0) ⌝ }
 {
-    put_u16(out, 0, id);
-    put_u16(out, 2, flags);
-    put_u16(out, 4, questions);
-    put_u16(out, 6, answers);
-    put_u16(out, 8, authorities);
-    put_u16(out, 10, 0);
+    crate::put_u16(out, 0, id);
+    crate::put_u16(out, 2, flags);
+    crate::put_u16(out, 4, questions);
+    crate::put_u16(out, 6, answers);
+    crate::put_u16(out, 8, authorities);
+    crate::put_u16(out, 10, 0);
 }
 
-// Where the packet ends after `writer` was to put something behind it. What is own has room, so nothing here is ever answered `Full`.
+// Where the packet ends after `writer` was to put something behind it. What is own is fit and has room, so that only `Done` is ever answered here.
 fn spot_after(placed: Placed, at: usize, count: usize) -> Spot
     ensures { λ r. ⌜ r ≡ spotAfter placed at count ⌝ }
 {
     match placed {
         Placed::Done(spot) => spot,
         Placed::Full => Spot { end: at, count },
+        Placed::Unfit => Spot { end: at, count },
     }
 }
 
-// The class of an own record: 1 in a probe.
-fn class_in(probing: bool, o: Own) -> u16
-    ensures { λ r. ⌜ r ≡ classIn probing o ⌝ }
+// The class of an own record.
+fn class_in(style: Style, o: Own) -> u16
+    ensures { λ r. ⌜ r ≡ classIn style o ⌝ }
 {
-    if probing {
-        return 1;
+    if style.flush {
+        return claims::records::own_class(o);
     }
-    claims::records::own_class(o)
+    1
+}
+
+// The TTL of an own record.
+fn ttl_in(rule: TtlRule, o: Own) -> u32
+    ensures { λ r. ⌜ r ≡ ttlIn rule o ⌝ }
+{
+    match rule {
+        TtlRule::Each => claims::records::own_ttl(o),
+        TtlRule::Fixed(ttl) => ttl,
+    }
 }
 
 // Writes an own record behind the packet `out[..at]`.
 fn write_own(
     s: Setup,
     o: Own,
-    probing: bool,
+    style: Style,
     out: &mut [u8],
     at: usize,
     places: &mut [usize],
     count: usize,
 ) -> Spot
-    requires { ⌜ OwnReady s o at count (now out) (now places) ⌝ }
-    ensures { λ r. ⌜ Grown (putRecord (heldIn (now (out .entry)) (now (places .entry)) at count) (ownRecord s probing o))
+    requires { ⌜ OwnReady s style o at count (now out) (now places) ⌝ }
+    ensures { λ r. ⌜ Grown (putRecord (style .whole) (heldIn (now (out .entry)) (now (places .entry)) at count) (ownRecord s style o))
         (now (out .entry)) (now (places .entry)) r (now (out .exit)) (now (places .exit)) ⌝ }
 {
     let owner = own::records::own_name(s, o);
@@ -104,16 +173,19 @@ fn write_own(
     let own = own::records::own_rdata(s, o);
     let d = own.bytes;
     let n = own.len;
-    let class = class_in(probing, o);
+    let class = class_in(style, o);
+    let rule = style.ttl;
+    let ttl = ttl_in(rule, o);
     let placed = crate::put_record(
         out,
         at,
         places,
         count,
+        style.whole,
         &name[..len],
         claims::records::own_type(o),
         class,
-        claims::records::own_ttl(o),
+        ttl,
         &d[..n],
     );
     spot_after(placed, at, count)
@@ -164,15 +236,16 @@ fn pick_claim(s: Setup, claim: Claim) -> Picked
 fn write_list(
     s: Setup,
     list: Picked,
-    probing: bool,
+    style: Style,
     out: &mut [u8],
     at: usize,
     places: &mut [usize],
     count: usize,
 ) -> Spot
-    requires { ⌜ ListReady s (listed list) at count (now out) (now places) ⌝ }
+    requires { ⌜ ListReady s style (listed list) at count (now out) (now places) ⌝ }
     requires { ⌜ (list .n ≤ records) × (length (list .order) ≡ records) ⌝ }
-    ensures { λ r. ⌜ Grown (putAll putRecord (heldIn (now (out .entry)) (now (places .entry)) at count) (map (ownRecord s probing) (listed list)))
+    ensures { λ r. ⌜ Grown
+        (putAll (putRecord (style .whole)) (heldIn (now (out .entry)) (now (places .entry)) at count) (map (ownRecord s style) (listed list)))
         (now (out .entry)) (now (places .entry)) r (now (out .exit)) (now (places .exit)) ⌝ }
 {
     let order = list.order;
@@ -182,12 +255,50 @@ fn write_list(
     let mut j = 0;
     while j < n {
         let o = claims::records::record_at(order[j]);
-        let r = write_own(s, o, probing, out, end, places, noted);
+        let r = write_own(s, o, style, out, end, places, noted);
         end = r.end;
         noted = r.count;
         j += 1;
     }
     Spot { end, count: noted }
+}
+
+// Writes the question for a name behind the header, where the style asks one.
+fn write_asked(style: Style, name: &[u8], out: &mut [u8], places: &mut [usize]) -> Spot
+    requires { ⌜ AskReady style (now name) (now out) (now places) ⌝ }
+    ensures { λ r. ⌜ Grown (putAll putQuestion (heldIn (now (out .entry)) (now (places .entry)) 12 0) (asked style (now (name .entry))))
+        (now (out .entry)) (now (places .entry)) r (now (out .exit)) (now (places .exit)) ⌝ }
+{
+    if !style.asks {
+        return Spot { end: 12, count: 0 };
+    }
+    let placed = crate::put_question(out, 12, places, 0, name, style.qtype, style.qclass);
+    spot_after(placed, 12, 0)
+}
+
+// Writes a packet of own records in a style, and answers its length.
+fn write_packet(s: Setup, style: Style, name: &[u8], list: Picked, out: &mut [u8]) -> usize
+    requires { ⌜ PacketReady s style (now name) (listed list) (now out) ⌝ }
+    requires { ⌜ (list .n ≤ records) × (length (list .order) ≡ records) ⌝ }
+    ensures { λ r. ⌜ r ≡ length (packetIn s style (now (name .entry)) (listed list)) ⌝ }
+    ensures { λ _. ⌜ now (out .exit) ≡ laidOver (packetIn s style (now (name .entry)) (listed list)) (now (out .entry)) ⌝ }
+{
+    let n = list.n;
+    let questions = either(style.asks, 1, 0);
+    let answers = either(style.authority, 0, n);
+    let authorities = either(style.authority, n, 0);
+    put_header(
+        out,
+        style.id as usize,
+        style.flags as usize,
+        questions,
+        answers,
+        authorities,
+    );
+    let mut places = [0usize; 32];
+    let q = write_asked(style, name, out, &mut places);
+    let r = write_list(s, list, style, out, q.end, &mut places, q.count);
+    r.end
 }
 
 // Writes a response of the chosen ones of the own records that the set-up has: PTR, SRV, TXT, A, AAAA.
@@ -204,14 +315,10 @@ pub fn respond(s: Setup, chosen: Set, out: &mut [u8]) -> Written
         return Written::Refused(7);
     }
     let list = pick(s, chosen);
-    let n = list.n;
-    if n == 0 {
+    if list.n == 0 {
         return Written::Nothing;
     }
-    let mut places = [0usize; 32];
-    put_header(out, 0, 0x8400, 0, n, 0);
-    let r = write_list(s, list, false, out, 12, &mut places, 0);
-    Written::Sent(r.end)
+    Written::Sent(write_packet(s, response_style(), b"", list, out))
 }
 
 // Writes a claim's probe.
@@ -228,14 +335,8 @@ pub fn probe(s: Setup, claim: Claim, out: &mut [u8]) -> Written
         return Written::Refused(7);
     }
     let list = pick_claim(s, claim);
-    let n = list.n;
     let owner = own::records::own_name(s, claims::records::first_of(claim));
     let name = owner.bytes;
     let len = owner.len;
-    let mut places = [0usize; 32];
-    put_header(out, 0, 0, 1, 0, n);
-    let placed = crate::put_question(out, 12, &mut places, 0, &name[..len], 255, 1);
-    let q = spot_after(placed, 12, 0);
-    let r = write_list(s, list, true, out, q.end, &mut places, q.count);
-    Written::Sent(r.end)
+    Written::Sent(write_packet(s, probe_style(), &name[..len], list, out))
 }

@@ -28,7 +28,8 @@ mod setup;
 pub use cache::{Cache, Found, Taken};
 pub use pairs::{txt_lookup, Pair};
 pub use reader::{
-    message_refusal, name_end, name_length, Message, Name, Question, Record, Section,
+    message_refusal, name_end, name_length, Data, Message, Name, Question, Record, Section, Srv,
+    Strings,
 };
 pub use responder::{Claim, Responder, Ticked, OUT_BYTES, PORT, STATE_BYTES};
 pub use setup::{Setup, SETUP_BYTES};

@@ -1,5 +1,8 @@
 //! The packet reader.
 
+use std::net::{Ipv4Addr, Ipv6Addr};
+use std::ops::Range;
+
 use crate::Refusal;
 
 #[repr(C)]
@@ -35,6 +38,31 @@ struct RecordAt {
     next: usize,
 }
 
+#[repr(C)]
+struct AddressBytes {
+    length: usize,
+    bytes: [u8; 16],
+}
+
+#[repr(C)]
+struct SrvAt {
+    found: bool,
+    priority: u16,
+    weight: u16,
+    port: u16,
+    target: usize,
+    target_length: usize,
+}
+
+#[repr(C)]
+struct StringAt {
+    refusal: u8,
+    found: bool,
+    text: usize,
+    length: usize,
+    next: usize,
+}
+
 /// An uncompressed name.
 #[repr(C)]
 #[derive(Clone, Copy)]
@@ -48,6 +76,20 @@ extern "C" {
     fn kurgashel_message_refusal(message: *const u8, message_bytes: usize) -> u8;
     fn kurgashel_question(message: *const u8, message_bytes: usize, at: usize) -> QuestionAt;
     fn kurgashel_record(message: *const u8, message_bytes: usize, at: usize) -> RecordAt;
+    fn kurgashel_address(
+        message: *const u8,
+        message_bytes: usize,
+        rtype: u16,
+        rdata: usize,
+        rdata_length: usize,
+    ) -> AddressBytes;
+    fn kurgashel_srv(
+        message: *const u8,
+        message_bytes: usize,
+        rdata: usize,
+        rdata_length: usize,
+    ) -> SrvAt;
+    fn kurgashel_txt_string(txt: *const u8, txt_bytes: usize, at: usize) -> StringAt;
     fn kurgashel_name(message: *const u8, message_bytes: usize, at: usize) -> Name;
     fn kurgashel_name_end(message: *const u8, message_bytes: usize, at: usize) -> usize;
     fn kurgashel_name_length(message: *const u8, message_bytes: usize, at: usize) -> usize;
@@ -92,11 +134,50 @@ pub struct Record<'a> {
     pub ttl: u32,
     /// Its rdata, a part of the message.
     pub rdata: &'a [u8],
-    /// The name in the rdata of a PTR or an SRV.
-    pub target: Option<Name>,
+    /// What the rdata says.
+    pub data: Data<'a>,
 }
 
+/// What the rdata of a record says.
+pub enum Data<'a> {
+    /// The address of an A.
+    A(Ipv4Addr),
+    /// The address of an AAAA.
+    Aaaa(Ipv6Addr),
+    /// The name that a PTR points to.
+    Ptr(Name),
+    /// A TXT.
+    Txt(Strings<'a>),
+    /// Where a service is.
+    Srv(Srv),
+    /// The bytes of another type.
+    Other(&'a [u8]),
+}
+
+/// An SRV.
+#[derive(Clone, Copy)]
+pub struct Srv {
+    /// The target with the lowest is to be tried first.
+    pub priority: u16,
+    /// The share of this target among those of the same priority.
+    pub weight: u16,
+    /// The port of the service.
+    pub port: u16,
+    /// The host's name.
+    pub target: Name,
+}
+
+/// The strings of a TXT, each a part of it. A string that runs past the TXT's end, which no message that was read has, ends them.
+#[derive(Clone, Copy)]
+pub struct Strings<'a> {
+    txt: &'a [u8],
+    at: usize,
+}
+
+const A: u16 = 1;
 const PTR: u16 = 12;
+const TXT: u16 = 16;
+const AAAA: u16 = 28;
 const SRV: u16 = 33;
 
 impl Name {
@@ -110,6 +191,75 @@ impl Name {
     /// Its bytes on the wire: each label behind its length byte, and a zero byte.
     pub fn as_bytes(&self) -> &[u8] {
         &self.bytes[..self.length]
+    }
+}
+
+impl Srv {
+    /// The SRV in the rdata that is a part of a message, if it is well formed.
+    pub fn read(message: &[u8], rdata: Range<usize>) -> Option<Srv> {
+        let (bytes, length) = (message.as_ptr(), rdata.len());
+        let srv = unsafe { kurgashel_srv(bytes, message.len(), rdata.start, length) };
+        if !srv.found {
+            return None;
+        }
+        Some(Srv {
+            priority: srv.priority,
+            weight: srv.weight,
+            port: srv.port,
+            target: Name::read(message, srv.target)?,
+        })
+    }
+}
+
+impl<'a> Strings<'a> {
+    /// The strings of a TXT.
+    pub fn of(txt: &'a [u8]) -> Strings<'a> {
+        Strings { txt, at: 0 }
+    }
+}
+
+impl<'a> Iterator for Strings<'a> {
+    type Item = &'a [u8];
+
+    fn next(&mut self) -> Option<&'a [u8]> {
+        let string = unsafe { kurgashel_txt_string(self.txt.as_ptr(), self.txt.len(), self.at) };
+        if !string.found {
+            return None;
+        }
+        self.at = string.next;
+        Some(&self.txt[string.text..string.text + string.length])
+    }
+}
+
+impl<'a> Data<'a> {
+    /// What the rdata of a type says that is a part of a message, if it is as its type asks. Strings of a TXT are read one by one.
+    pub fn read(rtype: u16, message: &'a [u8], rdata: Range<usize>) -> Option<Data<'a>> {
+        let part = message.get(rdata.clone())?;
+        Some(match rtype {
+            A => Data::A(address::<4>(rtype, message, rdata)?.into()),
+            AAAA => Data::Aaaa(address::<16>(rtype, message, rdata)?.into()),
+            PTR if name_end(message, rdata.start) == Some(rdata.end) => {
+                Data::Ptr(Name::read(message, rdata.start)?)
+            }
+            PTR => return None,
+            TXT => Data::Txt(Strings::of(part)),
+            SRV => Data::Srv(Srv::read(message, rdata)?),
+            _ => Data::Other(part),
+        })
+    }
+
+    /// What the rdata of a type says in which names are uncompressed, such as that of a cache.
+    pub fn of(rtype: u16, rdata: &'a [u8]) -> Option<Data<'a>> {
+        Data::read(rtype, rdata, 0..rdata.len())
+    }
+
+    /// The name in a PTR or an SRV.
+    pub fn target(&self) -> Option<&Name> {
+        match self {
+            Data::Ptr(name) => Some(name),
+            Data::Srv(srv) => Some(&srv.target),
+            _ => None,
+        }
     }
 }
 
@@ -157,29 +307,32 @@ impl<'a> Message<'a> {
         (0..self.sections.counts[index]).map_while(move |_| {
             let r = unsafe { kurgashel_record(self.bytes.as_ptr(), self.bytes.len(), at) };
             at = r.next;
-            r.found.then(|| self.record(&r))
+            r.found.then(|| self.record(&r))?
         })
     }
 
-    fn record(&self, r: &RecordAt) -> Record<'a> {
-        let target = match r.rtype {
-            PTR => Some(self.name(r.rdata)),
-            SRV => Some(self.name(r.rdata + 6)),
-            _ => None,
-        };
-        Record {
+    fn record(&self, r: &RecordAt) -> Option<Record<'a>> {
+        let rdata = r.rdata..r.rdata + r.rdata_length;
+        Some(Record {
             owner: self.name(r.owner),
             rtype: r.rtype,
             class: r.class,
             ttl: r.ttl,
-            rdata: &self.bytes[r.rdata..r.rdata + r.rdata_length],
-            target,
-        }
+            rdata: &self.bytes[rdata.clone()],
+            data: Data::read(r.rtype, self.bytes, rdata)?,
+        })
     }
 
     fn name(&self, at: usize) -> Name {
         unsafe { kurgashel_name(self.bytes.as_ptr(), self.bytes.len(), at) }
     }
+}
+
+/// The address of a type in the rdata that is a part of a message, if it has so many bytes.
+fn address<const N: usize>(rtype: u16, message: &[u8], rdata: Range<usize>) -> Option<[u8; N]> {
+    let (bytes, length) = (message.as_ptr(), rdata.len());
+    let found = unsafe { kurgashel_address(bytes, message.len(), rtype, rdata.start, length) };
+    found.bytes[..found.length].try_into().ok()
 }
 
 /// Whether a message is well formed, or why not. The source port is the caller's to test.

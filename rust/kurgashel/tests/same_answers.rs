@@ -3,7 +3,7 @@
 use std::collections::BTreeMap;
 
 use kurgashel::{
-    txt_lookup, Cache, Message, Pair, Refusal, Responder, Section, Setup, STATE_BYTES,
+    txt_lookup, Cache, Data, Message, Pair, Refusal, Responder, Section, Setup, STATE_BYTES,
 };
 use reference::console::{hex, Console};
 use reference::script::script;
@@ -39,6 +39,23 @@ fn number(field: &str) -> u64 {
     field.parse().expect("a number")
 }
 
+/// Rdata made again from what it says, names in it uncompressed.
+fn rdata(data: &Data) -> Vec<u8> {
+    match data {
+        Data::A(address) => address.octets().into(),
+        Data::Aaaa(address) => address.octets().into(),
+        Data::Ptr(name) => name.as_bytes().into(),
+        Data::Txt(strings) => strings
+            .flat_map(|string| [&[string.len() as u8], string].concat())
+            .collect(),
+        Data::Srv(srv) => {
+            let numbers = [srv.priority, srv.weight, srv.port].map(u16::to_be_bytes);
+            [numbers.as_flattened(), srv.target.as_bytes()].concat()
+        }
+        Data::Other(bytes) => bytes.to_vec(),
+    }
+}
+
 /// A message as the console shows it, names in the rdata of PTR and SRV expanded.
 fn read_words(message: &Message) -> String {
     let mut words = format!("message {} {}", message.id(), message.flags());
@@ -51,14 +68,7 @@ fn read_words(message: &Message) -> String {
         ("ar", Section::Additional),
     ] {
         for r in message.records(section) {
-            let rdata = match &r.target {
-                Some(target) => [
-                    &r.rdata[..if r.rtype == 33 { 6 } else { 0 }],
-                    target.as_bytes(),
-                ]
-                .concat(),
-                None => r.rdata.to_vec(),
-            };
+            let rdata = rdata(&r.data);
             words += &format!(
                 " r {word} {} {} {} {} {}",
                 hex(r.owner.as_bytes()),

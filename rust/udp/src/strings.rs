@@ -1,5 +1,7 @@
 //! Character strings of a TXT record (RFC 6763 section 6.1): a length byte, then that many bytes.
 
+use kurgashel::Strings;
+
 /// The TXT data of these strings; a TXT without strings is one empty string. Nothing where a string is over 255 bytes.
 pub fn encode(strings: &[String]) -> Option<Vec<u8>> {
     if strings.is_empty() {
@@ -16,14 +18,11 @@ pub fn encode(strings: &[String]) -> Option<Vec<u8>> {
 /// The keys of well-formed TXT data, in their order, each once with letters folded. Strings without a key have none.
 pub fn keys(txt: &[u8]) -> Vec<&[u8]> {
     let mut keys: Vec<&[u8]> = Vec::new();
-    let mut rest = txt;
-    while let Some((length, after)) = rest.split_first() {
-        let (string, after) = after.split_at(after.len().min((*length).into()));
+    for string in Strings::of(txt) {
         let key = string.split(|byte| *byte == b'=').next().unwrap_or(b"");
         if !key.is_empty() && !keys.iter().any(|known| known.eq_ignore_ascii_case(key)) {
             keys.push(key);
         }
-        rest = after;
     }
     keys
 }
@@ -53,7 +52,7 @@ mod tests {
     }
 
     #[test]
-    fn damaged_data_is_cut() {
-        assert_eq!(keys(b"\x09a=1"), [b"a"]);
+    fn a_string_that_is_cut_has_no_key() {
+        assert_eq!(keys(b"\x03a=1\x09b=2"), [b"a"]);
     }
 }

@@ -17,10 +17,10 @@ enum-known-number : tie.Need-enum-known-number
 enum-known-number c = search needs
 
 returns : tie.Need-returns
-returns c = sym (ap refusalOf (sym (c .before .before .read-message .ensures) ∙ c .enum-told .given .1))
+returns c = sym (ap refusalOf (sym (c .before .before .read-message .ensures .0) ∙ c .enum-told .given .1))
 
 returns-2 : tie.Need-returns-2
-returns-2 c = sym (ap refusalOf (sym (c .before .before .before .read-message .ensures) ∙ c .before .number .given .1))
+returns-2 c = sym (ap refusalOf (sym (c .before .before .before .read-message .ensures .0) ∙ c .before .number .given .1))
 
 pub kurgashel-message-refusal-spec : {M : Type 1} → statement M
 kurgashel-message-refusal-spec =

@@ -1,4 +1,4 @@
-use Rattle.capi_responder.proofs.Receiving.{receive-kept, receive-taken}
+use Rattle.capi_responder.proofs.Calling.{of-receive, call-kept, call-taken}
 use borrow.Author.Needs.{needs}
 use Rattle.capi_responder.proofs.kurgashel_receive.Statement.{statement}
 use Rattle.capi_responder.proofs.kurgashel_receive.Tie as tie
@@ -27,8 +27,8 @@ returns c =
     let receive = refusal .before .before .before in
     let read = receive .before .before in
     let a = read .before .before .before .before .before .args in
-    receive-kept (a .state .now) (a .packet .now) (a .out .now) _ _ _ (read .read-state .ensures) (receive .receive .ensures .0) (receive .receive .ensures .1 .0)
-    (refusal .refusal-of .ensures) (c .answered .ensures) (c .before .if1 .taken)
+    call-kept (a .state .now) (a .out .now) _ (read .read-state .ensures) (of-receive (receive .receive .ensures)) (refusal .refusal-of .ensures)
+    (c .answered .ensures) (c .before .if1 .taken)
 
 put-progress-requires : tie.Need-put-progress-requires
 put-progress-requires c κs = search needs
@@ -50,8 +50,8 @@ returns-2 c =
     let receive = refusal .before .before .before in
     let read = receive .before .before in
     let a = read .before .before .before .before .before .args in
-    receive-taken (a .state .now) (a .packet .now) (a .out .now) _ _ _ (read .read-state .ensures) (receive .receive .ensures .0) (receive .receive .ensures .1 .0)
-    (refusal .refusal-of .ensures) (c .answered2 .ensures) (if1 .if1 .left) (put .put-progress .ensures)
+    call-taken (a .state .now) (a .out .now) _ (read .read-state .ensures) (of-receive (receive .receive .ensures)) (refusal .refusal-of .ensures)
+    (c .answered2 .ensures) (if1 .if1 .left) (put .put-progress .ensures)
 
 pub kurgashel-receive-spec : {M : Type 1} → statement M
 kurgashel-receive-spec =

@@ -45,8 +45,8 @@ returns-2 c =
     let start = refusal .before in
     let setup = start .before in
     let a = setup .before .before .before .args in
-    start-taken (a .state .now) (a .setup .now) _ _ (setup .setup-for .ensures) (start .start .ensures .0) (refusal .refusal-of .ensures) (c .answered2 .ensures)
-    (if1 .if1 .left) (put-setup .put-setup .ensures) (put-progress .put-progress .ensures)
+    start-taken (a .state .now) (a .setup .now) _ _ (setup .setup-for .ensures) (start .start .ensures .0) (refusal .refusal-of .ensures)
+    (c .answered2 .ensures) (if1 .if1 .left) (put-setup .put-setup .ensures) (put-progress .put-progress .ensures)
 
 pub kurgashel-start-spec : {M : Type 1} → statement M
 kurgashel-start-spec =

@@ -1,4 +1,4 @@
-use Rattle.capi_responder.proofs.Ticking.{tick-kept, tick-taken}
+use Rattle.capi_responder.proofs.Calling.{of-tick, call-kept, call-taken}
 use borrow.Author.Needs.{needs}
 use Rattle.capi_responder.proofs.kurgashel_tick.Statement.{statement}
 use Rattle.capi_responder.proofs.kurgashel_tick.Tie as tie
@@ -27,7 +27,7 @@ returns c =
     let tick = refusal .before .before .before in
     let read = tick .before .before in
     let a = read .before .before .before .before .args in
-    tick-kept (a .state .now) (a .out .now) _ (read .read-state .ensures) (tick .tick .ensures .0) (tick .tick .ensures .1 .0) (refusal .refusal-of .ensures) (c .answered .ensures)
+    call-kept (a .state .now) (a .out .now) _ (read .read-state .ensures) (of-tick (tick .tick .ensures)) (refusal .refusal-of .ensures) (c .answered .ensures)
     (c .before .if1 .taken)
 
 put-progress-requires : tie.Need-put-progress-requires
@@ -50,8 +50,8 @@ returns-2 c =
     let tick = refusal .before .before .before in
     let read = tick .before .before in
     let a = read .before .before .before .before .args in
-    tick-taken (a .state .now) (a .out .now) _ (read .read-state .ensures) (tick .tick .ensures .0) (tick .tick .ensures .1 .0) (refusal .refusal-of .ensures) (c .answered2 .ensures)
-    (if1 .if1 .left) (put .put-progress .ensures)
+    call-taken (a .state .now) (a .out .now) _ (read .read-state .ensures) (of-tick (tick .tick .ensures)) (refusal .refusal-of .ensures)
+    (c .answered2 .ensures) (if1 .if1 .left) (put .put-progress .ensures)
 
 pub kurgashel-tick-spec : {M : Type 1} → statement M
 kurgashel-tick-spec =

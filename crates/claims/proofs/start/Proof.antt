@@ -1,4 +1,4 @@
-use Rattle.claims.specs.Claims.{startOf}
+use Rattle.claims.specs.Claims.{begunAt}
 use borrow.Author.Needs.{needs}
 use Rattle.claims.proofs.start.Statement.{statement}
 use Rattle.claims.proofs.start.Tie as tie
@@ -10,7 +10,7 @@ never-sent-requires : tie.Need-never-sent-requires
 never-sent-requires c κs = search needs
 
 returns : tie.Need-returns
-unfolding startOf
+unfolding begunAt
 returns c = simp (c .never-sent .ensures, c .before .after .ensures)
 
 pub start-spec : {M : Type 1} → statement M

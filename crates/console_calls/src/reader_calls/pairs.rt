@@ -28,12 +28,13 @@ fn held(h: txt::Held, part: &[u8], text: &mut [u8; 4096]) {
 
 // The answer for a key.
 fn shown<'a>(key: &[u8], received: &'a [u8], factory: &'a [u8], text: &mut [u8; 4096]) {
-    match txt::lookup(key, received, factory) {
+    let answer = txt::answer_for(key, received, factory);
+    match answer {
         txt::Answer::Refused(n) => refused(text, n as u64),
         txt::Answer::Absent => only(text, b"absent"),
         txt::Answer::Present => only(text, b"present"),
         txt::Answer::Empty => only(text, b"empty"),
-        txt::Answer::Value(h) => held(h, txt::shown(key, received, factory), text),
+        txt::Answer::Value(h) => held(h, txt::part_of(answer, received, factory), text),
     }
 }
 

@@ -1,49 +1,67 @@
-use Prim.Native.Nat.{_≤_, _-_}
-use mathlib.Core.Path.{_≡_, ap, _∙_}
-use mathlib.Core.Bool.{true, false}
+use mathlib.Core.Path.{_≡_, sym, _∙_}
 use native.Mathlib.Omega.{arith}
-use Rattle.wire.specs.message.Layout.{listFrom, questionAt}
-use Rattle.claims.specs.records.Own.{records}
-use Rattle.claims.proofs.records.Filled.{filled, none-filled, next-filled, set-filled}
-use Rattle.facts.specs.Walked.{isListed}
-use Rattle.facts.proofs.Owned.{asks}
+use Rattle.wire.specs.message.Layout.{questionAt}
+use Rattle.wire.specs.message.Readable.{readable}
+use Rattle.wire.proofs.message.Walk.{question-found, question-broken}
+use Rattle.facts.proofs.Asked.{askedIn, asked-done, asked-broken, asked-turn, asked-all}
 use borrow.Author.Needs.{needs}
 use Rattle.facts.proofs.asked_for.Statement.{statement}
 use Rattle.facts.proofs.asked_for.Tie as tie
 
 abbrev Inv-loop : tie.InvT-loop
-Inv-loop p s setup asked₀ i₀ asked i =
-    (i ≤ records) × (isListed (listFrom (questionAt p) (s .count) (s .at)) ≡ true → asked ≡ filled false (asks setup (listFrom (questionAt p) (s .count) (s .at))) i)
+Inv-loop p setup asked₀ here₀ left₀ asked here left =
+    askedIn setup asked₀ (readable (questionAt p) left₀ here₀) ≡ askedIn setup asked (readable (questionAt p) left here)
 
 abbrev μ-loop : tie.MeasureT-loop
-μ-loop p s setup asked₀ i₀ asked i = records - i
+μ-loop p setup asked₀ here₀ left₀ asked here left = left
+
+no-record-requires : tie.Need-no-record-requires Inv-loop μ-loop
+no-record-requires c κs = search needs
 
 loop-holds : tie.Need-loop-holds Inv-loop μ-loop
-loop-holds c = (omega arith, λ ok. none-filled false _)
+loop-holds c = search needs
 
-record-at-requires : tie.Need-record-at-requires Inv-loop μ-loop
-record-at-requires c κs = search needs
+question-at-requires : tie.Need-question-at-requires Inv-loop μ-loop
+question-at-requires c κs = search needs
 
-is-asked-requires : tie.Need-is-asked-requires Inv-loop μ-loop
-is-asked-requires c κs = search needs
+enum-known-q : tie.Need-enum-known-q Inv-loop μ-loop
+enum-known-q c = search needs
 
-array-write-asked : tie.Need-array-write-asked Inv-loop μ-loop
-array-write-asked c = search needs
+asked-with-requires : tie.Need-asked-with-requires Inv-loop μ-loop
+asked-with-requires c κs =
+    (c .before .before .before .before .before .loop .here, sym (c .before .before .before .question-at .ensures) ∙ c .before .q .given .1)
 
-add-i : tie.Need-add-i Inv-loop μ-loop
-add-i c = search needs
+enum-told : tie.Need-enum-told Inv-loop μ-loop
+enum-told c = search needs
+
+returns : tie.Need-returns Inv-loop μ-loop
+returns c =
+    let a = c .before .before .before .before .before .before .before .before .args in
+    let l = c .before .before .before .before .loop in
+    asked-all (a .p .now) (a .l) (a .setup) _ (c .before .before .before .before .before .no-record .ensures) _
+    (asked-broken (a .p .now) (a .setup) _ (l .left) (l .here) (l .asked) (l .inv)
+    (question-broken (a .p .now) (l .here) _ (c .before .before .question-at .ensures) (c .enum-told .given .1)))
+
+sub-left : tie.Need-sub-left Inv-loop μ-loop
+sub-left c = search needs
 
 loop-less : tie.Need-loop-less Inv-loop μ-loop
 loop-less c = search needs
 
 loop-again : tie.Need-loop-again Inv-loop μ-loop
-loop-again c = (omega arith, λ ok. let a = c .before .before .before .before .before .args in next-filled false _ _ _ _ (c .before .before .before .loop .inv .1 ok) (c .is-asked .ensures ok ∙ ap (asks (a .setup) (listFrom (questionAt (a .p .now)) (a .s .count) (a .s .at))) (c .before .record-at .ensures)))
+loop-again c =
+    let a = c .before .before .before .before .before .before .before .before .before .before .args in
+    let l = c .before .before .before .before .before .before .loop in
+    asked-turn (a .p .now) (a .setup) _ (l .left) (l .here) (l .asked) (l .inv) (omega arith) _
+    (question-found (a .p .now) (l .here) _ (c .before .before .before .before .question-at .ensures) _ (c .before .before .q .given .1)) _
+    (c .asked-with .ensures)
 
-set-of-requires : tie.Need-set-of-requires Inv-loop μ-loop
-set-of-requires c κs = search needs
-
-returns : tie.Need-returns Inv-loop μ-loop
-returns c = λ ok. set-filled _ _ _ _ (c .set-of .ensures) (omega arith) (c .before .before .loop .inv .0) (c .before .before .loop .inv .1 ok)
+returns-2 : tie.Need-returns-2 Inv-loop μ-loop
+returns-2 c =
+    let a = c .before .before .before .before .before .args in
+    let l = c .before .loop in
+    asked-all (a .p .now) (a .l) (a .setup) _ (c .before .before .no-record .ensures) _
+    (asked-done (a .p .now) (a .setup) _ (l .left) (l .here) (l .asked) (l .inv) (omega arith))
 
 pub asked-for-spec : {M : Type 1} → statement M
 asked-for-spec =
@@ -51,12 +69,14 @@ asked-for-spec =
     (tie.spec
     Inv-loop
     μ-loop
+    no-record-requires
     loop-holds
-    record-at-requires
-    is-asked-requires
-    array-write-asked
-    add-i
+    question-at-requires
+    enum-known-q
+    asked-with-requires
+    enum-told
+    returns
+    sub-left
     loop-less
     loop-again
-    set-of-requires
-    returns)
+    returns-2)

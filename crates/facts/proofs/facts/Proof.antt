@@ -1,3 +1,5 @@
+use native.Mathlib.Omega.{arith}
+use Rattle.wire.specs.message.Readable.{messageIn}
 use Rattle.facts.proofs.Said.{says-response, says-query}
 use borrow.Author.Needs.{needs}
 use Rattle.facts.proofs.facts.Statement.{statement}
@@ -16,7 +18,11 @@ response-to-requires-2 : tie.Need-response-to-requires-2
 response-to-requires-2 c κs = search needs
 
 returns : tie.Need-returns
-returns c = λ m is. let a = c .before .before .before .before .before .before .before .args in says-response (a .p .now) (a .l) (a .setup) m is (c .before .before .before .before .if1 .taken) _ _ (c .before .before .before .no-record .ensures) (c .before .before .no-record2 .ensures) _ _ (c .before .response-to .ensures m is) (c .response-to2 .ensures m is)
+unfolding messageIn
+returns c =
+    let a = c .before .before .before .before .before .before .before .args in
+    says-response (a .setup) (messageIn (a .p .now) (a .l)) _ _ _ _ (omega arith)
+    (c .before .before .before .no-record .ensures) (c .before .before .no-record2 .ensures) (c .before .response-to .ensures) (c .response-to2 .ensures)
 
 asked-for-requires : tie.Need-asked-for-requires
 asked-for-requires c κs = search needs
@@ -31,7 +37,11 @@ query-to-requires-2 : tie.Need-query-to-requires-2
 query-to-requires-2 c κs = search needs
 
 returns-2 : tie.Need-returns-2
-returns-2 c = λ m is. let a = c .before .before .before .before .before .before .before .before .before .args in says-query (a .p .now) (a .l) (a .setup) m is (c .before .before .before .before .before .before .if1 .left) _ _ (c .before .before .before .asked-for .ensures) (c .before .before .known-in .ensures) _ _ (c .before .query-to .ensures) (c .query-to2 .ensures)
+unfolding messageIn
+returns-2 c =
+    let a = c .before .before .before .before .before .before .before .args in
+    says-query (a .setup) (messageIn (a .p .now) (a .l)) _ _ _ _ (omega arith)
+    (c .before .before .before .asked-for .ensures) (c .before .before .known-in .ensures) (c .before .query-to .ensures) (c .query-to2 .ensures)
 
 pub facts-spec : {M : Type 1} → statement M
 facts-spec =

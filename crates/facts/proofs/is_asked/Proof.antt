@@ -1,9 +1,22 @@
 use mathlib.Core.Path.{_∙_}
-use Rattle.wire.specs.message.Layout.{listFrom, questionAt}
-use Rattle.facts.proofs.Owned.{own-part, asks-own}
+use Rattle.wire.specs.message.Readable.{questionShown}
+use Rattle.claims.specs.records.Own.{ownType}
+use Rattle.own.specs.records.Records.{ownName}
+use Rattle.facts.specs.Questions.{asksFor}
+use Rattle.facts.proofs.Owned.{own-part}
+use Rattle.facts.proofs.Asked.{asked-before, asked-here}
 use borrow.Author.Needs.{needs}
 use Rattle.facts.proofs.is_asked.Statement.{statement}
 use Rattle.facts.proofs.is_asked.Tie as tie
+
+is-in-requires : tie.Need-is-in-requires
+is-in-requires c κs = search needs
+
+returns : tie.Need-returns
+returns c =
+    let a = c .before .before .before .args in
+    asked-before (a .asked) (a .o) _ (c .before .is-in .ensures) (c .if1 .taken)
+    (asksFor (ownName (a .setup) (a .o)) (ownType (a .o)) (questionShown (a .p .now) (a .q)))
 
 own-name-requires : tie.Need-own-name-requires
 own-name-requires c κs = search needs
@@ -17,19 +30,26 @@ part-requires c κs = search needs
 own-type-requires : tie.Need-own-type-requires
 own-type-requires c κs = search needs
 
-some-asks-requires : tie.Need-some-asks-requires
-some-asks-requires c κs = search needs
+asks-requires : tie.Need-asks-requires
+asks-requires c κs = search needs
 
-returns : tie.Need-returns
-returns c = λ ok. let a = c .before .before .before .before .before .before .before .args in c .some-asks .ensures ok ∙ asks-own (a .setup) (a .o) (listFrom (questionAt (a .p .now)) (a .s .count) (a .s .at)) _ _ (c .before .before .part .ensures .0 ∙ own-part _ _ (c .before .before .before .before .before .own-name .ensures)) (c .before .own-type .ensures)
+returns-2 : tie.Need-returns-2
+returns-2 c =
+    let a = c .before .before .before .before .before .before .before .before .before .args in
+    let n = c .before .before .part .ensures .0 ∙ own-part _ _ (c .before .before .before .before .before .own-name .ensures) in
+    asked-here (a .asked) (a .o) _ (c .before .before .before .before .before .before .before .is-in .ensures)
+    (c .before .before .before .before .before .before .if1 .left) _ _
+    (c .asks .ensures ∙ (λ j. asksFor (n j) (c .before .own-type .ensures j) (questionShown (a .p .now) (a .q))))
 
 pub is-asked-spec : {M : Type 1} → statement M
 is-asked-spec =
     tie.close
     (tie.spec
+    is-in-requires
+    returns
     own-name-requires
     slice-aggregate-part
     part-requires
     own-type-requires
-    some-asks-requires
-    returns)
+    asks-requires
+    returns-2)

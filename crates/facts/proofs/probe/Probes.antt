@@ -1,19 +1,16 @@
--- Whether a message is a probe does not depend on the spelling of the claim's name; and what the contract says of a message that was read. Assumes
--- nothing.
-use mathlib.Core.Path.{_≡_, refl, ap}
+-- Whether a message is a probe does not depend on the spelling of the claim's name; and what its question is. Assumes nothing.
+use mathlib.Core.Path.{_≡_, refl}
 use mathlib.Core.List.{List, [], _∷_}
-use mathlib.Core.Bool.{Bool, true, false}
+use mathlib.Core.Bool.{Bool, true, false, _&&_, _||_}
 use Prim.Native.Nat.{ℕ}
 use native.Mathlib.Omega.{arith}
+use lib.Dec.{eqb}
 use Rattle.wire.specs.case_folding.Fold.{sameName}
 use Rattle.wire.proofs.case_folding.Equal.{same-sym, same-trans}
-use Rattle.wire.specs.message.Message.{Question, Record, Message}
-use Rattle.wire.specs.message.Layout.{read, messageAt}
-use Rattle.wire.specs.declared.message.Layout.{Layout}
+use Rattle.wire.specs.message.Message.{Question, Record, Message, classOf}
 use Rattle.wire.specs.Lists.{some}
-use Rattle.wire.specs.message.Readable.{messageIn}
+use Rattle.facts.specs.Questions.{takesIn}
 use Rattle.facts.specs.probe.Probe.{under, asksAll, isProbe}
-use Rattle.wire.proofs.message.Walk.{layout-shows}
 
 -- names that are equal, letters folded, have the same probes
 module _ (a b : List ℕ) (same : sameName a b ≡ true) where
@@ -44,7 +41,10 @@ module _ (a b : List ℕ) (same : sameName a b ≡ true) where
   unfolding isProbe
   spelling-probe m = rw (spelling-asks (m .questions), spelling-some (m .authorities))
 
--- What the contract of `is_probe` says of a message that was read.
-module _ (p : List ℕ) (l : Layout) (m : Message) (was : messageAt p ≡ read l m) (other : List ℕ) where
-  pub probe-read : isProbe other (messageIn p l) ≡ isProbe other m
-  probe-read = ap (isProbe other) (layout-shows p l m was)
+-- a question that asks for all that a name has is of type 255, and of class 1 or 255
+pub asks-all : (n : List ℕ) (q : Question) → asksAll n q ≡ (sameName (q .name) n && (eqb (q .rtype) 255 && takesIn (classOf (q .class)) 1))
+asks-all n q = go (eqb (q .rtype) 255)
+  where
+    go : (b : Bool) → (sameName (q .name) n && ((b || b) && takesIn (classOf (q .class)) 1)) ≡ (sameName (q .name) n && (b && takesIn (classOf (q .class)) 1))
+    go true = refl
+    go false = refl

@@ -1,44 +1,52 @@
-use borrow.Author.Needs.{needs}
-use mathlib.Core.Path.{_≡_, refl, sym, _∙_}
-use mathlib.Core.Bool.{true}
+use mathlib.Core.Path.{_≡_, sym, _∙_}
 use native.Mathlib.Omega.{arith}
-use Rattle.wire.specs.message.Layout.{listFrom, recordAt}
+use Rattle.wire.specs.Lists.{some}
+use Rattle.wire.specs.message.Layout.{recordAt}
+use Rattle.wire.specs.message.Readable.{readable, recordShown}
+use Rattle.wire.proofs.message.Walk.{some-found, some-on, some-broken, some-done, record-found, record-broken}
 use Rattle.facts.specs.Facts.{conflicts}
-use Rattle.facts.specs.Walked.{isListed, someIn}
-use Rattle.facts.proofs.Walks.{none-left, record-bad, record-meets, record-passed, conflicts-so}
+use borrow.Author.Needs.{needs}
 use Rattle.facts.proofs.some_conflicts.Statement.{statement}
 use Rattle.facts.proofs.some_conflicts.Tie as tie
-use Rattle.facts.proofs.some_conflicts.Reads as reads
-use Rattle.facts.proofs.some_conflicts.Lts as lts
-use Rattle.facts.proofs.conflicts_here.Reads as conflicts-here-reads
-use Rattle.wire.proofs.message.record_at.Reads as record-at-reads
 
 abbrev Inv-loop : tie.InvT-loop
-Inv-loop p name rtype own here₀ left₀ here left = isListed (listFrom (recordAt p) left₀ here₀) ≡ true → (isListed (listFrom (recordAt p) left here) ≡ true) × (someIn (conflicts name rtype own) (listFrom (recordAt p) left₀ here₀) ≡ someIn (conflicts name rtype own) (listFrom (recordAt p) left here))
+Inv-loop p name rtype own here₀ left₀ here left =
+    some (conflicts name rtype own) (readable (recordAt p) left₀ here₀) ≡ some (conflicts name rtype own) (readable (recordAt p) left here)
 
 abbrev μ-loop : tie.MeasureT-loop
 μ-loop p name rtype own here₀ left₀ here left = left
 
 loop-holds : tie.Need-loop-holds Inv-loop μ-loop
-loop-holds c = λ ok. (ok, refl)
+loop-holds c = search needs
 
-record-at-requires : tie.Need-record-at-requires Inv-loop μ-loop
-record-at-requires c κs = search needs
+whole-record-requires : tie.Need-whole-record-requires Inv-loop μ-loop
+whole-record-requires c κs = search needs
 
 enum-known-f : tie.Need-enum-known-f Inv-loop μ-loop
 enum-known-f c = search needs
 
-conflicts-here-requires : tie.Need-conflicts-here-requires Inv-loop μ-loop
-conflicts-here-requires c κs = search needs
+conflicts-requires : tie.Need-conflicts-requires Inv-loop μ-loop
+conflicts-requires c κs =
+    (c .before .before .before .before .before .loop .here, sym (c .before .before .before .whole-record .ensures) ∙ c .before .f .given .1)
 
 returns : tie.Need-returns Inv-loop μ-loop
-returns c = λ ok. let a = c .before .before .before .before .before .before .before .before .before .before .before .args in let l = c .before .before .before .before .before .before .before .loop in let i = l .inv ok in sym (i .1 ∙ record-meets (a .p .now) (l .left) (l .here) (c .before .before .before .before .before .before .loop-test .taken) _ (c .before .before .before .before .before .record-at .ensures) (i .0) _ (c .before .before .before .f .given .1) (conflicts (a .name .now) (a .rtype) (a .own .now)) _ (c .before .conflicts-here .ensures ∙ conflicts-so (a .p .now) (l .left) (l .here) (c .before .before .before .before .before .before .loop-test .taken) _ (c .before .before .before .before .before .record-at .ensures) (i .0) _ (c .before .before .before .f .given .1) (a .name .now) (a .rtype) (a .own .now)) (c .if1 .taken))
+returns c =
+    let a = c .before .before .before .before .before .before .before .before .before .before .before .args in
+    let l = c .before .before .before .before .before .before .before .loop in
+    let m = record-found (a .p .now) (l .here) _ (c .before .before .before .before .before .whole-record .ensures) _ (c .before .before .before .f .given .1)
+    in
+    some-found (conflicts (a .name .now) (a .rtype) (a .own .now)) (recordAt (a .p .now)) _ (l .left) (l .here) (l .inv) (omega arith)
+    (recordShown (a .p .now) (c .before .before .before .f .given .0 .0)) _ (m .here) _ (c .before .conflicts .ensures) (c .if1 .taken)
 
 enum-told : tie.Need-enum-told Inv-loop μ-loop
 enum-told c = search needs
 
 returns-2 : tie.Need-returns-2 Inv-loop μ-loop
-returns-2 c = λ ok. let a = c .before .before .before .before .before .before .before .before .args in let l = c .before .before .before .before .loop in let i = l .inv ok in absurd (record-bad (a .p .now) (l .left) (l .here) (c .before .before .before .loop-test .taken) _ (c .before .before .record-at .ensures) (i .0) (c .enum-told .given .1))
+returns-2 c =
+    let a = c .before .before .before .before .before .before .before .before .args in
+    let l = c .before .before .before .before .loop in
+    some-broken (conflicts (a .name .now) (a .rtype) (a .own .now)) (recordAt (a .p .now)) _ (l .left) (l .here) (l .inv)
+    (record-broken (a .p .now) (l .here) _ (c .before .before .whole-record .ensures) (c .enum-told .given .1))
 
 sub-left : tie.Need-sub-left Inv-loop μ-loop
 sub-left c = search needs
@@ -47,10 +55,19 @@ loop-less : tie.Need-loop-less Inv-loop μ-loop
 loop-less c = search needs
 
 loop-again : tie.Need-loop-again Inv-loop μ-loop
-loop-again c = λ ok. let a = c .before .before .before .before .before .before .before .before .before .before .before .args in let l = c .before .before .before .before .before .before .before .loop in let i = l .inv ok in let m = record-passed (a .p .now) (l .left) (l .here) (c .before .before .before .before .before .before .loop-test .taken) _ (c .before .before .before .before .before .record-at .ensures) (i .0) _ (c .before .before .before .f .given .1) (conflicts (a .name .now) (a .rtype) (a .own .now)) _ (c .before .conflicts-here .ensures ∙ conflicts-so (a .p .now) (l .left) (l .here) (c .before .before .before .before .before .before .loop-test .taken) _ (c .before .before .before .before .before .record-at .ensures) (i .0) _ (c .before .before .before .f .given .1) (a .name .now) (a .rtype) (a .own .now)) (c .if1 .left) in (m .0, i .1 ∙ m .1)
+loop-again c =
+    let a = c .before .before .before .before .before .before .before .before .before .before .before .args in
+    let l = c .before .before .before .before .before .before .before .loop in
+    let m = record-found (a .p .now) (l .here) _ (c .before .before .before .before .before .whole-record .ensures) _ (c .before .before .before .f .given .1)
+    in
+    some-on (conflicts (a .name .now) (a .rtype) (a .own .now)) (recordAt (a .p .now)) _ (l .left) (l .here) (l .inv) (omega arith)
+    (recordShown (a .p .now) (c .before .before .before .f .given .0 .0)) _ (m .here) _ (c .before .conflicts .ensures) (c .if1 .left)
 
 returns-3 : tie.Need-returns-3 Inv-loop μ-loop
-returns-3 c = λ ok. let a = c .before .before .before .before .before .args in let l = c .before .loop in let i = l .inv ok in sym (i .1 ∙ none-left (conflicts (a .name .now) (a .rtype) (a .own .now)) (recordAt (a .p .now)) (l .left) (l .here) (c .loop-test .left) (i .0))
+returns-3 c =
+    let a = c .before .before .before .before .before .args in
+    let l = c .before .loop in
+    some-done (conflicts (a .name .now) (a .rtype) (a .own .now)) (recordAt (a .p .now)) _ (l .left) (l .here) (l .inv) (omega arith)
 
 pub some-conflicts-spec : {M : Type 1} → statement M
 some-conflicts-spec =
@@ -59,9 +76,9 @@ some-conflicts-spec =
     Inv-loop
     μ-loop
     loop-holds
-    record-at-requires
+    whole-record-requires
     enum-known-f
-    conflicts-here-requires
+    conflicts-requires
     returns
     enum-told
     returns-2

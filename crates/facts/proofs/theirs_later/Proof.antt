@@ -60,7 +60,22 @@ is-later-requires c κs = search needs
 
 returns : tie.Need-returns
 unfolding theirsLater
-returns c = let a = c .before .before .before .before .before .before .before .before .before .before .before .before .before .before .before .before .before .before .before .before .args in let f = c .before .before .before .before .before .before .before .before .before .before .before .before .before .before .before .before .before .before .first-of .ensures in let g = c .before .before .before .before .before .before .before .before .before .before .before .before .before .before .before .before .before .second-of .ensures in let n = c .before .before .before .before .before .before .part .ensures .0 ∙ own-part _ _ (c .before .before .before .before .before .before .before .before .before .before .before .before .before .before .before .before .own-name .ensures) ∙ ap (ownName (a .setup)) f in let d = c .before .before .before .before .part2 .ensures .0 ∙ own-part _ _ (c .before .before .before .before .before .before .before .before .before .before .before .before .before .before .own-rdata .ensures) ∙ ap (ownRdata (a .setup)) f in let e = c .before .before .part3 .ensures .0 ∙ own-part _ _ (c .before .before .before .before .before .before .before .before .before .before .before .before .own-rdata2 .ensures) ∙ ap (ownRdata (a .setup)) g in let y = c .before .before .before .before .before .before .before .before .before .before .own-type .ensures ∙ ap ownType f in let z = c .before .before .before .before .before .before .before .before .before .own-type2 .ensures ∙ ap ownType g in let h = c .before .before .before .before .before .before .before .before .has-record .ensures ∙ ap (hasRecord (a .setup)) g in c .is-later .ensures ∙ ap isLater (c .before .tiebreak .ensures .0 ∙ (λ j. tie (theirs (n j) (messageIn (a .p .now) (a .l))) (ownList (y j) (d j) (h j) (z j) (e j))))
+returns c =
+    let types = c .before .before .before .before .before .before .before .before in
+    let two = types .before .before .before .before in
+    let one = two .before .before in
+    let name = one .before .before in
+    let a = name .before .before .before .before .args in
+    let f = name .before .before .first-of .ensures in
+    let g = name .before .second-of .ensures in
+    let n = c .before .before .before .before .before .before .part .ensures .0 ∙ own-part _ _ (name .own-name .ensures) ∙ ap (ownName (a .setup)) f in
+    let d = c .before .before .before .before .part2 .ensures .0 ∙ own-part _ _ (one .own-rdata .ensures) ∙ ap (ownRdata (a .setup)) f in
+    let e = c .before .before .part3 .ensures .0 ∙ own-part _ _ (two .own-rdata2 .ensures) ∙ ap (ownRdata (a .setup)) g in
+    let y = types .before .before .own-type .ensures ∙ ap ownType f in
+    let z = types .before .own-type2 .ensures ∙ ap ownType g in
+    let h = types .has-record .ensures ∙ ap (hasRecord (a .setup)) g in
+    c .is-later .ensures ∙ ap isLater
+    (c .before .tiebreak .ensures .0 ∙ (λ j. tie (theirs (n j) (messageIn (a .p .now) (a .l))) (ownList (y j) (d j) (h j) (z j) (e j))))
 
 pub theirs-later-spec : {M : Type 1} → statement M
 theirs-later-spec =

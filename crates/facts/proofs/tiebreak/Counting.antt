@@ -12,7 +12,7 @@ use borrow.Author.Tests.{lt-ltb, le-ltb, ltb-true, ltb-false}
 use Rattle.facts.specs.declared.tiebreak.Verdict.{Verdict}
 use Rattle.facts.specs.declared.tiebreak.Verdict.the-variants.{Earlier, Same, Later}
 use Rattle.facts.specs.declared.tiebreak.Counts.{Counts}
-use Rattle.facts.specs.tiebreak.Later.{isLater, orElse, inTurn, TieRecord, compareRecords, insertBy, sortBy, tie}
+use Rattle.facts.specs.tiebreak.Later.{isLater, unlessSame, inTurn, TieRecord, compareRecords, insertBy, sortBy, tie}
 use Rattle.facts.specs.tiebreak.Counts.{countOne, countAll, noneCounted, placed, beyond}
 use Rattle.facts.proofs.tiebreak.Orders.{opposite, records-order}
 use Rattle.facts.proofs.tiebreak.Sorting.{Least, none, and, Sorted, empty, first, not-later-swap, not-later-trans, sort-sorted, sort-perm}
@@ -60,7 +60,9 @@ on-top x (t ∷ ts) c = on-top x ts (countOne (compareRecords t x) c) ∙ go (co
         → _≡_ {A = Counts} (record { all = a₁; earlier = e₁; same = s₁ }) (record { all = a₂; earlier = e₂; same = s₂ })
     three a₁ a₂ e₁ e₂ s₁ s₂ a e s = λ i. record { all = a i; earlier = e i; same = s i }
 
-    go : (v : Verdict) → onTop (countOne v c) (counts x ts) ≡ onTop c (record { all = suc (length ts); earlier = oneEarlier v + earlierIn x ts; same = oneSame v + sameIn x ts })
+    go : (v : Verdict)
+        → onTop (countOne v c) (counts x ts)
+        ≡ onTop c (record { all = suc (length ts); earlier = oneEarlier v + earlierIn x ts; same = oneSame v + sameIn x ts })
     go Earlier = three _ _ _ _ _ _ (omega arith) (omega arith) (omega arith)
     go Same = three _ _ _ _ _ _ (omega arith) (omega arith) (omega arith)
     go Later = three _ _ _ _ _ _ (omega arith) (omega arith) (omega arith)
@@ -176,7 +178,8 @@ module _ (x : TieRecord) where
   none-earlier s [] none h = refl
   none-earlier s (t ∷ ts) (and e l) h = go (compareRecords x t) refl (not-later-trans compareRecords records-order x s t h e) (none-earlier s ts l h)
     where
-      go : (v : Verdict) → compareRecords x t ≡ v → isLater (compareRecords x t) ≡ false → earlierIn x ts ≡ 0 → oneEarlier (compareRecords t x) + earlierIn x ts ≡ 0
+      go : (v : Verdict) → compareRecords x t ≡ v → isLater (compareRecords x t) ≡ false → earlierIn x ts ≡ 0
+          → oneEarlier (compareRecords t x) + earlierIn x ts ≡ 0
       go Earlier e f again = rw (records-order .swap x t, e) (zero-add (earlierIn x ts) ∙ again)
       go Same e f again = rw (records-order .swap x t, e) (zero-add (earlierIn x ts) ∙ again)
       go Later e f again = let z : _≡_ {A = ℕ} 0 1 = cc in absurd (omega arith)
@@ -196,22 +199,27 @@ module _ (x : TieRecord) where
 
   -- the place `k` of a list in order is compared with x as the counts say
   at-place : (k : ℕ) (ss xs : List TieRecord) → Sorted compareRecords ss
-      → inTurn compareRecords (drop k ss) (x ∷ xs) ≡ orElse (placed k (counts x ss)) (inTurn compareRecords (drop (suc k) ss) xs)
+      → inTurn compareRecords (drop k ss) (x ∷ xs) ≡ unlessSame (placed k (counts x ss)) (inTurn compareRecords (drop (suc k) ss) xs)
   unfolding inTurn earlierIn sameIn
   at-place zero [] xs empty = rw (placed-out 0 (counts x []) (omega arith) (omega arith))
   at-place (suc k) [] xs empty = rw (placed-out (suc k) (counts x []) (omega arith) (omega arith))
   at-place zero (s ∷ ss) xs (first l sd) = go (compareRecords s x) refl
     where
       go : (v : Verdict) → compareRecords s x ≡ v
-          → orElse (compareRecords s x) (inTurn compareRecords ss xs) ≡ orElse (placed 0 (counts x (s ∷ ss))) (inTurn compareRecords ss xs)
+          → unlessSame (compareRecords s x) (inTurn compareRecords ss xs) ≡ unlessSame (placed 0 (counts x (s ∷ ss))) (inTurn compareRecords ss xs)
       go Earlier e = rw (placed-earlier 0 (counts x (s ∷ ss)) (rw e (omega arith)), e)
       go Same e =
           let back : compareRecords x s ≡ Same = records-order .swap s x ∙ ap opposite e in
           rw (placed-same 0 (counts x (s ∷ ss)) (rw (e, none-earlier s ss l (ap isLater back)) (omega arith)) (rw e (omega arith)), e)
       go Later e =
           let back : compareRecords x s ≡ Earlier = records-order .swap s x ∙ ap opposite e in
-          rw (placed-later 0 (counts x (s ∷ ss)) (rw (e, none-earlier s ss l (ap isLater back), none-same s ss l (ap isLater e)) (omega arith)) (omega arith), e)
-  at-place (suc k) (s ∷ ss) xs (first l sd) = at-place k ss xs sd ∙ ap (λ (v : Verdict). orElse v (inTurn compareRecords (drop (suc k) ss) xs)) (go (compareRecords s x) refl)
+          rw (
+            placed-later 0 (counts x (s ∷ ss)) (rw (e, none-earlier s ss l (ap isLater back), none-same s ss l (ap isLater e))
+                (omega arith)) (omega arith),
+            e,
+          )
+  at-place (suc k) (s ∷ ss) xs (first l sd) =
+      at-place k ss xs sd ∙ ap (λ (v : Verdict). unlessSame v (inTurn compareRecords (drop (suc k) ss) xs)) (go (compareRecords s x) refl)
     where
       go : (v : Verdict) → compareRecords s x ≡ v → placed k (counts x ss) ≡ placed (suc k) (counts x (s ∷ ss))
       go Earlier e = rw e (on-earlier k (length ss) (earlierIn x ss) (sameIn x ss))
@@ -228,28 +236,29 @@ module _ (x : TieRecord) where
   past-place zero [] = sym (beyond-none 0 (counts x []) (omega arith))
   past-place (suc k) [] = sym (beyond-none (suc k) (counts x []) (omega arith))
   past-place zero (s ∷ ss) = sym (beyond-more 0 (counts x (s ∷ ss)) (omega arith))
-  past-place (suc k) (s ∷ ss) = past-place k ss ∙ ap (λ (b : Bool). cond b Later Same) (ltb-on k (length ss) (suc (length ss)) (λ h. omega arith) (λ h. omega arith))
+  past-place (suc k) (s ∷ ss) =
+      past-place k ss ∙ ap (λ (b : Bool). cond b Later Same) (ltb-on k (length ss) (suc (length ss)) (λ h. omega arith) (λ h. omega arith))
 
 -- the tiebreak from the counts, for own lists of one record and of two
 module _ (l : List TieRecord) (x : TieRecord) where
-  pub tie-one : tie l (x ∷ []) ≡ orElse (placed 0 (countAll x l noneCounted)) (beyond 1 (countAll x l noneCounted))
+  pub tie-one : tie l (x ∷ []) ≡ unlessSame (placed 0 (countAll x l noneCounted)) (beyond 1 (countAll x l noneCounted))
   unfolding tie sortBy insertBy
   tie-one =
       let ss : List TieRecord = sortBy compareRecords l in
-      at-place x 0 ss [] (sort-sorted compareRecords records-order l) ∙ ap (orElse (placed 0 (counts x ss))) (past-place x 1 ss)
-      ∙ ap (λ (c : Counts). orElse (placed 0 c) (beyond 1 c)) (sorted-counts x l)
+      at-place x 0 ss [] (sort-sorted compareRecords records-order l) ∙ ap (unlessSame (placed 0 (counts x ss))) (past-place x 1 ss)
+      ∙ ap (λ (c : Counts). unlessSame (placed 0 c) (beyond 1 c)) (sorted-counts x l)
 
   pub tie-two : (y : TieRecord) → isLater (compareRecords x y) ≡ false
-      → tie l (x ∷ (y ∷ [])) ≡ orElse (placed 0 (countAll x l noneCounted)) (orElse (placed 1 (countAll y l noneCounted)) (beyond 2 (countAll y l noneCounted)))
+      → tie l (x ∷ (y ∷ [])) ≡ unlessSame (placed 0 (countAll x l noneCounted)) (unlessSame (placed 1 (countAll y l noneCounted)) (beyond 2 (countAll y l noneCounted)))
   unfolding tie sortBy insertBy
   tie-two y h =
       let ss : List TieRecord = sortBy compareRecords l in
       let sd = sort-sorted compareRecords records-order l in
       ap (λ (b : Bool). inTurn compareRecords ss (cond b (y ∷ (x ∷ [])) (x ∷ (y ∷ [])))) h
       ∙ at-place x 0 ss (y ∷ []) sd
-      ∙ ap (orElse (placed 0 (counts x ss))) (at-place y 1 ss [] sd ∙ ap (orElse (placed 1 (counts y ss))) (past-place y 2 ss))
-      ∙ ap (λ (c : Counts). orElse (placed 0 c) (orElse (placed 1 (counts y ss)) (beyond 2 (counts y ss)))) (sorted-counts x l)
-      ∙ ap (λ (c : Counts). orElse (placed 0 (countAll x l noneCounted)) (orElse (placed 1 c) (beyond 2 c))) (sorted-counts y l)
+      ∙ ap (unlessSame (placed 0 (counts x ss))) (at-place y 1 ss [] sd ∙ ap (unlessSame (placed 1 (counts y ss))) (past-place y 2 ss))
+      ∙ ap (λ (c : Counts). unlessSame (placed 0 c) (unlessSame (placed 1 (counts y ss)) (beyond 2 (counts y ss)))) (sorted-counts x l)
+      ∙ ap (λ (c : Counts). unlessSame (placed 0 (countAll x l noneCounted)) (unlessSame (placed 1 c) (beyond 2 c))) (sorted-counts y l)
 
   -- two own records in the other order
   pub tie-turned : (y : TieRecord) → isLater (compareRecords x y) ≡ true → tie l (x ∷ (y ∷ [])) ≡ tie l (y ∷ (x ∷ []))

@@ -1,31 +1,17 @@
 -- The list of a message in the tiebreak (specification, 'A claim's life', 'Errors earlier docks made'): it does not depend on the order of the records
--- in the packet, nor on the spelling of the claim's name; and what the contract says of a message that was read. Assumes nothing.
+-- in the packet, nor on the spelling of the claim's name. Assumes nothing.
 use mathlib.Core.Path.{_≡_, refl, sym, ap}
 use mathlib.Core.List.{List, [], _∷_, List·Permᴰ, List·Permᴰ·nil, List·Permᴰ·cons, List·Permᴰ·swap, List·Permᴰ·trans, Permᴰ·refl}
-use mathlib.Core.Bool.{Bool, true, false, cond, not}
+use mathlib.Core.Bool.{Bool, true, false, cond}
 use Prim.Native.Nat.{ℕ}
 use native.Mathlib.Omega.{arith}
 use Rattle.wire.specs.case_folding.Fold.{sameName}
 use Rattle.wire.specs.message.Message.{Record, Message}
-use Rattle.wire.specs.message.Layout.{read, messageAt}
-use Rattle.wire.specs.declared.message.Layout.{Layout}
-use Rattle.wire.specs.message.Readable.{messageIn}
 use Rattle.facts.specs.probe.Probe.{under}
-use Rattle.wire.proofs.message.Walk.{layout-shows}
 use Rattle.facts.proofs.probe.Probes.{equal-to}
 use Rattle.facts.specs.tiebreak.Later.{TieRecord, tie}
 use Rattle.facts.specs.tiebreak.Lists.{tieRecord, listUnder, theirs}
 use Rattle.facts.proofs.tiebreak.Ties.{perm-tie}
-
--- a record under the name is in the list, another is not
-module _ (other : List ℕ) (r : Record) (rs : List Record) where
-  pub listed : under other r ≡ true → listUnder other (r ∷ rs) ≡ tieRecord r ∷ listUnder other rs
-  unfolding listUnder
-  listed e = simp e
-
-  pub passed : under other r ≡ false → listUnder other (r ∷ rs) ≡ listUnder other rs
-  unfolding listUnder
-  passed e = simp e
 
 -- the records of a packet in another order give the list in another order
 swap-list : (other : List ℕ) (a b : Record) (rs : List Record) → List·Permᴰ (listUnder other (a ∷ (b ∷ rs))) (listUnder other (b ∷ (a ∷ rs)))
@@ -33,7 +19,8 @@ unfolding listUnder
 swap-list other a b rs = go (under other a) (under other b)
   where
     go : (u v : Bool)
-        → List·Permᴰ (cond u (tieRecord a ∷ cond v (tieRecord b ∷ listUnder other rs) (listUnder other rs)) (cond v (tieRecord b ∷ listUnder other rs) (listUnder other rs)))
+        → List·Permᴰ (cond u (tieRecord a ∷ cond v (tieRecord b ∷ listUnder other rs) (listUnder other rs))
+        (cond v (tieRecord b ∷ listUnder other rs) (listUnder other rs)))
         (cond v (tieRecord b ∷ cond u (tieRecord a ∷ listUnder other rs) (listUnder other rs)) (cond u (tieRecord a ∷ listUnder other rs) (listUnder other rs)))
     go true true = List·Permᴰ·swap refl refl
     go true false = Permᴰ·refl (tieRecord a ∷ listUnder other rs)
@@ -55,7 +42,8 @@ perm-list other (List·Permᴰ·swap {a} {b} {a′} {b′} {l} e f) = rw (sym f,
 perm-list other (List·Permᴰ·trans d f) = List·Permᴰ·trans (perm-list other d) (perm-list other f)
 
 -- so the verdict does not depend on the order in the packet
-pub packet-order : (other : List ℕ) (m n : Message) → List·Permᴰ (m .authorities) (n .authorities) → (own : List TieRecord) → tie (theirs other m) own ≡ tie (theirs other n) own
+pub packet-order : (other : List ℕ) (m n : Message) → List·Permᴰ (m .authorities) (n .authorities) → (own : List TieRecord)
+    → tie (theirs other m) own ≡ tie (theirs other n) own
 packet-order other m n d own = perm-tie (theirs other m) (theirs other n) (perm-list other d) own
 
 -- names that are equal, letters folded, have the same list
@@ -64,8 +52,3 @@ module _ (a b : List ℕ) (same : sameName a b ≡ true) where
   unfolding listUnder
   spelling-list [] = refl
   spelling-list (r ∷ rs) = rw (equal-to a b same (r .owner), spelling-list rs)
-
--- What the contract of `tiebreak` says of a message that was read.
-module _ (p : List ℕ) (l : Layout) (m : Message) (was : messageAt p ≡ read l m) (other : List ℕ) where
-  pub tie-read : (own : List TieRecord) → tie (theirs other (messageIn p l)) own ≡ tie (theirs other m) own
-  tie-read own = ap (λ (n : Message). tie (theirs other n) own) (layout-shows p l m was)

@@ -9,7 +9,7 @@ use lib.Dec.{ltb}
 use borrow.Author.Tests.{lt-ltb, le-ltb, ltb-true, ltb-false}
 use Rattle.facts.specs.declared.tiebreak.Verdict.{Verdict}
 use Rattle.facts.specs.declared.tiebreak.Verdict.the-variants.{Earlier, Same, Later}
-use Rattle.facts.specs.tiebreak.Later.{numberOf, orElse, compareNumbers, inTurn, compareBytes, compareRecords}
+use Rattle.facts.specs.tiebreak.Later.{numberOf, unlessSame, compareNumbers, inTurn, compareBytes, compareRecords}
 
 -- the verdict seen from the other side
 abbrev pub opposite : Verdict → Verdict
@@ -84,21 +84,22 @@ numbers-order = record {
 }
 
 -- the first verdict, and else the second
-else-swap : (u v : Verdict) → orElse (opposite u) (opposite v) ≡ opposite (orElse u v)
+else-swap : (u v : Verdict) → unlessSame (opposite u) (opposite v) ≡ opposite (unlessSame u v)
 else-swap Earlier v = refl
 else-swap Same v = refl
 else-swap Later v = refl
 
-else-same : (u v : Verdict) → orElse u v ≡ Same → (u ≡ Same) × (v ≡ Same)
+else-same : (u v : Verdict) → unlessSame u v ≡ Same → (u ≡ Same) × (v ≡ Same)
 else-same Earlier v e = let z : _≡_ {A = ℕ} 0 1 = cc in absurd (omega arith)
 else-same Same v e = (refl, e)
 else-same Later v e = let z : _≡_ {A = ℕ} 0 1 = cc in absurd (omega arith)
 
 module _ {A : Type 0} (by : A → A → Verdict) (o : Order by) where
-  else-trans : (x y z : A) (u v w : Verdict) → (u ≡ Earlier → v ≡ Earlier → w ≡ Earlier) → orElse (by x y) u ≡ Earlier → orElse (by y z) v ≡ Earlier → orElse (by x z) w ≡ Earlier
+  else-trans : (x y z : A) (u v w : Verdict) → (u ≡ Earlier → v ≡ Earlier → w ≡ Earlier) → unlessSame (by x y) u ≡ Earlier → unlessSame (by y z) v ≡ Earlier
+      → unlessSame (by x z) w ≡ Earlier
   else-trans x y z u v w on e f = go (by x y) (by y z) refl refl e f
     where
-      go : (s t : Verdict) → by x y ≡ s → by y z ≡ t → orElse s u ≡ Earlier → orElse t v ≡ Earlier → orElse (by x z) w ≡ Earlier
+      go : (s t : Verdict) → by x y ≡ s → by y z ≡ t → unlessSame s u ≡ Earlier → unlessSame t v ≡ Earlier → unlessSame (by x z) w ≡ Earlier
       go Earlier Earlier a b e f = rw (o .trans x y z a b)
       go Earlier Same a b e f =
           let k : by x z ≡ Earlier = ap (by x) (sym (o .equal y z b)) ∙ a in
@@ -156,12 +157,17 @@ unfolding compareRecords
 records-order = record {
   swap = λ a b.
       rw (n .swap (a .class) (b .class), n .swap (a .rtype) (b .rtype), d .swap (a .rdata) (b .rdata))
-      (rw else-swap (else-swap (compareNumbers (a .class) (b .class)) (orElse (compareNumbers (a .rtype) (b .rtype)) (compareBytes (a .rdata) (b .rdata)))));
+      (rw else-swap (else-swap (compareNumbers (a .class) (b .class)) (unlessSame (compareNumbers (a .rtype) (b .rtype)) (compareBytes (a .rdata) (b .rdata)))));
   same = λ a. rw (n .same (a .class), n .same (a .rtype)) (d .same (a .rdata));
   equal = λ a b e.
-      let k = else-same (compareNumbers (a .class) (b .class)) (orElse (compareNumbers (a .rtype) (b .rtype)) (compareBytes (a .rdata) (b .rdata))) e in
+      let k = else-same (compareNumbers (a .class) (b .class)) (unlessSame (compareNumbers (a .rtype) (b .rtype)) (compareBytes (a .rdata) (b .rdata))) e in
       let j = else-same (compareNumbers (a .rtype) (b .rtype)) (compareBytes (a .rdata) (b .rdata)) (k .1) in
-      λ i. record { class = n .equal (a .class) (b .class) (k .0) i; rtype = n .equal (a .rtype) (b .rtype) (j .0) i; rdata = d .equal (a .rdata) (b .rdata) (j .1) i };
+      λ i. record {
+        class =
+            n .equal (a .class) (b .class) (k .0) i;
+        rtype = n .equal (a .rtype) (b .rtype) (j .0) i;
+        rdata = d .equal (a .rdata) (b .rdata) (j .1) i;
+      };
   trans = λ a b c e f.
       else-trans compareNumbers n (a .class) (b .class) (c .class) _ _ _
       (else-trans compareNumbers n (a .rtype) (b .rtype) (c .rtype) _ _ _ (d .trans (a .rdata) (b .rdata) (c .rdata))) e f;

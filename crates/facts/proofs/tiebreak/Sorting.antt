@@ -1,7 +1,7 @@
 -- Sorting by a total order: the sorted list is in order, has the same elements, repeats with them, and does not depend on the order in which they
 -- came. Assumes nothing.
 use mathlib.Core.Path.{_≡_, refl, sym, ap, _∙_}
-use mathlib.Core.List.{List, [], _∷_, List·Permᴰ, List·Permᴰ·nil, List·Permᴰ·cons, List·Permᴰ·swap, List·Permᴰ·trans, Permᴰ·refl, Permᴰ·symm}
+use mathlib.Core.List.{List, [], _∷_, List·Permᴰ, List·Permᴰ·nil, List·Permᴰ·cons, List·Permᴰ·swap, List·Permᴰ·trans, Permᴰ·refl}
 use mathlib.Core.Bool.{Bool, true, false, cond}
 use Prim.Native.Nat.{ℕ}
 use native.Mathlib.Omega.{arith}
@@ -126,7 +126,8 @@ module _ {A : Type 0} (by : A → A → Verdict) (o : Order by) where
       ap (insertBy by x) (before-it y z zs a) ∙ before-it x y (z ∷ zs) e ∙ ap (λ (t : List A). x ∷ t) (sym (before-it y z zs a))
       ∙ sym (behind-it y x (z ∷ zs) f) ∙ ap (insertBy by y) (sym (before-it x z zs g))
 
-  insert-apart : (x y : A) (zs : List A) → isLater (by x y) ≡ false → isLater (by y x) ≡ true → insertBy by x (insertBy by y zs) ≡ insertBy by y (insertBy by x zs)
+  insert-apart : (x y : A) (zs : List A) → isLater (by x y) ≡ false → isLater (by y x) ≡ true
+      → insertBy by x (insertBy by y zs) ≡ insertBy by y (insertBy by x zs)
   unfolding insertBy
   insert-apart x y [] e f = before-it x y [] e ∙ sym (behind-it y x [] f)
   insert-apart x y (z ∷ zs) e f = insert-turn x y z zs e f (isLater (by y z)) (isLater (by x z)) refl refl (insert-apart x y zs e f)
@@ -156,8 +157,3 @@ module _ {A : Type 0} (by : A → A → Verdict) (o : Order by) where
       insert-either a b (sortBy by l) ∙ ap (λ (t : A). insertBy by t (insertBy by a (sortBy by l))) f
       ∙ ap (λ (t : A). insertBy by a′ (insertBy by t (sortBy by l))) e
   perm-sort (List·Permᴰ·trans d f) = perm-sort d ∙ perm-sort f
-
-  pub sort-either : (xs ys : List A) → sortBy by xs ≡ sortBy by ys → List·Permᴰ xs ys
-  sort-either xs ys e =
-      let d : List·Permᴰ (sortBy by xs) ys = rw e (sort-perm ys) in
-      List·Permᴰ·trans (Permᴰ·symm (sort-perm xs)) d

@@ -10,7 +10,7 @@ use Rattle.facts.specs.declared.tiebreak.Verdict.the-variants.{Earlier, 
 use Rattle.facts.specs.tiebreak.Later.{numberOf, isLater, inTurn, TieRecord, compareRecords, sortBy, tie}
 use Rattle.facts.specs.tiebreak.Lists.{ownRecord, ownList}
 use Rattle.facts.proofs.tiebreak.Orders.{opposite, opposite-number, Order, number-earlier, number-same, lists-order, records-order}
-use Rattle.facts.proofs.tiebreak.Sorting.{Least, none, and, Sorted, empty, first, perm-sort, sort-either, sorted-sort}
+use Rattle.facts.proofs.tiebreak.Sorting.{Least, none, and, Sorted, empty, first, perm-sort, sorted-sort}
 
 -- the order of sorted lists
 sorted-order : Order (inTurn compareRecords)
@@ -33,9 +33,6 @@ module _ (a b : List TieRecord) where
   pub one-wins : tie a b ≡ Earlier → tie b a ≡ Later
   one-wins e = tie-swap ∙ ap opposite e
 
-  pub one-loses : tie a b ≡ Later → tie b a ≡ Earlier
-  one-loses e = tie-swap ∙ ap opposite e
-
   -- Same exactly when the sorted lists are equal
   pub same-sorted : tie a b ≡ Same → sorted a ≡ sorted b
   unfolding tie
@@ -45,34 +42,16 @@ module _ (a b : List TieRecord) where
   unfolding tie
   sorted-same e = ap (λ (t : List TieRecord). inTurn compareRecords t (sorted b)) e ∙ sorted-order .same (sorted b)
 
-  -- Same exactly when they are the same records, repeats with them, in whatever order
-  pub same-perm : tie a b ≡ Same → List·Permᴰ a b
-  same-perm e = sort-either compareRecords records-order a b (same-sorted e)
-
-  pub perm-same : List·Permᴰ a b → tie a b ≡ Same
-  perm-same d = sorted-same (perm-sort compareRecords records-order d)
-
   -- the order of records in the packet does not matter
   pub perm-tie : List·Permᴰ a b → (own : List TieRecord) → tie a own ≡ tie b own
   unfolding tie
   perm-tie d own = ap (λ (t : List TieRecord). inTurn compareRecords t (sorted own)) (perm-sort compareRecords records-order d)
-
-  pub perm-own : List·Permᴰ a b → (theirs : List TieRecord) → tie theirs a ≡ tie theirs b
-  unfolding tie
-  perm-own d theirs = ap (inTurn compareRecords (sorted theirs)) (perm-sort compareRecords records-order d)
 
 -- transitive
 module _ (a b c : List TieRecord) where
   pub tie-trans : tie a b ≡ Earlier → tie b c ≡ Earlier → tie a c ≡ Earlier
   unfolding tie
   tie-trans e f = sorted-order .trans (sorted a) (sorted b) (sorted c) e f
-
-  pub tie-trans-later : tie a b ≡ Later → tie b c ≡ Later → tie a c ≡ Later
-  unfolding tie
-  tie-trans-later e f =
-      let u = sorted-order .swap (sorted b) (sorted c) ∙ ap opposite f in
-      let v = sorted-order .swap (sorted a) (sorted b) ∙ ap opposite e in
-      sorted-order .swap (sorted c) (sorted a) ∙ ap opposite (sorted-order .trans (sorted c) (sorted b) (sorted a) u v)
 
 -- Own lists: one record of each type, by rising type, all of one class.
 pub data Rising : List TieRecord → Type 0 where
@@ -95,13 +74,10 @@ rising-sorted (then {x} {y} {xs} e h r) = first (rising-least x y xs e h r) (ris
 pub rising-sort : {xs : List TieRecord} → Rising xs → sorted xs ≡ xs
 rising-sort {xs} r = sorted-sort compareRecords records-order xs (rising-sorted r)
 
--- For two own lists: Same exactly when both claims carry the same types with the same data.
+-- For two own lists: Same only if both claims carry the same types with the same data.
 module _ {a b : List TieRecord} (ra : Rising a) (rb : Rising b) where
   pub own-same : tie a b ≡ Same → a ≡ b
   own-same e = sym (rising-sort ra) ∙ same-sorted a b e ∙ rising-sort rb
-
-  pub own-equal : a ≡ b → tie a b ≡ Same
-  own-equal e = sorted-same a b (ap sorted e)
 
 -- the own list of a claim is such a list
 pub own-one : (t : ℕ) (d : List ℕ) (s : ℕ) (e : List ℕ) → Rising (ownList t d false s e)
@@ -111,15 +87,20 @@ pub own-two : (t : ℕ) (d : List ℕ) (s : ℕ) (e : List ℕ) → t < s → Ri
 own-two t d s e h = then refl h alone
 
 -- what equal own lists say of the claims
-pub own-parts : (t : ℕ) (d : List ℕ) (both : Bool) (s : ℕ) (e : List ℕ) (t′ : ℕ) (d′ : List ℕ) (both′ : Bool) (s′ : ℕ) (e′ : List ℕ) → ownList t d both s e ≡ ownList t′ d′ both′ s′ e′
+pub own-parts : (t : ℕ) (d : List ℕ) (both : Bool) (s : ℕ) (e : List ℕ) (t′ : ℕ) (d′ : List ℕ) (both′ : Bool) (s′ : ℕ) (e′ : List ℕ)
+    → ownList t d both s e ≡ ownList t′ d′ both′ s′ e′
     → (t ≡ t′) × (d ≡ d′) × (both ≡ both′) × (both ≡ true → (s ≡ s′) × (e ≡ e′))
 own-parts t d both s e t′ d′ both′ s′ e′ h = go both both′ h
   where
     go : (b b′ : Bool) → ownList t d b s e ≡ ownList t′ d′ b′ s′ e′ → (t ≡ t′) × (d ≡ d′) × (b ≡ b′) × (b ≡ true → (s ≡ s′) × (e ≡ e′))
     go true true h =
         let i : ownRecord t d ≡ ownRecord t′ d′ = cc in
-        let j : ownRecord s e ≡ ownRecord s′ e′ = cc in
-        (ap (λ (r : TieRecord). r .rtype) i, ap (λ (r : TieRecord). r .rdata) i, refl, λ k. (ap (λ (r : TieRecord). r .rtype) j, ap (λ (r : TieRecord). r .rdata) j))
+        let j : ownRecord s e ≡ ownRecord s′ e′ = cc in (
+          ap (λ (r : TieRecord). r .rtype) i,
+          ap (λ (r : TieRecord). r .rdata) i,
+          refl,
+          λ k. (ap (λ (r : TieRecord). r .rtype) j, ap (λ (r : TieRecord). r .rdata) j),
+        )
     go false false h =
         let i : ownRecord t d ≡ ownRecord t′ d′ = cc in
         (ap (λ (r : TieRecord). r .rtype) i, ap (λ (r : TieRecord). r .rdata) i, refl, λ k. let z : _≡_ {A = ℕ} 0 1 = cc in absurd (omega arith))

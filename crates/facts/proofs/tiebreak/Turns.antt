@@ -13,7 +13,7 @@ use Rattle.wire.specs.rdata.Answers.{fits, dataOf}
 use Rattle.wire.specs.expansion.Opened.{openedAt, viewOf}
 use Rattle.wire.specs.declared.expansion.Opened.{Opened}
 use Rattle.wire.proofs.expansion.Views.{view-is}
-use Rattle.wire.specs.message.Message.{Record, classOf}
+use Rattle.wire.specs.message.Message.{Record}
 use Rattle.wire.specs.message.Layout.{broken, recordAt}
 use Rattle.wire.specs.declared.message.RecordAt.{RecordAt}
 use Rattle.wire.specs.declared.message.Layout.{Layout}
@@ -23,7 +23,7 @@ use Rattle.wire.proofs.message.Walk.{walk-done, walk-broken, walk-on, RecordMet
 use Rattle.facts.specs.declared.tiebreak.Verdict.{Verdict}
 use Rattle.facts.specs.declared.tiebreak.Verdict.the-variants.{Earlier, Same, Later}
 use Rattle.facts.specs.declared.tiebreak.Counts.{Counts}
-use Rattle.facts.specs.tiebreak.Later.{numberOf, isLater, orElse, compareNumbers, inTurn, compareBytes, TieRecord, compareRecords, tie}
+use Rattle.facts.specs.tiebreak.Later.{numberOf, isLater, unlessSame, compareNumbers, inTurn, compareBytes, TieRecord, compareRecords, tie}
 use Rattle.facts.specs.tiebreak.Lists.{tieRecord, listUnder, theirs, ownRecord, ownList}
 use Rattle.facts.specs.tiebreak.Counts.{countOne, countMet, countAll, noneCounted, placed, beyond}
 use Rattle.facts.proofs.tiebreak.Orders.{number-earlier, number-later, number-same, records-order}
@@ -45,7 +45,7 @@ module _ (a b : List ℕ) (i : ℕ) (inv : compareBytes a b ≡ compareBytes (dr
   bytes-same h k = sym (inv ∙ rw (drop-of-length-le a h, drop-of-length-le b k))
 
   module _ (h : i < length a) (k : i < length b) where
-    turn : compareBytes a b ≡ orElse (compareNumbers (getD a i 0) (getD b i 0)) (compareBytes (drop (i + 1) a) (drop (i + 1) b))
+    turn : compareBytes a b ≡ unlessSame (compareNumbers (getD a i 0) (getD b i 0)) (compareBytes (drop (i + 1) a) (drop (i + 1) b))
     unfolding inTurn
     turn = inv ∙ rw (add-one, drop-cons a i 0 h, drop-cons b i 0 k)
 
@@ -84,7 +84,12 @@ module _ (x y : TieRecord) where
 -- a record of the packet, by the view of its rdata
 pub seen-record : (p : List ℕ) (f : RecordAt) → fits (rdataAt p f) ≡ true
     → (o : Opened) → o ≡ openedAt p f → (seen : List ℕ) → seen ≡ viewOf p (o .bytes) (o .len) f
-    → (y : TieRecord) (v : Verdict) → v ≡ compareRecords (record { class = f .class % 32768; rtype = f .rtype; rdata = seen }) y → v ≡ compareRecords (tieRecord (recordShown p f)) y
+    → (y : TieRecord) (v : Verdict) → v ≡ compareRecords (record {
+      class =
+          f .class % 32768;
+      rtype = f .rtype;
+      rdata = seen;
+    }) y → v ≡ compareRecords (tieRecord (recordShown p f)) y
 seen-record p f h o k seen s y v e =
     let is : seen ≡ dataOf (rdataAt p f) = s ∙ sym (ap dataOf (view-is p f h o k)) in
     e ∙ ap (λ (d : List ℕ). compareRecords (record { class = f .class % 32768; rtype = f .rtype; rdata = d }) y) is
@@ -98,24 +103,28 @@ module _ (t x : TieRecord) (c : Counts) (b u : Bool) (is : u ≡ b) where
   met-other e = ap (λ (w : Bool). countMet w t x c) (sym e ∙ is)
 
 -- it raises each count by one at the most
-met-most : (t x : TieRecord) (c : Counts) (b : Bool) (d : Counts) → d ≡ countMet b t x c → (d .all ≤ c .all + 1) × (d .earlier ≤ c .earlier + 1) × (d .same ≤ c .same + 1)
+met-most : (t x : TieRecord) (c : Counts) (b : Bool) (d : Counts) → d ≡ countMet b t x c
+    → (d .all ≤ c .all + 1) × (d .earlier ≤ c .earlier + 1) × (d .same ≤ c .same + 1)
 met-most t x c b d e = rw e (go b (compareRecords t x))
   where
-    go : (b : Bool) (v : Verdict) → (cond b (countOne v c) c .all ≤ c .all + 1) × (cond b (countOne v c) c .earlier ≤ c .earlier + 1) × (cond b (countOne v c) c .same ≤ c .same + 1)
+    go : (b : Bool) (v : Verdict)
+        → (cond b (countOne v c) c .all ≤ c .all + 1) × (cond b (countOne v c) c .earlier ≤ c .earlier + 1) × (cond b (countOne v c) c .same ≤ c .same + 1)
     go true Earlier = (omega arith, omega arith, omega arith)
     go true Same = (omega arith, omega arith, omega arith)
     go true Later = (omega arith, omega arith, omega arith)
     go false v = (omega arith, omega arith, omega arith)
 
 -- so the counts of a section stay within its count
-pub met-bounds : (t x : TieRecord) (c : Counts) (b : Bool) (d : Counts) → d ≡ countMet b t x c → (n most : ℕ) → 0 < n → c .all + n ≤ most → c .earlier + n ≤ most → c .same + n ≤ most
+pub met-bounds : (t x : TieRecord) (c : Counts) (b : Bool) (d : Counts) → d ≡ countMet b t x c → (n most : ℕ) → 0 < n → c .all + n ≤ most
+    → c .earlier + n ≤ most → c .same + n ≤ most
     → (d .all + (n - 1) ≤ most) × (d .earlier + (n - 1) ≤ most) × (d .same + (n - 1) ≤ most)
 met-bounds t x c b d e n most lt u v w =
     let k = met-most t x c b d e in
     (omega arith, omega arith, omega arith)
 
 -- the counting loop
-module _ (p : List ℕ) (x : TieRecord) (other : List ℕ) (all : Counts) (n at : ℕ) (c : Counts) (inv : all ≡ countAll x (listUnder other (readable (recordAt p) n at)) c) where
+module _ (p : List ℕ) (x : TieRecord) (other : List ℕ) (all : Counts) (n at : ℕ) (c : Counts)
+    (inv : all ≡ countAll x (listUnder other (readable (recordAt p) n at)) c) where
   abbrev made : List Record → Counts
   made rs = countAll x (listUnder other rs) c
 
@@ -136,48 +145,51 @@ module _ (p : List ℕ) (x : TieRecord) (other : List ℕ) (all : Counts) (n at 
       ∙ ap (countAll x (listUnder other rest)) (sym (e ∙ ap (λ (b : Bool). countMet b (tieRecord (recordShown p f)) x c) (m .named other)))
     where
       go : (rest : List Record) (b : Bool)
-          → countAll x (cond b (tieRecord (recordShown p f) ∷ listUnder other rest) (listUnder other rest)) c ≡ countAll x (listUnder other rest) (countMet b (tieRecord (recordShown p f)) x c)
+          → countAll x (cond b (tieRecord (recordShown p f) ∷ listUnder other rest) (listUnder other rest)) c
+          ≡ countAll x (listUnder other rest) (countMet b (tieRecord (recordShown p f)) x c)
       go rest true = refl
       go rest false = refl
 
 -- the verdict from the answers of `place` and `past_own`
 module _ (l : List TieRecord) (x : TieRecord) (c : Counts) (is : c ≡ countAll x l noneCounted) (v : Verdict) (at : v ≡ placed 0 c) where
-  one-is : tie l (x ∷ []) ≡ orElse v (beyond 1 c)
-  one-is = tie-one l x ∙ ap (λ (d : Counts). orElse (placed 0 d) (beyond 1 d)) (sym is) ∙ ap (λ (u : Verdict). orElse u (beyond 1 c)) (sym at)
+  one-is : tie l (x ∷ []) ≡ unlessSame v (beyond 1 c)
+  one-is = tie-one l x ∙ ap (λ (d : Counts). unlessSame (placed 0 d) (beyond 1 d)) (sym is) ∙ ap (λ (u : Verdict). unlessSame u (beyond 1 c)) (sym at)
 
   pub one-earlier : v ≡ Earlier → Earlier ≡ tie l (x ∷ [])
-  one-earlier e = sym (one-is ∙ ap (λ (u : Verdict). orElse u (beyond 1 c)) e)
+  one-earlier e = sym (one-is ∙ ap (λ (u : Verdict). unlessSame u (beyond 1 c)) e)
 
   pub one-later : v ≡ Later → Later ≡ tie l (x ∷ [])
-  one-later e = sym (one-is ∙ ap (λ (u : Verdict). orElse u (beyond 1 c)) e)
+  one-later e = sym (one-is ∙ ap (λ (u : Verdict). unlessSame u (beyond 1 c)) e)
 
   pub one-same : v ≡ Same → (w : Verdict) → w ≡ beyond 1 c → w ≡ tie l (x ∷ [])
-  one-same e w h = h ∙ sym (one-is ∙ ap (λ (u : Verdict). orElse u (beyond 1 c)) e)
+  one-same e w h = h ∙ sym (one-is ∙ ap (λ (u : Verdict). unlessSame u (beyond 1 c)) e)
 
   module _ (y : TieRecord) (order : isLater (compareRecords x y) ≡ false) where
-    two-is : tie l (x ∷ (y ∷ [])) ≡ orElse v (orElse (placed 1 (countAll y l noneCounted)) (beyond 2 (countAll y l noneCounted)))
-    two-is = tie-two l x y order ∙ ap (λ (u : Verdict). orElse u (orElse (placed 1 (countAll y l noneCounted)) (beyond 2 (countAll y l noneCounted)))) (ap (placed 0) (sym is) ∙ sym at)
+    two-is : tie l (x ∷ (y ∷ [])) ≡ unlessSame v (unlessSame (placed 1 (countAll y l noneCounted)) (beyond 2 (countAll y l noneCounted)))
+    two-is =
+        tie-two l x y order
+        ∙ ap (λ (u : Verdict). unlessSame u (unlessSame (placed 1 (countAll y l noneCounted)) (beyond 2 (countAll y l noneCounted)))) (ap (placed 0) (sym is) ∙ sym at)
 
     pub two-earlier : v ≡ Earlier → Earlier ≡ tie l (x ∷ (y ∷ []))
-    two-earlier e = sym (two-is ∙ ap (λ (u : Verdict). orElse u (orElse (placed 1 (countAll y l noneCounted)) (beyond 2 (countAll y l noneCounted)))) e)
+    two-earlier e = sym (two-is ∙ ap (λ (u : Verdict). unlessSame u (unlessSame (placed 1 (countAll y l noneCounted)) (beyond 2 (countAll y l noneCounted)))) e)
 
     pub two-later : v ≡ Later → Later ≡ tie l (x ∷ (y ∷ []))
-    two-later e = sym (two-is ∙ ap (λ (u : Verdict). orElse u (orElse (placed 1 (countAll y l noneCounted)) (beyond 2 (countAll y l noneCounted)))) e)
+    two-later e = sym (two-is ∙ ap (λ (u : Verdict). unlessSame u (unlessSame (placed 1 (countAll y l noneCounted)) (beyond 2 (countAll y l noneCounted)))) e)
 
     module _ (same : v ≡ Same) (d : Counts) (on : d ≡ countAll y l noneCounted) (w : Verdict) (next : w ≡ placed 1 d) where
-      second-is : tie l (x ∷ (y ∷ [])) ≡ orElse w (beyond 2 d)
+      second-is : tie l (x ∷ (y ∷ [])) ≡ unlessSame w (beyond 2 d)
       second-is =
-          two-is ∙ ap (λ (u : Verdict). orElse u (orElse (placed 1 (countAll y l noneCounted)) (beyond 2 (countAll y l noneCounted)))) same
-          ∙ ap (λ (k : Counts). orElse (placed 1 k) (beyond 2 k)) (sym on) ∙ ap (λ (u : Verdict). orElse u (beyond 2 d)) (sym next)
+          two-is ∙ ap (λ (u : Verdict). unlessSame u (unlessSame (placed 1 (countAll y l noneCounted)) (beyond 2 (countAll y l noneCounted)))) same
+          ∙ ap (λ (k : Counts). unlessSame (placed 1 k) (beyond 2 k)) (sym on) ∙ ap (λ (u : Verdict). unlessSame u (beyond 2 d)) (sym next)
 
       pub second-earlier : w ≡ Earlier → Earlier ≡ tie l (x ∷ (y ∷ []))
-      second-earlier e = sym (second-is ∙ ap (λ (u : Verdict). orElse u (beyond 2 d)) e)
+      second-earlier e = sym (second-is ∙ ap (λ (u : Verdict). unlessSame u (beyond 2 d)) e)
 
       pub second-later : w ≡ Later → Later ≡ tie l (x ∷ (y ∷ []))
-      second-later e = sym (second-is ∙ ap (λ (u : Verdict). orElse u (beyond 2 d)) e)
+      second-later e = sym (second-is ∙ ap (λ (u : Verdict). unlessSame u (beyond 2 d)) e)
 
       pub second-same : w ≡ Same → (t : Verdict) → t ≡ beyond 2 d → t ≡ tie l (x ∷ (y ∷ []))
-      second-same e t h = h ∙ sym (second-is ∙ ap (λ (u : Verdict). orElse u (beyond 2 d)) e)
+      second-same e t h = h ∙ sym (second-is ∙ ap (λ (u : Verdict). unlessSame u (beyond 2 d)) e)
 
 -- the own list of a claim: one record, or two in either order
 module _ (p : List ℕ) (l : Layout) (other : List ℕ) (rtype : ℕ) (d : List ℕ) (both : Bool) (rtype₂ : ℕ) (d₂ : List ℕ) (v : Verdict) where

@@ -20,10 +20,10 @@ isLater Same = false
 isLater Later = true
 
 -- the first verdict decides, unless it is Same: then the second does
-abbrev pub orElse : Verdict → Verdict → Verdict
-orElse Earlier v = Earlier
-orElse Same v = v
-orElse Later v = Later
+abbrev pub unlessSame : Verdict → Verdict → Verdict
+unlessSame Earlier v = Earlier
+unlessSame Same v = v
+unlessSame Later v = Later
 
 -- two numbers; a byte is one of 0..255
 unfoldable pub compareNumbers : ℕ → ℕ → Verdict
@@ -34,7 +34,7 @@ unfoldable pub inTurn : {A : Type 0} → (A → A → Verdict) → List A → Li
 inTurn by [] [] = Same
 inTurn by [] (y ∷ ys) = Earlier
 inTurn by (x ∷ xs) [] = Later
-inTurn by (x ∷ xs) (y ∷ ys) = orElse (by x y) (inTurn by xs ys)
+inTurn by (x ∷ xs) (y ∷ ys) = unlessSame (by x y) (inTurn by xs ys)
 
 -- "rdata bytes as 0..255; the longer of two equal beginnings is later"
 abbrev pub compareBytes : List ℕ → List ℕ → Verdict
@@ -48,7 +48,7 @@ pub record TieRecord : Type 0 where
 
 -- "by class, type, rdata bytes"
 unfoldable pub compareRecords : TieRecord → TieRecord → Verdict
-compareRecords a b = orElse (compareNumbers (a .class) (b .class)) (orElse (compareNumbers (a .rtype) (b .rtype)) (compareBytes (a .rdata) (b .rdata)))
+compareRecords a b = unlessSame (compareNumbers (a .class) (b .class)) (unlessSame (compareNumbers (a .rtype) (b .rtype)) (compareBytes (a .rdata) (b .rdata)))
 
 -- "sort each list", the earliest first; "Repeats stay."
 unfoldable pub insertBy : {A : Type 0} → (A → A → Verdict) → A → List A → List A

@@ -1,8 +1,8 @@
 -- OwnBytes names and rdata written part by part. Assumes nothing.
 use mathlib.Core.Path.{_≡_, refl, sym, ap, ap₂, _∙_}
 use mathlib.Core.List.{List, [], _∷_, _++_, append-assoc, append-nil}
-use mathlib.Core.Bool.{Bool, true, false, cond}
-use Prim.Native.Nat.{ℕ, suc, _+_, _-_, _/_, _%_, _<_, _≤_}
+use mathlib.Core.Bool.{Bool, true, false}
+use Prim.Native.Nat.{ℕ, _+_, _-_, _/_, _%_, _<_, _≤_}
 use native.Mathlib.Nat.{zero-add}
 use native.Mathlib.Numerals.{add-one}
 use native.Mathlib.Omega.{arith}
@@ -11,8 +11,6 @@ use lib.Seq.{sets, sets-eq, take-all}
 use Rattle.wire.proofs.octets.Sets.{sets-append, drop-replicate}
 use Rattle.wire.specs.labels.Labels.{encode}
 use Rattle.wire.specs.expansion.Equal.{sameBytes}
-use Rattle.own.specs.declared.records.Label.{Label}
-use Rattle.own.specs.declared.records.Service.{Service}
 use Rattle.own.specs.declared.records.Setup.{Setup}
 use Rattle.own.specs.declared.records.OwnBytes.{OwnBytes}
 use Rattle.own.specs.records.Setups.{tcp, udp, local, labelHeld, serviceHeld, protocolLabel, serviceLabels, instanceLabels, hostLabels}
@@ -42,14 +40,21 @@ laid-as at r xs ys o o₁ m n f e h = record {
   few = h;
 }
 
--- a label that is held in an array
-pub held-short : (at r : ℕ) (len : ℕ) (bytes o o₁ : List ℕ) (m n : ℕ) → Laid at (labelBytes (take len bytes)) m o r o₁ → len < n → Laid at (labelBytes (take len bytes)) (suc n) o r o₁
-held-short at r len bytes o o₁ m n f h = laid-as at r _ _ o o₁ m (suc n) f refl (omega (arith, length-take len bytes))
+-- a label that an array holds
+pub held-short : (at r len : ℕ) (bytes o o₁ : List ℕ) → Laid at (labelBytes (take len bytes)) (1 + length (take len bytes)) o r o₁
+    → Laid at (labelBytes (take len bytes)) (1 + length bytes) o r o₁
+held-short at r len bytes o o₁ f = laid-as at r _ _ o o₁ (1 + length (take len bytes)) (1 + length bytes) f refl (omega (arith, length-take len bytes))
 
-pub held-full : (at r : ℕ) (len : ℕ) (bytes o o₁ : List ℕ) (m n : ℕ) → Laid at (labelBytes bytes) m o r o₁ → n ≤ len → length bytes ≡ n → Laid at (labelBytes (take len bytes)) (suc n) o r o₁
-held-full at r len bytes o o₁ m n f h e =
-    let all : take len bytes ≡ bytes = take-all len bytes (omega arith) in
-    laid-as at r (labelBytes bytes) (labelBytes (take len bytes)) o o₁ m (suc n) f (ap labelBytes (sym all)) (omega (arith, ap length all))
+pub held-full : (at r len : ℕ) (bytes o o₁ : List ℕ) → length bytes ≤ len → Laid at (labelBytes bytes) (1 + length bytes) o r o₁
+    → Laid at (labelBytes (take len bytes)) (1 + length bytes) o r o₁
+held-full at r len bytes o o₁ h f =
+    let all : take len bytes ≡ bytes = take-all len bytes h in
+    laid-as at r (labelBytes bytes) (labelBytes (take len bytes)) o o₁ (1 + length bytes) (1 + length bytes) f (ap labelBytes (sym all)) (omega (arith, ap length all))
+
+-- the same in an array of a known size
+pub held-in : (at r len : ℕ) (bytes o o₁ : List ℕ) (n : ℕ) → length bytes ≡ n → Laid at (labelBytes (take len bytes)) (1 + length bytes) o r o₁
+    → Laid at (labelBytes (take len bytes)) (1 + n) o r o₁
+held-in at r len bytes o o₁ n e f = laid-as at r _ _ o o₁ (1 + length bytes) (1 + n) f refl (omega (arith, f .few))
 
 -- the fixed strings
 pub laid-udp : (at r : ℕ) (p o o₁ : List ℕ) (m : ℕ) (v : Bool) → v ≡ sameBytes p udp → v ≡ true → Laid at (labelBytes udp) m o r o₁ → Laid at (labelBytes (protocolLabel p)) 5 o r o₁

@@ -15,7 +15,7 @@ use Rattle.own.specs.declared.records.Label.{Label}
 use Rattle.own.specs.declared.records.Service.{Service}
 use Rattle.own.specs.declared.records.Strings.{Strings}
 use Rattle.own.specs.declared.records.Setup.{Setup}
-use Rattle.own.specs.records.Setups.{tcp, udp, held, labelFits, isLetter, isNameByte, nameBytes, someLetter, hyphensApart, serviceRule, serviceFits, protocolFits, domainFits, txtFits, validSetup}
+use Rattle.own.specs.records.Setups.{tcp, udp, held, labelFits, isLetter, isNameByte, allNameBytes, someLetter, hyphensApart, serviceRule, serviceFits, protocolFits, domainFits, txtFits, validSetup}
 
 -- a letter
 module _ (b : ℕ) where
@@ -57,8 +57,8 @@ module _ (b : ℕ) where
 
 -- a turn of the loops over the bytes
 module _ (s : List ℕ) (i : ℕ) where
-  pub bytes-end : length s ≤ i → nameBytes s ≡ nameBytes (drop i s) → true ≡ nameBytes s
-  unfolding nameBytes
+  pub bytes-end : length s ≤ i → allNameBytes s ≡ allNameBytes (drop i s) → true ≡ allNameBytes s
+  unfolding allNameBytes
   bytes-end h inv = sym (inv ∙ rw (drop-of-length-le s h))
 
   pub letters-end : length s ≤ i → someLetter s ≡ someLetter (drop i s) → false ≡ someLetter s
@@ -73,15 +73,15 @@ module _ (s : List ℕ) (i : ℕ) where
     front : drop i s ≡ getD s i 0 ∷ drop (i + 1) s
     front = drop-cons s i 0 h ∙ ap (λ (k : ℕ). getD s i 0 ∷ drop k s) (sym (add-one i))
 
-    module _ (inv : nameBytes s ≡ nameBytes (drop i s)) (v : Bool) (is : v ≡ isNameByte (getD s i 0)) where
-      bytes-turn : nameBytes s ≡ (v && nameBytes (drop (i + 1) s))
-      unfolding nameBytes
+    module _ (inv : allNameBytes s ≡ allNameBytes (drop i s)) (v : Bool) (is : v ≡ isNameByte (getD s i 0)) where
+      bytes-turn : allNameBytes s ≡ (v && allNameBytes (drop (i + 1) s))
+      unfolding allNameBytes
       bytes-turn = inv ∙ rw (front, is)
 
-      pub bytes-stop : v ≡ false → false ≡ nameBytes s
+      pub bytes-stop : v ≡ false → false ≡ allNameBytes s
       bytes-stop t = sym (bytes-turn ∙ simp t)
 
-      pub bytes-on : v ≡ true → nameBytes s ≡ nameBytes (drop (i + 1) s)
+      pub bytes-on : v ≡ true → allNameBytes s ≡ allNameBytes (drop (i + 1) s)
       bytes-on t = bytes-turn ∙ simp t
 
     module _ (inv : someLetter s ≡ someLetter (drop i s)) (v : Bool) (is : v ≡ isLetter (getD s i 0)) where
@@ -122,12 +122,12 @@ rule-first (b ∷ bs) h = sym (simp (ne-eqb _ _ h))
 
 -- what follows its first byte, as the code takes it
 pub rule-rest : (s : List ℕ) → (length s ≡ 0 → ⊥) → getD s 0 0 ≡ 95
-    → serviceRule s ≡ (nameBytes (take (length s - 1) (drop 1 s)) && (someLetter (take (length s - 1) (drop 1 s)) && hyphensApart true (take (length s - 1) (drop 1 s))))
+    → serviceRule s ≡ (allNameBytes (take (length s - 1) (drop 1 s)) && (someLetter (take (length s - 1) (drop 1 s)) && hyphensApart true (take (length s - 1) (drop 1 s))))
 unfolding serviceRule
 rule-rest [] z h = absurd (z refl)
 rule-rest (b ∷ bs) z h = simp (eq-eqb _ _ h, take-all (length (b ∷ bs) - 1) bs (omega arith))
 
-module _ (s : List ℕ) (z : length s ≡ 0 → ⊥) (h : getD s 0 0 ≡ 95) (a : Bool) (ea : a ≡ nameBytes (take (length s - 1) (drop 1 s))) where
+module _ (s : List ℕ) (z : length s ≡ 0 → ⊥) (h : getD s 0 0 ≡ 95) (a : Bool) (ea : a ≡ allNameBytes (take (length s - 1) (drop 1 s))) where
   pub rule-bytes : a ≡ false → false ≡ serviceRule s
   rule-bytes t = sym (rule-rest s z h ∙ simp (sym ea ∙ t))
 

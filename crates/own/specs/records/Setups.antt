@@ -38,9 +38,9 @@ unfoldable pub isNameByte : ℕ → Bool
 isNameByte b = isLetter b || (eqb b 45 || (leb 48 b && leb b 57))
 
 -- "letters, digits or hyphens"
-unfoldable pub nameBytes : List ℕ → Bool
-nameBytes [] = true
-nameBytes (b ∷ bs) = isNameByte b && nameBytes bs
+unfoldable pub allNameBytes : List ℕ → Bool
+allNameBytes [] = true
+allNameBytes (b ∷ bs) = isNameByte b && allNameBytes bs
 
 -- "with a letter"
 unfoldable pub someLetter : List ℕ → Bool
@@ -55,7 +55,7 @@ hyphensApart barred (b ∷ bs) = cond (eqb b 45) (not barred && hyphensApart tru
 -- "The service label is "_" and 1..15 letters, digits or hyphens, with a letter, no hyphen first, last or doubled (RFC 6335)."
 unfoldable pub serviceRule : List ℕ → Bool
 serviceRule [] = false
-serviceRule (b ∷ bs) = eqb b 95 && (nameBytes bs && (someLetter bs && hyphensApart true bs))
+serviceRule (b ∷ bs) = eqb b 95 && (allNameBytes bs && (someLetter bs && hyphensApart true bs))
 
 unfoldable pub serviceFits : Service → Bool
 serviceFits l = held 2 16 (l .len) (l .bytes) && serviceRule (take (l .len) (l .bytes))

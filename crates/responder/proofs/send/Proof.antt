@@ -31,13 +31,21 @@ same-length : tie.Need-same-length
 same-length c = search needs
 
 returns-2 : tie.Need-returns-2
-returns-2 c = sends _ _ _ _ _ _ _ (c .before .before .before .before .before .before .before .before .before .pre) (probe-packet _ _ _ (c .before .before .before .before .before .before .output .given .1)) (c .before .before .before .probe .ensures .0, c .before .before .before .probe .ensures .1 .0) (c .answer-for .ensures)
+returns-2 c =
+    let probe = c .before .before .before in
+    let output = probe .before .before .before in
+    sends _ _ _ _ _ _ _ (output .before .before .before .pre) (probe-packet _ _ _ (output .output .given .1))
+    (probe .probe .ensures .0, probe .probe .ensures .1 .0) (c .answer-for .ensures)
 
 same-length-2 : tie.Need-same-length-2
 same-length-2 c = search needs
 
 returns-3 : tie.Need-returns-3
-returns-3 c = sends _ _ _ _ _ _ _ (c .before .before .before .before .before .before .before .before .before .pre) (response-packet _ _ _ (c .before .before .before .before .before .before .output2 .given .1)) (c .before .before .before .respond .ensures .0, c .before .before .before .respond .ensures .1 .0) (c .answer-for2 .ensures)
+returns-3 c =
+    let respond = c .before .before .before in
+    let output = respond .before .before .before in
+    sends _ _ _ _ _ _ _ (output .before .before .before .pre) (response-packet _ _ _ (output .output2 .given .1))
+    (respond .respond .ensures .0, respond .respond .ensures .1 .0) (c .answer-for2 .ensures)
 
 pub send-spec : {M : Type 1} → statement M
 send-spec =

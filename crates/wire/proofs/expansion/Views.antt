@@ -6,10 +6,10 @@ use Prim.Native.Nat.{ℕ, _+_, _-_, _<_, _≤_}
 use native.Mathlib.Nat.{zero-add, add-sub-cancel-left}
 use native.Mathlib.Omega.{arith}
 use borrow.Author.Tests.{leb-true}
-use lib.ListN.{length, take, drop, replicate, length-append, length-replicate, length-take, length-drop}
-use lib.Seq.{sets, sets-eq, length-sets, take-at, take-take, length-take-le}
+use lib.ListN.{length, take, drop, replicate, length-append, length-take, length-drop}
+use lib.Seq.{sets, length-sets, take-at, take-take, length-take-le}
 use lib.Dec.{eqb, leb}
-use Rattle.wire.proofs.octets.Sets.{sets-append, drop-replicate}
+use Rattle.wire.proofs.octets.Sets.{sets-append, filled}
 use Rattle.wire.specs.names.Names.{Reading, name, malformed, nameAt}
 use Rattle.wire.specs.names.Answers.{expanded}
 use Rattle.wire.specs.declared.names.Span.{Span}
@@ -20,17 +20,11 @@ use Rattle.wire.proofs.names.Use.{as-expanded, as-unexpanded, at-most-2
 use Rattle.wire.specs.rdata.Rdata.{Rdata, rdata, unfit, stringsFill, asItLies, endingName, formOf, withName, rdataIn, rdataAt}
 use Rattle.wire.specs.rdata.Answers.{fits, startIn}
 use Rattle.wire.proofs.rdata.Fits.{at-within, in-named}
-use Rattle.wire.specs.expansion.Equal.{sameBytes, rdataIs, rdataSame}
+use Rattle.wire.specs.expansion.Equal.{sameBytes, rdataIs}
 use Rattle.wire.specs.expansion.Opened.{padded, openedOf, openedName, openedAt, viewOf, viewStart}
 use Rattle.wire.specs.declared.rdata.Form.{Form}
 use Rattle.wire.specs.declared.message.RecordAt.{RecordAt}
 use Rattle.wire.specs.declared.expansion.Opened.{Opened}
-
--- bytes written into zeros from the front
-filled : (n : ℕ) (bs : List ℕ) → length bs ≤ n → sets (replicate n 0) 0 bs ≡ bs ++ replicate (n - length bs) 0
-filled n bs h =
-    sets-eq bs (replicate n 0) 0 (omega (arith, length-replicate {A = ℕ} n 0))
-    ∙ ap (λ (k : ℕ). bs ++ drop k (replicate n 0)) (zero-add (length bs)) ∙ ap (λ (l : List ℕ). bs ++ l) (drop-replicate (length bs) n 0)
 
 -- `head` bytes and a name behind them, written one after the other
 module _ (p : List ℕ) (at head : ℕ) (small : head ≤ 6) (room : at + head ≤ length p) (e : Expanded) (h : e ≡ expanded (nameAt p (at + head))) where
@@ -210,10 +204,3 @@ module _ (p : List ℕ) (f : RecordAt) where
       → (seen : List ℕ) → seen ≡ viewOf p (o .bytes) (o .len) f → (other : List ℕ) (r : Bool) → r ≡ sameBytes seen other → r ≡ rdataIs (rdataAt p f) other
   is-viewed v e t o k seen s other r h =
       h ∙ ap (λ (l : List ℕ). sameBytes l other) s ∙ sym (ap (λ (x : Rdata). rdataIs x other) (view-is (sym e ∙ t) o k))
-
-  pub same-nothing : (x : Rdata) (v : Bool) → v ≡ fits (rdataAt p f) → v ≡ false → false ≡ rdataSame x (rdataAt p f)
-  same-nothing x v e u = sym (ap (rdataSame x) (is-unfit (rdataAt p f) (sym e ∙ u)))
-
-  pub same-viewed : (x : Rdata) (v : Bool) → v ≡ fits (rdataAt p f) → v ≡ true → (o : Opened) → o ≡ openedAt p f
-      → (seen : List ℕ) → seen ≡ viewOf p (o .bytes) (o .len) f → (r : Bool) → r ≡ rdataIs x seen → r ≡ rdataSame x (rdataAt p f)
-  same-viewed x v e t o k seen s r h = h ∙ ap (rdataIs x) s ∙ sym (ap (rdataSame x) (view-is (sym e ∙ t) o k))

@@ -6,11 +6,15 @@ use Prim.Native.Nat.{ℕ, _<_, _≤_}
 use native.Mathlib.Omega.{arith}
 use lib.ListN.{length}
 use lib.Dec.{eqb}
-use borrow.Author.Tests.{lt-ltb, le-ltb, eq-eqb, ne-eqb}
+use borrow.Author.Tests.{lt-ltb, le-ltb, eq-eqb, ne-eqb, eqb-true, eqb-false}
 use Rattle.wire.specs.octets.Octets.{word16}
-use Rattle.wire.specs.message.Message.{Question, Record}
+use Rattle.wire.specs.message.Message.{Question, Record, Message}
 use Rattle.wire.specs.message.Layout.{Listing, listing, cut, questionAt, recordAt, listFrom, Reads, read, refused, andThen, sectionsOf, wrongLength, wrongHeader, messageAt, readOf, refusalOf}
-use Rattle.wire.specs.message.Refusals.{wrongPort, isRefused, isMalformed, packetRefusal, messageRefusal}
+use Rattle.wire.specs.message.Refusals.{wrongPort, isRefused, isMalformed, packetRefusal, messageRefusal, orRefused, messageFrom}
+use Rattle.wire.specs.declared.message.Layout.{Layout}
+use Rattle.wire.specs.declared.message.MessageRead.{MessageRead}
+use Rattle.wire.specs.declared.message.MessageRead.the-variants as answer
+use Rattle.wire.proofs.message.Cursor.{as-read}
 
 -- sections that are cut are refused as malformed
 Malformed : Reads → Type 0
@@ -43,6 +47,9 @@ module _ (p : List ℕ) where
       go true b = refl
       go false true = refl
       go false false = malformed-is
+
+  pub number-is : (r : MessageRead) → r ≡ readOf (messageAt p) → refusalOf r ≡ packetRefusal p
+  number-is r h = ap refusalOf h ∙ refusal-is
 
   -- a packet is refused as 4, 5 or 6, if at all
   pub refused-as : (n : ℕ) → messageAt p ≡ refused n → (4 ≤ n) × (n ≤ 6)
@@ -93,3 +100,88 @@ module _ (p : List ℕ) where
           go true c g = refl
           go false true g = refl
           go false false g = let z : _≡_ {A = ℕ} 0 1 = cc in absurd (omega arith)
+
+    -- a packet that is not refused came from port 5353 and was read
+    pub accepted-from : messageRefusal port p ≡ 0 → (port ≡ 5353) × (l : Layout) × (says : Message) × (messageAt p ≡ read l says)
+    unfolding messageRefusal packetRefusal
+    accepted-from h =
+        let t = go (wrongLength p) (wrongHeader p) (eqb port 5353) (isMalformed p) h in
+        let r = was-read (messageAt p) refl (refusal-is ∙ t .1) in
+        (eqb-true port 5353 (t .0), r .0, r .1, r .2)
+      where
+        go : (a b c d : Bool) → _≡_ {A = ℕ} (cond a 4 (cond (b || not c) 5 (cond d 6 0))) 0 → (c ≡ true) × (_≡_ {A = ℕ} (cond a 4 (cond b 5 (cond d 6 0))) 0)
+        go true b c d e = absurd (omega (arith, e))
+        go false true c d e = absurd (omega (arith, e))
+        go false false false d e = absurd (omega (arith, e))
+        go false false true true e = absurd (omega (arith, e))
+        go false false true false e = (refl, refl)
+
+        was-read : (x : Reads) → messageAt p ≡ x → refusalOf (readOf x) ≡ 0 → (l : Layout) × (says : Message) × (messageAt p ≡ read l says)
+        was-read (read l says) e z = (l, says, e)
+        was-read (refused n) e z = absurd (omega (arith, refused-as n e .0))
+
+-- what is read, or a refusal: the answer of a function, and what a caller learns from it
+module _ (refusal : ℕ) (x : Reads) where
+  pub refusing : (refusal ≡ 0 → ⊥) → answer.Refused refusal ≡ readOf (orRefused refusal x)
+  refusing z = sym (simp (ne-eqb refusal 0 z))
+
+  pub reading : (r : MessageRead) → refusal ≡ 0 → r ≡ readOf x → r ≡ readOf (orRefused refusal x)
+  reading r z h = h ∙ sym (simp (eq-eqb refusal 0 z))
+
+  module _ (r : MessageRead) (is : r ≡ readOf (orRefused refusal x)) where
+    pub was-read : (l : Layout) → r ≡ answer.Read l → (refusal ≡ 0) × (says : Message) × (x ≡ read l says)
+    was-read l e = go (eqb refusal 0) refl is
+      where
+        go : (b : Bool) → eqb refusal 0 ≡ b → r ≡ readOf (cond b x (refused refusal)) → (refusal ≡ 0) × (says : Message) × (x ≡ read l says)
+        go true t h = let m = as-read x r l h e in (eqb-true refusal 0 t, m .0, m .1)
+        go false t h = let z : _≡_ {A = ℕ} 0 1 = cc in absurd (omega arith)
+
+    -- of a message that is read where nothing is refused
+    pub was-refused : (n : ℕ) → r ≡ answer.Refused n → (refusal ≡ 0 → (l : Layout) × (says : Message) × (x ≡ read l says)) → (refusal ≡ n) × (n ≡ 0 → ⊥)
+    was-refused n e full = go (eqb refusal 0) refl is
+      where
+        go : (b : Bool) → eqb refusal 0 ≡ b → r ≡ readOf (cond b x (refused refusal)) → (refusal ≡ n) × (n ≡ 0 → ⊥)
+        go true t h =
+            let f = full (eqb-true refusal 0 t) in
+            let k : r ≡ answer.Read (f .0) = h ∙ ap readOf (f .2) in
+            let z : _≡_ {A = ℕ} 0 1 = cc in absurd (omega arith)
+        go false t h = let i : refusal ≡ n = cc in (i, λ z. eqb-false refusal 0 t (i ∙ z))
+
+-- the answers of `read_from`
+module _ (p : List ℕ) (port : ℕ) where
+  refuses-from : (n : ℕ) → messageRefusal port p ≡ n → (n ≡ 0 → ⊥) → answer.Refused n ≡ readOf (messageFrom port p)
+  unfolding messageFrom
+  refuses-from n h z = ap answer.Refused (sym h) ∙ refusing (messageRefusal port p) (messageAt p) (λ e. z (sym h ∙ e))
+
+  pub short-from : length p < 12 → answer.Refused 4 ≡ readOf (messageFrom port p)
+  short-from h = refuses-from 4 (from-short p port h) (λ e. omega arith)
+
+  pub long-from : 8972 < length p → answer.Refused 4 ≡ readOf (messageFrom port p)
+  long-from h = refuses-from 4 (from-long p port h) (λ e. omega arith)
+
+  module _ (least : 12 ≤ length p) (most : length p ≤ 8972) where
+    pub elsewhere-from : (port ≡ 5353 → ⊥) → answer.Refused 5 ≡ readOf (messageFrom port p)
+    elsewhere-from h = refuses-from 5 (from-elsewhere p port least most h) (λ e. omega arith)
+
+    pub read-from : port ≡ 5353 → (r : MessageRead) → r ≡ readOf (messageAt p) → r ≡ readOf (messageFrom port p)
+    unfolding messageFrom
+    read-from h r is = go (messageAt p) refl
+      where
+        number : messageRefusal port p ≡ refusalOf (readOf (messageAt p))
+        number = from-there p port least most h
+
+        go : (x : Reads) → messageAt p ≡ x → r ≡ readOf (orRefused (messageRefusal port p) (messageAt p))
+        go (read l says) e = reading (messageRefusal port p) (messageAt p) r (number ∙ ap (λ (y : Reads). refusalOf (readOf y)) e) is
+        go (refused n) e =
+            let i : messageRefusal port p ≡ n = number ∙ ap (λ (y : Reads). refusalOf (readOf y)) e in
+            is ∙ ap readOf e ∙ refuses-from n i (λ z. omega (arith, refused-as p n e .0))
+
+  -- what a caller of `read_from` learns from its answer
+  module _ (r : MessageRead) (is : r ≡ readOf (messageFrom port p)) where
+    pub taken-from : (l : Layout) → r ≡ answer.Read l → (messageRefusal port p ≡ 0) × (says : Message) × (messageAt p ≡ read l says)
+    unfolding messageFrom
+    taken-from l e = was-read (messageRefusal port p) (messageAt p) r is l e
+
+    pub refused-from : (n : ℕ) → r ≡ answer.Refused n → (messageRefusal port p ≡ n) × (n ≡ 0 → ⊥)
+    unfolding messageFrom
+    refused-from n e = was-refused (messageRefusal port p) (messageAt p) r is n e (λ z. let t = accepted-from p port z in (t .1, t .2, t .3))

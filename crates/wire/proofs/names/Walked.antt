@@ -12,7 +12,7 @@ use lib.Seq.{sets, length-take-le}
 use Rattle.wire.proofs.octets.Sets.{sets-append}
 use Rattle.wire.specs.name_pieces.Pieces.{pieceAt}
 use Rattle.wire.specs.names.Names.{Reading, name, malformed, before, ending, fromRun, nameAt}
-use Rattle.wire.specs.names.Answers.{spanOf, answerOf, Filled, Wrote, Chased, foundOf}
+use Rattle.wire.specs.names.Answers.{spanOf, answerOf, Filled, Wrote, isPointer, Chased, seenOf, foundOf}
 use Rattle.wire.specs.declared.name_pieces.Piece.{Piece}
 use Rattle.wire.specs.declared.name_pieces.Piece.the-variants.{Root, Label, Pointer, Bad}
 use Rattle.wire.specs.declared.names.Span.{Span}
@@ -76,6 +76,10 @@ module _ (p : List ℕ) (start at used : ℕ) (r : Piece) (is : r ≡ pieceAt p 
       twice e d (name ys _) = refl
       twice e d malformed = refl
 
+-- where a chain ends no pointer stands
+pub not-pointer : (p : List ℕ) (at used : ℕ) (r x : Piece) → r ≡ pieceAt p at at used → r ≡ x → isPointer x ≡ false → isPointer (pieceAt p at at used) ≡ false
+not-pointer p at used r x is e h = ap isPointer (sym is ∙ e) ∙ h
+
 pub chased-none : (p : List ℕ) (used from : ℕ) → Chased p used from from
 chased-none p used from = record { back = omega arith; same = λ d. refl }
 
@@ -98,11 +102,7 @@ module _ (p : List ℕ) (used from run at : ℕ) (c : Chased p used from run) (o
       go (name ys d) g = let h : a ≡ Found (spanOf d (used + length ys)) = g .answer in let z : _≡_ {A = ℕ} 0 1 = cc in absurd (omega arith)
       go malformed g = record { answer = refl; bytes = tt }
 
--- The answer of the loop that copies nothing: `used` bytes have been read, and `end` is past the first pointer, or 0 where none was followed.
-abbrev pub seenOf : ℕ → ℕ → Reading → Name
-seenOf used end (name bs e) = Found (spanOf (cond (eqb end 0) e end) (used + length bs))
-seenOf used end malformed = Malformed
-
+-- the answer where nothing is copied
 seen-before : (used n end : ℕ) (xs : List ℕ) → length xs ≡ 1 + n → (x : Reading) → seenOf used end (before xs x) ≡ seenOf (used + 1 + n) end x
 seen-before used n end xs h (name ys e) = ap (λ (k : ℕ). Found (spanOf (cond (eqb end 0) e end) k)) (omega (arith, length-append xs ys))
 seen-before used n end xs h malformed = refl
@@ -130,17 +130,22 @@ module _ (p : List ℕ) (start at used end : ℕ) (r : Piece) (is : r ≡ pieceA
       ap (seenOf used end) (read-at p start at used (Label n) (here (Label n) e))
       ∙ seen-before used n end (take (n + 1) (drop at p)) (label-long p at n (label-in p start at used n (here (Label n) e))) (fromRun p start (at + 1 + n) (used + 1 + n))
 
-  pub seen-pointer-first : (t : ℕ) → r ≡ Pointer t → end ≡ 0 → seenOf used end (fromRun p start at used) ≡ seenOf used (at + 2) (fromRun p t t used)
-  seen-pointer-first t e z =
-      ap (λ (k : ℕ). seenOf used k (fromRun p start at used)) z ∙ ap (seenOf used 0) (read-at p start at used (Pointer t) (here (Pointer t) e))
-      ∙ seen-first used at (fromRun p t t used)
-
-  pub seen-pointer : (t : ℕ) → r ≡ Pointer t → (end ≡ 0 → ⊥) → seenOf used end (fromRun p start at used) ≡ seenOf used end (fromRun p t t used)
-  seen-pointer t e z =
-      ap (seenOf used end) (read-at p start at used (Pointer t) (here (Pointer t) e)) ∙ seen-later used end (at + 2) z (fromRun p t t used)
+  pub seen-pointer : (t : ℕ) → r ≡ Pointer t → seenOf used end (fromRun p start at used) ≡ seenOf used end (ending (at + 2) (fromRun p t t used))
+  seen-pointer t e = ap (seenOf used end) (read-at p start at used (Pointer t) (here (Pointer t) e))
 
   pub seen-bad : r ≡ Bad → Malformed ≡ seenOf used end (fromRun p start at used)
   seen-bad e = rw (read-at p start at used Bad (here Bad e))
+
+-- a pointer that is followed: the name ends in place behind the first
+module _ (p : List ℕ) (run at used end : ℕ) where
+  pub passed-first : end ≡ 0 → seenOf used (at + 2) (fromRun p run run used) ≡ seenOf used end (ending (at + 2) (fromRun p run run used))
+  passed-first z = sym (seen-first used at (fromRun p run run used)) ∙ ap (λ (k : ℕ). seenOf used k (ending (at + 2) (fromRun p run run used))) (sym z)
+
+  pub passed-later : (end ≡ 0 → ⊥) → seenOf used end (fromRun p run run used) ≡ seenOf used end (ending (at + 2) (fromRun p run run used))
+  passed-later z = sym (seen-later used end (at + 2) z (fromRun p run run used))
+
+  pub passed-chain : (from : ℕ) → Chased p used from run → seenOf used end (ending (at + 2) (fromRun p run run used)) ≡ seenOf used end (ending (at + 2) (fromRun p from from used))
+  passed-chain from c = ap (seenOf used end) (sym (c .same (at + 2)))
 
 -- at the beginning nothing has been read
 pub seen-start : (p : List ℕ) (at : ℕ) → foundOf (nameAt p at) ≡ seenOf 0 0 (fromRun p at at 0)

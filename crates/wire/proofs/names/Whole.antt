@@ -5,8 +5,8 @@ use mathlib.Core.List.{List, [], _∷_, _++_}
 use Prim.Native.Nat.{ℕ, zero, suc, _+_, _-_, _<_, _≤_}
 use native.Mathlib.Nat.{zero-add}
 use native.Mathlib.Omega.{arith}
-use lib.ListN.{length, take, drop, replicate, length-append, length-take, length-replicate}
-use lib.Seq.{sets, sets-eq}
+use lib.ListN.{length, take, drop, replicate, length-append, length-take}
+use lib.Seq.{sets}
 use Rattle.wire.specs.declared.name_pieces.Piece.{Piece}
 use Rattle.wire.specs.declared.name_pieces.Piece.the-variants.{Root, Label, Pointer, Bad}
 use Rattle.wire.specs.name_pieces.Pieces.{pieceAt}
@@ -17,7 +17,7 @@ use Rattle.wire.specs.declared.names.Name.{Name}
 use Rattle.wire.specs.declared.names.Name.the-variants.{Found, Malformed}
 use Rattle.wire.specs.declared.names.Expanded.{Expanded}
 use Rattle.wire.proofs.name_pieces.Pieces.{label-room}
-use Rattle.wire.proofs.octets.Sets.{drop-replicate}
+use Rattle.wire.proofs.octets.Sets.{filled}
 
 -- a name of which `used` bytes were read before has at most 255 in all
 abbrev pub Short : ℕ → Reading → Type 0
@@ -44,12 +44,6 @@ pub short : (f : ℕ) (p : List ℕ) (start at used : ℕ) → used < 255 → Sh
 unfolding readFrom
 short zero p start at used h = tt
 short (suc f) p start at used h = short-piece (readFrom f p) (short f p) p start at used h (pieceAt p start at used) refl
-
--- bytes written into zeros from the front
-filled : (n : ℕ) (bs : List ℕ) → length bs ≤ n → sets (replicate n 0) 0 bs ≡ bs ++ replicate (n - length bs) 0
-filled n bs h =
-    sets-eq bs (replicate n 0) 0 (omega (arith, length-replicate {A = ℕ} n 0))
-    ∙ ap (λ (k : ℕ). bs ++ drop k (replicate n 0)) (zero-add (length bs)) ∙ ap (λ (l : List ℕ). bs ++ l) (drop-replicate (length bs) n 0)
 
 module _ (p : List ℕ) (at : ℕ) (r : Name) (o′ : List ℕ) (w : Wrote (fromRun p at at 0) 0 (replicate 255 0) r o′) where
   pub whole-found : (s : Span) → r ≡ Found s → _≡_ {A = Expanded} (record { name = Found s; bytes = o′ }) (expanded (nameAt p at))

@@ -1,4 +1,4 @@
--- What the answer for a name makes of the rdata that it ends. Assumes nothing.
+-- The rdata of each type, and a part of a packet. Assumes nothing.
 use mathlib.Core.Path.{_≡_, refl, sym, ap, _∙_}
 use mathlib.Core.List.{List, [], _++_}
 use mathlib.Core.Bool.{Bool, true, false, cond, _||_}
@@ -26,20 +26,6 @@ fits-cond : (b : Bool) (d : List ℕ) → fits (cond b (rdata d) unfit) ≡ b
 fits-cond true d = refl
 fits-cond false d = refl
 
--- whether a name ends the rdata does not depend on what stands before it
-pub fits-front : (front : List ℕ) (end : ℕ) (x : Reading) → fits (endingName front end x) ≡ fits (endingName [] end x)
-fits-front front end (name bs e) = fits-cond (eqb e end) (front ++ bs) ∙ sym (fits-cond (eqb e end) bs)
-fits-front front end malformed = refl
-
-module _ (p : List ℕ) (at end : ℕ) (r : Name) (h : r ≡ foundOf (nameAt p at)) where
-  pub ends-bad : r ≡ nam.Malformed → false ≡ fits (endingName [] end (nameAt p at))
-  ends-bad k = simp (as-malformed (nameAt p at) r h k)
-
-  pub ends-found : (s : Span) → r ≡ nam.Found s → eqb (s .end) end ≡ fits (endingName [] end (nameAt p at))
-  ends-found s k =
-      let f = as-name (nameAt p at) r s h k in
-      simp (f .1) (sym (fits-cond (eqb (s .end) end) (f .0)))
-
 -- the rdata of each type, in a part of the packet
 module _ (p d : List ℕ) (f : RecordAt) where
   pub in-a : f .rtype ≡ 1 → eqb (length d) 4 ≡ fits (rdataIn p f d)
@@ -53,6 +39,10 @@ module _ (p d : List ℕ) (f : RecordAt) where
   pub in-aaaa : f .rtype ≡ 28 → eqb (length d) 16 ≡ fits (rdataIn p f d)
   unfolding rdataIn
   in-aaaa e = rw e (sym (fits-cond (eqb (length d) 16) d))
+
+  pub in-srv : f .rtype ≡ 33 → (v : Bool) → v ≡ fits (withName p (f .rdata) d 6) → v ≡ fits (rdataIn p f d)
+  unfolding rdataIn
+  in-srv e v h = rw e h
 
   -- rdata that holds a name
   pub in-named : formOf (f .rtype) .named ≡ true → rdataIn p f d ≡ withName p (f .rdata) d (formOf (f .rtype) .before)
@@ -75,26 +65,9 @@ module _ (p d : List ℕ) (f : RecordAt) where
         let none : formOf (f .rtype) .named ≡ false = sym (ap (λ (y : Form). y .named) is) ∙ e in
         simp (ne-eqb _ _ a, ne-eqb _ _ b, ne-eqb _ _ c, none)
 
-    module _ (e : g .named ≡ true) where
-      abbrev ended : List ℕ → Rdata
-      ended front = endingName front (f .rdata + length d) (nameAt p (f .rdata + formOf (f .rtype) .before))
-
-      named : fits (rdataIn p f d) ≡ fits (cond (leb (formOf (f .rtype) .before) (length d)) (ended (take (formOf (f .rtype) .before) d)) unfit)
-      named = ap fits (in-named (sym (ap (λ (y : Form). y .named) is) ∙ e))
-
-      pub in-short : length d < g .before → false ≡ fits (rdataIn p f d)
-      in-short l =
-          let less : length d < formOf (f .rtype) .before = omega (arith, before-is) in
-          let short : leb (formOf (f .rtype) .before) (length d) ≡ false = lt-leb _ _ less in
-          sym (named ∙ ap (λ (b : Bool). fits (cond b (ended (take (formOf (f .rtype) .before) d)) unfit)) short)
-
-      pub in-name : g .before ≤ length d → (v : Bool) → v ≡ fits (endingName [] (f .rdata + length d) (nameAt p (f .rdata + g .before))) → v ≡ fits (rdataIn p f d)
-      in-name l v k =
-          let most : formOf (f .rtype) .before ≤ length d = omega (arith, before-is) in
-          let enough : leb (formOf (f .rtype) .before) (length d) ≡ true = le-leb _ _ most in
-          k ∙ ap (λ (n : ℕ). fits (endingName [] (f .rdata + length d) (nameAt p (f .rdata + n)))) before-is
-          ∙ sym (fits-front (take (formOf (f .rtype) .before) d) (f .rdata + length d) (nameAt p (f .rdata + formOf (f .rtype) .before)))
-          ∙ sym (named ∙ ap (λ (b : Bool). fits (cond b (ended (take (formOf (f .rtype) .before) d)) unfit)) enough)
+    pub in-form : g .named ≡ true → (v : Bool) → v ≡ fits (withName p (f .rdata) d (g .before)) → v ≡ fits (rdataIn p f d)
+    in-form e v k =
+        k ∙ ap (λ (n : ℕ). fits (withName p (f .rdata) d n)) before-is ∙ sym (ap fits (in-named (sym (ap (λ (y : Form). y .named) is) ∙ e)))
 
 -- the rdata of a record as it lies
 module _ (p : List ℕ) (f : RecordAt) where
@@ -122,22 +95,6 @@ form-srv rtype e = rw e
 
 pub form-plain : (rtype : ℕ) → (rtype ≡ 12 → ⊥) → (rtype ≡ 33 → ⊥) → _≡_ {A = Form} (record { named = false; before = 0 }) (formOf rtype)
 form-plain rtype a b = simp (ne-eqb _ _ a, ne-eqb _ _ b)
-
--- where no bytes are, there is no name
-pub name-past : (p : List ℕ) (at : ℕ) → length p ≤ at → nameAt p at ≡ malformed
-name-past p at h = go (nameAt p at) refl
-  where
-    go : (x : Reading) → nameAt p at ≡ x → x ≡ malformed
-    go (name bs e) q = absurd (omega (arith, within p at bs e q))
-    go malformed q = refl
-
--- a target; one that would start past the packet's end is none
-module _ (p : List ℕ) (f : RecordAt) (g : Form) (is : g ≡ formOf (f .rtype)) where
-  pub target-there : expanded (nameAt p (f .rdata + g .before)) ≡ expanded (nameAt p (f .rdata + formOf (f .rtype) .before))
-  target-there = ap (λ (y : Form). expanded (nameAt p (f .rdata + y .before))) is
-
-  pub target-past : (k : ℕ) → length p ≤ k → length p ≤ f .rdata + g .before → expanded (nameAt p k) ≡ expanded (nameAt p (f .rdata + formOf (f .rtype) .before))
-  target-past k h l = ap expanded (name-past p k h ∙ sym (name-past p (f .rdata + g .before) l)) ∙ target-there
 
 -- a part of a packet, as far as the packet goes
 module _ (p : List ℕ) (at len : ℕ) where

@@ -16,7 +16,3 @@ sameBytes (x ∷ xs) (y ∷ ys) = eqb x y && sameBytes xs ys
 abbrev pub rdataIs : Rdata → List ℕ → Bool
 rdataIs (rdata d) other = sameBytes d other
 rdataIs unfit other = false
-
-abbrev pub rdataSame : Rdata → Rdata → Bool
-rdataSame x (rdata d) = rdataIs x d
-rdataSame x unfit = false

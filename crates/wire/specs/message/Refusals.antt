@@ -2,10 +2,10 @@
 -- proofs/message/Refused.antt), and of a packet with the port that it came from. Assumes nothing: these are definitions.
 use Prim.Native.Nat.{ℕ}
 use mathlib.Core.List.{List, [], _∷_}
-use mathlib.Core.Bool.{Bool, true, false, not, _||_}
+use mathlib.Core.Bool.{Bool, true, false, cond, not, _||_}
 use lib.Dec.{eqb}
 use Rattle.wire.specs.refusals.Numbers.{LENGTH, HEADER, MALFORMED, firstRefusal}
-use Rattle.wire.specs.message.Layout.{Reads, read, refused, sectionsOf, wrongLength, wrongHeader}
+use Rattle.wire.specs.message.Layout.{Reads, read, refused, sectionsOf, wrongLength, wrongHeader, messageAt}
 
 -- 5: "or source port not 5353"
 abbrev pub wrongPort : ℕ → Bool
@@ -32,3 +32,11 @@ packetRefusal p = firstRefusal (packetTests p)
 
 unfoldable pub messageRefusal : ℕ → List ℕ → ℕ
 messageRefusal port p = firstRefusal (messageTests port p)
+
+-- what is read, or the number of a refusal
+abbrev pub orRefused : ℕ → Reads → Reads
+orRefused refusal reads = cond (eqb refusal 0) reads (refused refusal)
+
+-- the message of a packet that came from a port
+unfoldable pub messageFrom : ℕ → List ℕ → Reads
+messageFrom port p = orRefused (messageRefusal port p) (messageAt p)

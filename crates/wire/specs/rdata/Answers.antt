@@ -4,9 +4,7 @@ use mathlib.Core.List.{List, []}
 use mathlib.Core.Bool.{Bool, true, false, cond}
 use lib.Dec.{leb}
 use lib.ListN.{length}
-use Rattle.wire.specs.octets.Octets.{word16}
 use Rattle.wire.specs.rdata.Rdata.{Rdata, rdata, unfit}
-use Rattle.wire.specs.declared.rdata.SrvNumbers.{SrvNumbers}
 
 -- rdata is as its type asks
 abbrev pub fits : Rdata → Bool
@@ -17,10 +15,6 @@ fits unfit = false
 abbrev pub dataOf : Rdata → List ℕ
 dataOf (rdata d) = d
 dataOf unfit = []
-
--- the three numbers in front of an SRV's target
-abbrev pub srvOf : List ℕ → SrvNumbers
-srvOf d = record { priority = word16 d 0; weight = word16 d 2; port = word16 d 4 }
 
 -- where a part of a packet starts in memory: a place is a block and an offset in it. A part that would start past the packet's end starts at its end.
 abbrev pub startIn : List ℕ → ℕ → ℕ × ℕ → ℕ × ℕ

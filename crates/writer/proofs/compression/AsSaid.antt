@@ -51,7 +51,8 @@ found p s m n (x ∷ xs) o (next lo up) h = go (standsAt p s x) refl h (found p 
         least i o′ (later j) = omega (arith, above up j)
     go false e k ih = let f = ih k in (later (f .0), f .1, least f)
       where
-        least : (Among o xs) × (standsAt p s o ≡ true) × ((o′ : ℕ) → Among o′ xs → standsAt p s o′ ≡ true → o ≤ o′) → (o′ : ℕ) → Among o′ (x ∷ xs) → standsAt p s o′ ≡ true → o ≤ o′
+        least : (Among o xs) × (standsAt p s o ≡ true) × ((o′ : ℕ) → Among o′ xs → standsAt p s o′ ≡ true → o ≤ o′) → (o′ : ℕ) → Among o′ (x ∷ xs) → standsAt p
+            s o′ ≡ true → o ≤ o′
         least f o′ first t = let z : _≡_ {A = ℕ} 0 1 = cc in absurd (omega arith)
         least f o′ (later j) t = f .2 o′ j t
 
@@ -74,14 +75,16 @@ labels-cut p m n os up at (l ∷ ls) = go (placeOf p (encode (l ∷ ls)) os) ref
         shift zero o h s = not-first is o s
         shift (suc j) o h s = never j o (omega arith) s
     go Nowhere is (cut k o h s least never same noted) =
-        cut (suc k) o (omega arith) s least shift (ap (λ (b : List ℕ). length l ∷ (l ++ b)) same ∙ ap (λ (b : List ℕ). length l ∷ b) (sym (append-assoc l (labelBytes (take k ls)) (pointerTo o)))) (ap (λ (b : List ℕ). at ∷ b) noted)
+        cut (suc k) o (omega arith) s least shift (ap (λ (b : List ℕ). length l ∷ (l ++ b)) same ∙ ap (λ (b : List ℕ). length l ∷ b)
+        (sym (append-assoc l (labelBytes (take k ls)) (pointerTo o)))) (ap (λ (b : List ℕ). at ∷ b) noted)
       where
         shift : (j o′ : ℕ) → j < suc k → Stands p os (drop j (l ∷ ls)) o′ → ⊥
         shift zero o′ h s = not-first is o′ s
         shift (suc j) o′ h s = never j o′ (omega arith) s
 
 -- A name that is made of labels is written cut as the specification says, where the offsets rise.
-pub is-cut : (p : List ℕ) (m n : ℕ) (os : List ℕ) → Rising m n os → (at : ℕ) (ls : List (List ℕ)) → Labels ls → Cuts p os at ls (nameBytes p os (encode ls)) (namePlaces p os at (encode ls))
+pub is-cut : (p : List ℕ) (m n : ℕ) (os : List ℕ) → Rising m n os → (at : ℕ) (ls : List (List ℕ)) → Labels ls → Cuts p os at ls (nameBytes p os (encode ls))
+    (namePlaces p os at (encode ls))
 is-cut p m n os up at ls ok = rw (by-labels p os ok, places-by p os at ok) (labels-cut p m n os up at ls)
 
 -- Why only labels of earlier names are looked at. First: at an earlier label of the name itself more stands than a later suffix.

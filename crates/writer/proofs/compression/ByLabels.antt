@@ -52,12 +52,14 @@ module _ (p os : List ℕ) where
   by-labels (one {l = x ∷ xs} {ls = ls} lo hi rest) = go (placeOf p (encode ((x ∷ xs) ∷ ls)) os) (by-labels rest)
     where
       go : (y : Place) → nameBytes p os (encode ls) ≡ byLabels p os ls
-          → take (cutHere y (onward (onward (cutFrom p os (length xs) (xs ++ encode ls)))) .kept) (length (x ∷ xs) ∷ (x ∷ (xs ++ encode ls))) ++ endOf (cutHere y (onward (onward (cutFrom p os (length xs) (xs ++ encode ls)))) .place)
+          → take (cutHere y (onward (onward (cutFrom p os (length xs) (xs ++ encode ls)))) .kept) (length (x ∷ xs) ∷ (x ∷ (xs ++ encode ls))) ++ endOf
+          (cutHere y (onward (onward (cutFrom p os (length xs) (xs ++ encode ls)))) .place)
           ≡ cutAt y (length (x ∷ xs) ∷ (x ∷ (xs ++ byLabels p os ls)))
       go (At o) ih = refl
       go Nowhere ih =
           ap (λ (l : List ℕ). length (x ∷ xs) ∷ (x ∷ l))
-          (ap₂ (λ (l : List ℕ) (q : Place). l ++ endOf q) (kept-on xs (encode ls)) (place-on xs (encode ls)) ∙ append-assoc xs (take (cutOf p os (encode ls) .kept) (encode ls)) (endOf (cutOf p os (encode ls) .place))
+          (ap₂ (λ (l : List ℕ) (q : Place). l ++ endOf q) (kept-on xs (encode ls)) (place-on xs (encode ls)) ∙ append-assoc xs
+          (take (cutOf p os (encode ls) .kept) (encode ls)) (endOf (cutOf p os (encode ls) .place))
           ∙ ap (λ (l : List ℕ). xs ++ l) ih)
 
   pub places-by : {ls : List (List ℕ)} (at : ℕ) → Labels ls → namePlaces p os at (encode ls) ≡ placesBy p os at ls

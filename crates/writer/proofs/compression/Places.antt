@@ -36,4 +36,6 @@ name-rising p os at (l ∷ ls) = go (placeOf p (encode (l ∷ ls)) os) (name-ris
     go : (x : Place) → Rising (at + 1 + length l) (at + 1 + length l + length (byLabels p os ls)) (placesBy p os (at + 1 + length l) ls)
         → Rising at (at + length (cutAt x (length l ∷ (l ++ byLabels p os ls)))) (noneAt x (at ∷ placesBy p os (at + 1 + length l) ls))
     go (At o) ih = let g : at ≤ at + 2 = omega arith in empty g
-    go Nowhere ih = let g : at ≤ at = omega arith in next g (rising-from (suc at) (omega arith) (rising-to (at + suc (length (l ++ byLabels p os ls))) (omega (arith, length-append l (byLabels p os ls))) ih))
+    go Nowhere ih =
+        let g : at ≤ at = omega arith in next g (rising-from (suc at) (omega arith)
+        (rising-to (at + suc (length (l ++ byLabels p os ls))) (omega (arith, length-append l (byLabels p os ls))) ih))

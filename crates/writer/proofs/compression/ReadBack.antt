@@ -41,7 +41,8 @@ unfolding placeOf
 place-found p s o (empty h) k = let z : _≡_ {A = ℕ} 0 1 = cc in absurd (omega arith)
 place-found p s {m = m} o (next {o = x} {os = xs} lo up) h = go (standsAt p s x) refl h (place-found p s o up)
   where
-    go : (b : Bool) → standsAt p s x ≡ b → cond b (At x) (placeOf p s xs) ≡ At o → (placeOf p s xs ≡ At o → (suc x ≤ o) × (standsAt p s o ≡ true)) → (m ≤ o) × (standsAt p s o ≡ true)
+    go : (b : Bool) → standsAt p s x ≡ b → cond b (At x) (placeOf p s xs) ≡ At o → (placeOf p s xs ≡ At o → (suc x ≤ o) × (standsAt p s o ≡ true)) → (m ≤ o) ×
+        (standsAt p s o ≡ true)
     go true e k ih = let i : x ≡ o = cc in (omega arith, ap (standsAt p s) (sym i) ∙ e)
     go false e k ih = let f = ih k in (omega (arith, f .0), f .1)
 
@@ -57,7 +58,8 @@ tail-at : (P l w post : List ℕ) (at : ℕ) → drop at P ≡ (length l ∷ (l 
 tail-at P l w post at e =
     let g = head P at (length l) (l ++ w ++ post) e in
     let skip : at + 1 + length l ≡ suc at + length l = omega arith in
-    ap (λ (k : ℕ). drop k P) skip ∙ sym (drop-drop (length l) (suc at) P) ∙ ap (drop (length l)) (g .2 ∙ append-assoc l w post) ∙ drop-at l (w ++ post) (length l) refl
+    ap (λ (k : ℕ). drop k P) skip ∙ sym (drop-drop (length l) (suc at) P) ∙ ap (drop (length l)) (g .2 ∙ append-assoc l w post) ∙ drop-at l (w ++ post)
+    (length l) refl
 
 -- a label stands at a place, and the rest of the name, written as w, is read as s
 label-step : (P l w s post : List ℕ) (start at used : ℕ) → 1 ≤ length l → length l < 64 → drop at P ≡ (length l ∷ (l ++ w)) ++ post
@@ -67,7 +69,8 @@ label-step : (P l w s post : List ℕ) (start at used : ℕ) → 1 ≤ length l 
 label-step P l w s post start at used lo hi e fits some rest =
     let n : ℕ = length l in
     let g = head P at n (l ++ w ++ post) e in
-    let left : length P ≡ at + 1 + (n + length w + length post) = omega (arith, ap length e, length-drop at P, length-append (l ++ w) post, length-append l w) in
+    let left : length P ≡ at + 1 + (n + length w + length post) = omega
+    (arith, ap length e, length-drop at P, length-append (l ++ w) post, length-append l w) in
     let at-label : pieceAt P start at used ≡ Label n =
     piece-label P start at used (g .0) (omega arith) (omega arith) (omega arith) (omega (arith, length-append l s)) ∙ ap Label (g .1) in
     let body : take (n + 1) (drop at P) ≡ n ∷ l =
@@ -82,7 +85,8 @@ bits o h = omega arith
 
 module _ (p q os : List ℕ) (n : ℕ) (small : length p ≤ 16384) (low : Rising 12 n os) where
   -- a pointer stands at a place, to an offset that was found for s
-  pointer-step : (s post : List ℕ) (o start at used : ℕ) → placeOf p s os ≡ At o → length p ≤ start → drop at (p ++ q) ≡ pointerTo o ++ post → used + length s ≤ 255
+  pointer-step : (s post : List ℕ) (o start at used : ℕ) → placeOf p s os ≡ At o → length p ≤ start → drop at (p ++ q) ≡ pointerTo o ++ post → used + length s ≤
+      255
       → fromRun (p ++ q) start at used ≡ name s (at + 2)
   pointer-step s post o start at used is later e fits =
       let P : List ℕ = p ++ q in
@@ -117,13 +121,16 @@ module _ (p q os : List ℕ) (n : ℕ) (small : length p ≤ 16384) (low : Risin
 
 -- The read-back of a name: written after the bytes p ++ between, where p has every name before it, and followed by any bytes.
 pub name-back : (p os between post : List ℕ) (n : ℕ) (ls : List (List ℕ)) → length p ≤ 16384 → Rising 12 n os → IsName ls
-    → nameAt (p ++ (between ++ (byLabels p os ls ++ post))) (length p + length between) ≡ name (encode ls) (length p + length between + length (byLabels p os ls))
+    → nameAt (p ++ (between ++ (byLabels p os ls ++ post))) (length p + length between) ≡ name (encode ls)
+    (length p + length between + length (byLabels p os ls))
 unfolding nameAt
 name-back p os between post n ls small low ok =
     let there : drop (length p + length between) (p ++ (between ++ (byLabels p os ls ++ post))) ≡ byLabels p os ls ++ post =
     sym (drop-drop (length between) (length p) (p ++ (between ++ (byLabels p os ls ++ post))))
-    ∙ ap (drop (length between)) (drop-at p (between ++ (byLabels p os ls ++ post)) (length p) refl) ∙ drop-at between (byLabels p os ls ++ post) (length between) refl in
-    read-back p (between ++ (byLabels p os ls ++ post)) os n small low ls (ok .labels) post (length p + length between) (length p + length between) 0 (omega arith) there (omega (arith, ok .short))
+    ∙ ap (drop (length between)) (drop-at p (between ++ (byLabels p os ls ++ post)) (length p) refl) ∙ drop-at between (byLabels p os ls ++ post)
+    (length between) refl in
+    read-back p (between ++ (byLabels p os ls ++ post)) os n small low ls (ok .labels) post (length p + length between) (length p + length between) 0
+    (omega arith) there (omega (arith, ok .short))
 
 -- every offset of a list reads as a name of labels
 pub data Read (P : List ℕ) : List ℕ → Type 0 where
@@ -131,7 +138,8 @@ pub data Read (P : List ℕ) : List ℕ → Type 0 where
   reads : {o : ℕ} {os : List ℕ} (ls : List (List ℕ)) (e : ℕ) → nameAt P o ≡ name (encode ls) e → Read P os → Read P (o ∷ os)
 
 -- The offsets that are noted for a name are those of names: its own suffixes, wherever it was cut.
-pub places-read : (p q os : List ℕ) (n : ℕ) → length p ≤ 16384 → Rising 12 n os → (ls : List (List ℕ)) → Labels ls → (post : List ℕ) (at : ℕ) → length p ≤ at → drop at (p ++ q) ≡ byLabels p os ls ++ post
+pub places-read : (p q os : List ℕ) (n : ℕ) → length p ≤ 16384 → Rising 12 n os → (ls : List (List ℕ)) → Labels ls → (post : List ℕ) (at : ℕ) → length p ≤ at →
+    drop at (p ++ q) ≡ byLabels p os ls ++ post
     → length (encode ls) ≤ 255 → Read (p ++ q) (placesBy p os at ls)
 unfolding byLabels placesBy nameAt
 places-read p q os n small low [] none post at later e fits = nothing

@@ -116,12 +116,14 @@ module _ (p os : List ℕ) where
             go zero nz f = absurd (nz refl)
             go (suc n) nz f =
                 ap (cutFrom p os 0) f
-                ∙ ap (λ (y : Place). cutHere y (onward (cutFrom p os (suc n) (drop (i + 1) s)))) (ap (λ (l : List ℕ). placeOf p l os) (sym (whole ∙ f)) ∙ sym is)
+                ∙ ap (λ (y : Place). cutHere y (onward (cutFrom p os (suc n) (drop (i + 1) s))))
+                (ap (λ (l : List ℕ). placeOf p l os) (sym (whole ∙ f)) ∙ sym is)
 
         pub cut-found : (o : ℕ) → x ≡ At o → _≡_ {A = Cut} (record { kept = i; place = At o }) (cutOf p os s)
         cut-found o q =
             let k : i ≡ i + 0 = omega arith in
-            (λ j. record { kept = k j; place = At o }) ∙ sym (inv ∙ ap (further i) (here ∙ ap (λ (y : Place). cutHere y (onward (cutFrom p os (getD s i 0) (drop (i + 1) s)))) q))
+            (λ j. record { kept = k j; place = At o }) ∙ sym (inv ∙ ap (further i)
+            (here ∙ ap (λ (y : Place). cutHere y (onward (cutFrom p os (getD s i 0) (drop (i + 1) s)))) q))
 
         module _ (q : x ≡ Nowhere) where
           gone : cutOf p os (drop i s) ≡ onward (cutFrom p os (getD s i 0) (drop (i + 1) s))
@@ -140,5 +142,6 @@ module _ (p os : List ℕ) where
               let e : cutFrom p os n (drop (i + 1) s) ≡ further n (cutFrom p os 0 (drop (i + 1 + n) s)) =
               cut-past n (drop (i + 1) s) (omega (arith, length-drop (i + 1) s)) ∙ ap (λ (b : List ℕ). further n (cutFrom p os 0 b)) (drop-drop n (i + 1) s) in
               let k : i + suc n ≡ i + 1 + n = omega arith in
-              inv ∙ ap (further i) (gone ∙ ap onward e ∙ further-suc n (cutFrom p os 0 (drop (i + 1 + n) s))) ∙ further-add i (suc n) (cutFrom p os 0 (drop (i + 1 + n) s))
+              inv ∙ ap (further i) (gone ∙ ap onward e ∙ further-suc n (cutFrom p os 0 (drop (i + 1 + n) s))) ∙ further-add i (suc n)
+              (cutFrom p os 0 (drop (i + 1 + n) s))
               ∙ ap (λ (m : ℕ). further m (cutFrom p os 0 (drop (i + 1 + n) s))) k

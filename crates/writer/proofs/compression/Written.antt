@@ -61,7 +61,8 @@ module _ (p os : List ℕ) (bs : List ℕ) where
     pub name-back : (between post : List ℕ) (n : ℕ) → length p ≤ 16384 → Rising 12 n os
         → nameAt (p ++ (between ++ (nameBytes p os bs ++ post))) (length p + length between) ≡ name bs (length p + length between + length (nameBytes p os bs))
     name-back between post n small low =
-        ap (λ (l : List ℕ). nameAt (p ++ (between ++ (l ++ post))) (length p + length between)) same ∙ labelled.name-back p os between post n (of .0) small low (of .1)
+        ap (λ (l : List ℕ). nameAt (p ++ (between ++ (l ++ post))) (length p + length between)) same ∙ labelled.name-back p os between post n (of .0) small low
+        (of .1)
         ∙ ap₂ (λ (l b : List ℕ). name l (length p + length between + length b)) (sym (of .2)) (sym same)
 
 -- an offset that a name is cut for lies in the packet, and no more is kept than there is
@@ -85,7 +86,8 @@ module _ (p os : List ℕ) where
   cut-within zero (zero ∷ bs) o h = let z : _≡_ {A = ℕ} 0 1 = cc in absurd (omega arith)
   cut-within zero (suc n ∷ bs) o h = go (placeOf p (suc n ∷ bs) os) refl h (cut-within (suc n) bs o)
     where
-      go : (x : Place) → placeOf p (suc n ∷ bs) os ≡ x → cutHere x (onward (cutFrom p os (suc n) bs)) .place ≡ At o → (cutFrom p os (suc n) bs .place ≡ At o → o < length p) → o < length p
+      go : (x : Place) → placeOf p (suc n ∷ bs) os ≡ x → cutHere x (onward (cutFrom p os (suc n) bs)) .place ≡ At o →
+          (cutFrom p os (suc n) bs .place ≡ At o → o < length p) → o < length p
       go (At y) e q ih = place-within (suc n ∷ bs) os o (e ∙ q)
       go Nowhere e q ih = ih q
 
@@ -105,4 +107,5 @@ pub labels-in : {ls : List (List ℕ)} (at : ℕ) → Labels ls → length (star
 unfolding starts
 labels-in at none = refl
 labels-in at (one {l = []} {ls = ls} lo hi rest) = absurd (omega arith)
-labels-in at (one {l = x ∷ xs} {ls = ls} lo hi rest) = ap suc (ap length (starts-on [] [] (suc (suc at)) xs (encode ls)) ∙ labels-in (suc (suc at) + length xs) rest)
+labels-in at (one {l = x ∷ xs} {ls = ls} lo hi rest) =
+    ap suc (ap length (starts-on [] [] (suc (suc at)) xs (encode ls)) ∙ labels-in (suc (suc at) + length xs) rest)

@@ -30,7 +30,8 @@ labels-in-requires : tie.Need-labels-in-requires
 labels-in-requires c κs = search needs
 
 returns-3 : tie.Need-returns-3
-returns-3 c = by-labels _ _ _ (c .before .before .before .before .before .form-of .ensures) (not-false _ (c .before .before .before .if1 .left)) _ (c .labels-in .ensures)
+returns-3 c =
+    by-labels _ _ _ (c .before .before .before .before .before .form-of .ensures) (not-false _ (c .before .before .before .if1 .left)) _ (c .labels-in .ensures)
 
 pub labels-for-spec : {M : Type 1} → statement M
 labels-for-spec =

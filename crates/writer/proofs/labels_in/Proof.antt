@@ -43,7 +43,13 @@ loop-less : tie.Need-loop-less Inv-loop μ-loop
 loop-less c = search needs
 
 loop-again : tie.Need-loop-again Inv-loop μ-loop
-loop-again c = (omega (arith, c .before .shared-slice-known .given (c .before .before .before .loop .i)), omega (arith, c .before .shared-slice-known .given (c .before .before .before .loop .i)), count-on _ _ (c .before .before .before .loop .i) (c .before .before .before .loop .inv .2) (omega arith) (c .if1 .left))
+loop-again c = (
+  omega (arith, c .before .shared-slice-known .given (c .before .before .before .loop .i)),
+  omega
+      (arith, c .before .shared-slice-known .given (c .before .before .before .loop .i)),
+  count-on _ _ (c .before .before .before .loop .i)
+      (c .before .before .before .loop .inv .2) (omega arith) (c .if1 .left),
+)
 
 returns-2 : tie.Need-returns-2 Inv-loop μ-loop
 returns-2 c = count-end _ _ (c .before .loop .i) (c .before .loop .inv .2) (omega arith)

@@ -1,67 +1,57 @@
-use Rattle.writer.proofs.Fitting.{not-named, no-room, no-pointer, no-slots, by-slots}
+use Rattle.writer.proofs.Fitting.{no-room, no-pointer, no-slots, by-slots}
 use native.Mathlib.Omega.{arith}
-use borrow.Author.Tests.{not-true, not-false}
 use borrow.Author.Needs.{needs}
 use Rattle.writer.proofs.name_fits.Statement.{statement}
 use Rattle.writer.proofs.name_fits.Tie as tie
 use Rattle.writer.proofs.name_fits.Reads as reads
 use Rattle.writer.proofs.name_fits.Lts as lts
 use Rattle.writer.proofs.labels_in.Reads as labels-in-reads
-use Rattle.wire.proofs.names.is_name.Reads as is-name-reads
-
-is-name-requires : tie.Need-is-name-requires
-is-name-requires c κs = search needs
 
 returns : tie.Need-returns
-returns c = not-named _ _ _ _ _ _ _ _ (c .before .is-name .ensures) (not-true _ (c .if1 .taken))
+returns c = no-room _ _ _ _ (omega arith)
 
 returns-2 : tie.Need-returns-2
-returns-2 c = no-room _ _ _ _ _ _ _ (omega arith)
+returns-2 c = no-room _ _ _ _ (omega arith)
+
+sub-if3 : tie.Need-sub-if3
+sub-if3 c = search needs
 
 returns-3 : tie.Need-returns-3
-returns-3 c = no-room _ _ _ _ _ _ _ (omega arith)
-
-sub-if4 : tie.Need-sub-if4
-sub-if4 c = search needs
+returns-3 c = no-room _ _ _ _ (omega arith)
 
 returns-4 : tie.Need-returns-4
-returns-4 c = no-room _ _ _ _ _ _ _ (omega arith)
+returns-4 c = no-pointer _ _ _ _ (omega arith)
 
 returns-5 : tie.Need-returns-5
-returns-5 c = no-pointer _ _ _ _ _ _ _ (omega arith)
-
-returns-6 : tie.Need-returns-6
-returns-6 c = no-pointer _ _ _ _ _ _ _ (omega arith)
+returns-5 c = no-pointer _ _ _ _ (omega arith)
 
 labels-in-requires : tie.Need-labels-in-requires
 labels-in-requires c κs = search needs
 
-returns-7 : tie.Need-returns-7
-returns-7 c = no-slots _ _ _ _ _ _ _ (omega arith)
+returns-6 : tie.Need-returns-6
+returns-6 c = no-slots _ _ _ _ (omega arith)
 
-returns-8 : tie.Need-returns-8
-returns-8 c = no-slots _ _ _ _ _ _ _ (omega (arith, c .before .before .labels-in .ensures))
+returns-7 : tie.Need-returns-7
+returns-7 c = no-slots _ _ _ _ (omega (arith, c .before .before .labels-in .ensures))
 
 sub-result : tie.Need-sub-result
 sub-result c = search needs
 
-returns-9 : tie.Need-returns-9
-returns-9 c = by-slots _ _ _ _ _ _ _ _ (c .before .before .before .before .before .before .before .before .before .is-name .ensures) (not-false _ (c .before .before .before .before .before .before .before .before .if1 .left)) (omega arith) (omega arith) _ (c .before .before .labels-in .ensures) (omega arith)
+returns-8 : tie.Need-returns-8
+returns-8 c = by-slots _ _ _ _ (omega arith) (omega arith) _ (c .before .before .labels-in .ensures) (omega arith)
 
 pub name-fits-spec : {M : Type 1} → statement M
 name-fits-spec =
     tie.close
     (tie.spec
-    is-name-requires
     returns
     returns-2
+    sub-if3
     returns-3
-    sub-if4
     returns-4
     returns-5
-    returns-6
     labels-in-requires
+    returns-6
     returns-7
-    returns-8
     sub-result
-    returns-9)
+    returns-8)

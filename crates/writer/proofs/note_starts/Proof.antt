@@ -37,7 +37,9 @@ mul-places : tie.Need-mul-places Inv-loop μ-loop
 mul-places c = search needs
 
 slice-write-places : tie.Need-slice-write-places Inv-loop μ-loop
-slice-write-places c = noted-room _ _ _ _ _ _ (c .before .before .before .loop .i) (c .before .before .before .loop .inv .1) (omega arith) (c .if1 .left) (c .before .before .before .before .pre .0)
+slice-write-places c =
+    noted-room _ _ _ _ _ _ (c .before .before .before .loop .i) (c .before .before .before .loop .inv .1) (omega arith) (c .if1 .left)
+    (c .before .before .before .before .pre .0)
 
 add-next : tie.Need-add-next Inv-loop μ-loop
 add-next c = search needs
@@ -52,7 +54,12 @@ loop-less : tie.Need-loop-less Inv-loop μ-loop
 loop-less c = search needs
 
 loop-again : tie.Need-loop-again Inv-loop μ-loop
-loop-again c = (omega (arith, c .before .shared-slice-known .given (c .before .before .before .loop .i)), noted-on _ _ _ _ _ _ (c .before .before .before .loop .i) (c .before .before .before .loop .inv .1) (omega arith) (c .if1 .left) (length-set (c .before .before .before .loop .places) (c .before .before .before .loop .next) _))
+loop-again c = (
+  omega (arith, c .before .shared-slice-known .given (c .before .before .before .loop .i)),
+  noted-on _ _ _ _ _ _ (c .before .before .before .loop .i)
+      (c .before .before .before .loop .inv .1) (omega arith) (c .if1 .left)
+      (length-set (c .before .before .before .loop .places) (c .before .before .before .loop .next) _),
+)
 
 same-length-2 : tie.Need-same-length-2 Inv-loop μ-loop
 same-length-2 c = search needs

@@ -1,16 +1,18 @@
--- A response and a probe: the header, the question, the records, and what the buffer then is. Assumes nothing.
+-- A packet in a style: the header, the question, the records, and what the buffer then is; a response and a probe. Assumes nothing.
 use mathlib.Core.Path.{_≡_, refl, sym, ap, ap₂, _∙_, subst}
 use mathlib.Core.List.{List, [], _∷_, _++_, map}
-use mathlib.Core.Bool.{Bool, true, false}
+use mathlib.Core.Bool.{Bool, true, false, cond}
 use Prim.Native.Nat.{ℕ, zero, suc, _+_, _-_, _<_, _≤_}
 use native.Mathlib.Omega.{arith}
 use borrow.Author.Tests.{le-leb, lt-ltb, le-ltb, eq-eqb, ne-eqb}
-use lib.ListN.{length, take, drop}
+use lib.ListN.{length, take, drop, take-append-drop, length-map}
 use lib.Seq.{sets, sets-eq, length-sets, length-take-le, drop-at, drop-drop}
 use lib.Dec.{eqb}
+use Rattle.wire.specs.names.Names.{isName}
+use Rattle.wire.specs.message.Message.{Question, Record}
 use Rattle.writer.specs.compression.Compression.{labelsIn}
 use Rattle.own.specs.declared.records.Setup.{Setup}
-use Rattle.claims.specs.records.Own.{recordAt, firstOf}
+use Rattle.claims.specs.records.Own.{records, recordAt, firstOf}
 use Rattle.claims.specs.declared.records.Claim.{Claim}
 use Rattle.claims.specs.declared.records.Own.{Own}
 use Rattle.claims.specs.declared.records.Set.{Set}
@@ -21,15 +23,18 @@ use Rattle.own.proofs.records.Valid.{Valid, valid, own-is-name}
 use Rattle.writer.specs.declared.Spot.{Spot}
 use Rattle.writer.specs.declared.Placed.{Placed}
 use Rattle.writer.specs.Items.{Writing, putQuestion, putRecord}
-use Rattle.writer.specs.Writer.{heldIn, questionOf, nameFits, questionFits, Placing, Grown}
+use Rattle.writer.specs.Writer.{heldIn, spotOf, roomIn, questionOf, nameFits, questionFits, Placing, Grown}
 use Rattle.writer.proofs.Use.{question-size, question-count, question-low, record-low, held-so}
 use Rattle.writer.specs.declared.own_packets.Picked.{Picked}
+use Rattle.writer.specs.declared.own_packets.Style.{Style}
 use Rattle.writer.specs.declared.own_packets.Written.{Written}
 use Rattle.writer.specs.declared.own_packets.Written.the-variants.{Sent, Nothing, Refused}
-use Rattle.writer.specs.own_packets.Packets.{headerBytes, putAll, packetOf}
-use Rattle.writer.specs.own_packets.Own.{refusalOf, lengthOf, ownRecord, responseRecords, probeRecords, responseOf, probeOf, noneIfEmpty, responsePacket, probePacket, refusal, unlessRefused, sentOf, writtenOf, laidOver}
-use Rattle.writer.specs.own_packets.Ready.{spotAfter, ListReady, listed, Picks}
-use Rattle.writer.proofs.own_packets.Owned.{own-front, placed-grown, own-names}
+use Rattle.writer.specs.own_packets.Packets.{headerBytes, header, putAll, packetOf}
+use Rattle.writer.specs.own_packets.Styles.{responseStyle, probeStyle, ownRecord, asked, styledMessage, packetIn}
+use Rattle.writer.specs.own_packets.Own.{refusalOf, lengthOf, responseRecords, probeRecords, noneIfEmpty, responsePacket, probePacket}
+use Rattle.writer.specs.own_packets.Own.{refusal, unlessRefused, sentOf, writtenOf, laidOver}
+use Rattle.writer.specs.own_packets.Ready.{spotAfter, each, ListReady, listed, Picks, askedSize, askedLabels, AskReady, PacketReady}
+use Rattle.writer.proofs.own_packets.Owned.{own-front, placed-grown, own-shaped}
 use Rattle.writer.proofs.own_packets.Room.{response-size, response-labels, probe-size, probe-labels, claim-size, claim-labels}
 
 -- the answer and the buffer
@@ -49,7 +54,8 @@ length-of zero [] = refl
 length-of zero (b ∷ bs) = refl
 length-of (suc n) packet = simp (ne-eqb (suc n) 0 (λ e. absurd (omega arith)))
 
-numbered : (n : ℕ) (packet o : List ℕ) (r : Written) (o′ : List ℕ) → r ≡ writtenOf n packet → o′ ≡ laidOver (unlessRefused n packet) o → Answered n packet o r o′
+numbered : (n : ℕ) (packet o : List ℕ) (r : Written) (o′ : List ℕ) → r ≡ writtenOf n packet → o′ ≡ laidOver (unlessRefused n packet) o → Answered n packet o r
+    o′
 numbered n packet o r o′ e f = (e, (f, (ap refusalOf e ∙ number-of n packet, ap lengthOf e ∙ length-of n packet)))
 
 refused : (n m : ℕ) (packet o : List ℕ) → n ≡ m → (m ≡ 0 → ⊥) → Answered n packet o (Refused m) o
@@ -61,7 +67,8 @@ sent-of : (packet : List ℕ) → 1 ≤ length packet → sentOf packet ≡ Sent
 sent-of [] h = absurd (omega arith)
 sent-of (b ∷ bs) h = refl
 
-sent : (n : ℕ) (packet o : List ℕ) (e : ℕ) (o′ : List ℕ) → n ≡ 0 → 1 ≤ length packet → e ≡ length packet → o′ ≡ packet ++ drop (length packet) o → Answered n packet o (Sent e) o′
+sent : (n : ℕ) (packet o : List ℕ) (e : ℕ) (o′ : List ℕ) → n ≡ 0 → 1 ≤ length packet → e ≡ length packet → o′ ≡ packet ++ drop (length packet) o → Answered n
+    packet o (Sent e) o′
 sent n packet o e o′ z h le w = let k : eqb n 0 ≡ true = eq-eqb n 0 z in numbered n packet o (Sent e) o′ (simp (k, sent-of packet h) (ap Sent le)) (simp k w)
 
 nothing : (n : ℕ) (packet o : List ℕ) → n ≡ 0 → packet ≡ [] → Answered n packet o Nothing o
@@ -75,28 +82,229 @@ laid-on v o o₀ o′ n w low k =
     w ∙ ap (λ (l : List ℕ). v ++ l) (ap (λ (q : ℕ). drop q o) t ∙ sym (drop-drop m n o) ∙ ap (drop m) k ∙ drop-drop m n o₀ ∙ ap (λ (q : ℕ). drop q o₀) (sym t))
 
 -- records are only added
-all-low : (s : Setup) (ok : Valid s) (probing : Bool) (w : Writing) (is : List Own) → length (w .bytes) ≤ length (putAll putRecord w (map (ownRecord s probing) is) .bytes)
+all-low : (s : Setup) (ok : Valid s) (style : Style) (w : Writing) (is : List Own)
+    → length (w .bytes) ≤ length (putAll (putRecord (style .whole)) w (map (ownRecord s style) is) .bytes)
 unfolding ownRecord
-all-low s ok probing w [] = omega arith
-all-low s ok probing w (i ∷ is) =
-    omega (arith, record-low w (ownRecord s probing i) (own-is-name s ok i) (own-names s ok i), all-low s ok probing (putRecord w (ownRecord s probing i)) is)
+all-low s ok style w [] = omega arith
+all-low s ok style w (i ∷ is) =
+    omega (
+      arith,
+      record-low (style .whole) w (ownRecord s style i) (own-is-name s ok i) (own-shaped s ok i),
+      all-low s ok style
+          (putRecord (style .whole) w (ownRecord s style i)) is,
+    )
 
-map-length : {A B : Type 0} (f : A → B) (l : List A) → length (map f l) ≡ length l
-map-length f [] = refl
-map-length f (x ∷ xs) = ap suc (map-length f xs)
+-- the question, if the style asks one
+module _ (style : Style) (name o pl : List ℕ) (ready : AskReady style name o pl) where
+  pub asked-not : style .asks ≡ false → Grown (putAll putQuestion (heldIn o pl 12 0) (asked style name)) o pl (spotOf 12 0) o pl
+  asked-not t =
+      subst (λ (b : Bool). Grown (putAll putQuestion (heldIn o pl 12 0) (cond b (questionOf name (style .qtype) (style .qclass) ∷ []) [])) o pl (spotOf 12 0) o
+      pl)
+      (sym t) none
+    where
+      long : length (take 12 o) ≡ 12
+      long = length-take-le 12 o (omega (arith, ready .room))
 
--- the packets as the code writes them
-response-bytes : (s : Setup) (chosen : Set)
-    → responsePacket s chosen
-    ≡ noneIfEmpty (responseRecords s chosen) (putAll putRecord (record { bytes = headerBytes 0 0x8400 0 (length (map (ownRecord s false) (responseRecords s chosen))) 0 0; places = [] }) (map (ownRecord s false) (responseRecords s chosen)) .bytes)
-unfolding responsePacket packetOf responseOf
-response-bytes s chosen = refl
+      none : Grown (heldIn o pl 12 0) o pl (spotOf 12 0) o pl
+      none = record {
+        bytes = sym (take-append-drop 12 o) ∙ ap (λ (k : ℕ). take 12 o ++ drop k o) (sym long);
+        places = refl;
+        ended = sym long;
+        counted = refl;
+      }
 
-probe-bytes : (s : Setup) (claim : Claim)
-    → probePacket s claim
-    ≡ putAll putRecord (putQuestion (record { bytes = headerBytes 0 0 1 0 (length (map (ownRecord s true) (probeRecords s claim))) 0; places = [] }) (questionOf (ownName s (firstOf claim)) 255 1)) (map (ownRecord s true) (probeRecords s claim)) .bytes
-unfolding probePacket packetOf probeOf
-probe-bytes s claim = refl
+  module _ (t : style .asks ≡ true) where
+    size : 12 + (length name + 4) ≤ length o
+    size = let e : askedSize style name ≡ length name + 4 = ap (λ (b : Bool). cond b (length name + 4) 0) t in omega (arith, ready .room)
+
+    labels : labelsIn name ≤ length pl
+    labels = let e : askedLabels style name ≡ labelsIn name = ap (λ (b : Bool). cond b (labelsIn name) 0) t in omega (arith, ready .slots)
+
+    few : length name + 4 ≤ 16372
+    few = let e : askedSize style name ≡ length name + 4 = ap (λ (b : Bool). cond b (length name + 4) 0) t in omega (arith, ready .small)
+
+    question-fits : questionFits (roomIn o pl 12 0) name ≡ true
+    unfolding nameFits
+    question-fits =
+        let a : 12 + length name + 4 ≤ length o = omega (arith, size) in
+        let b : 12 + length name ≤ 16384 = omega (arith, few) in
+        let c : 0 + labelsIn name + 0 ≤ length pl = omega (arith, labels) in
+        simp (le-leb _ _ a, le-leb _ _ b, le-leb _ _ c)
+
+    pub asked-grown : (placed : Placed) (o′ pl′ : List ℕ)
+        → Placing (isName name) (questionFits (roomIn o pl 12 0) name) (putQuestion (heldIn o pl 12 0) (questionOf name (style .qtype) (style .qclass))) o pl
+        placed o′ pl′
+        → (r : Spot) → r ≡ spotAfter placed 12 0 → Grown (putAll putQuestion (heldIn o pl 12 0) (asked style name)) o pl r o′ pl′
+    asked-grown placed o′ pl′ p r e =
+        subst (λ (b : Bool). Grown (putAll putQuestion (heldIn o pl 12 0) (cond b (questionOf name (style .qtype) (style .qclass) ∷ []) [])) o pl r o′ pl′)
+        (sym t) (placed-grown _ _ _ o pl placed o′ pl′ p (ready .named t) question-fits 12 0 r e)
+
+-- the header and the question take so much at most
+pub asked-size : (style : Style) (name : List ℕ) → (style .asks ≡ true → isName name ≡ true) → (w : Writing)
+    → (length (w .bytes) ≤ length (putAll putQuestion w (asked style name) .bytes))
+    × (length (putAll putQuestion w (asked style name) .bytes) ≤ length (w .bytes) + askedSize style name)
+    × (length (putAll putQuestion w (asked style name) .places) ≤ length (w .places) + askedLabels style name)
+asked-size style name named w = go (style .asks) refl
+  where
+    q : Question
+    q = questionOf name (style .qtype) (style .qclass)
+
+    go : (b : Bool) → style .asks ≡ b
+        → (length (w .bytes) ≤ length (putAll putQuestion w (cond b (q ∷ []) []) .bytes))
+        × (length (putAll putQuestion w (cond b (q ∷ []) []) .bytes) ≤ length (w .bytes) + cond b (length name + 4) 0)
+        × (length (putAll putQuestion w (cond b (q ∷ []) []) .places) ≤ length (w .places) + cond b (labelsIn name) 0)
+    go true t = (question-low w q, omega (arith, question-size w q (named t)), question-count w q)
+    go false t = (omega arith, omega arith, omega arith)
+
+-- the counts of the header
+count-asked : (b : Bool) (q : Question) → cond b 1 0 ≡ length (cond b (q ∷ []) [])
+count-asked true q = refl
+count-asked false q = refl
+
+count-answers : (b : Bool) (rs : List Record) (n : ℕ) → n ≡ length rs → cond b 0 n ≡ length (cond b [] rs)
+count-answers true rs n e = refl
+count-answers false rs n e = e
+
+count-authorities : (b : Bool) (rs : List Record) (n : ℕ) → n ≡ length rs → cond b n 0 ≡ length (cond b rs [])
+count-authorities true rs n e = e
+count-authorities false rs n e = refl
+
+-- records in one of two sections
+pub one-section : (b whole : Bool) (w : Writing) (rs : List Record)
+    → putAll (putRecord whole) (putAll (putRecord whole) w (cond b [] rs)) (cond b rs []) ≡ putAll (putRecord whole) w rs
+one-section true whole w rs = refl
+one-section false whole w rs = refl
+
+module _ (s : Setup) (style : Style) (name : List ℕ) (list : Picked) (o : List ℕ) (ready : PacketReady s style name (listed list) o)
+    (sized : (list .n ≤ records) × (length (list .order) ≡ records)) where
+  abbrev os : List Own
+  os = listed list
+
+  abbrev rs : List Record
+  rs = map (ownRecord s style) os
+
+  good : Valid s
+  good = valid s (ready .ok)
+
+  number : list .n ≡ length rs
+  number =
+      sym
+      (length-map os (ownRecord s style) ∙ length-map (take (list .n) (list .order)) recordAt
+      ∙ length-take-le (list .n) (list .order) (omega (arith, sized .0, sized .1)))
+
+  module _ (nq na nn : ℕ) (eq : nq ≡ cond (style .asks) 1 0) (ea : na ≡ cond (style .authority) 0 (list .n))
+      (en : nn ≡ cond (style .authority) (list .n) 0) where
+    abbrev H : List ℕ
+    H = headerBytes (style .id) (style .flags) nq na nn 0
+
+    abbrev w₀ : Writing
+    w₀ = record { bytes = H; places = [] }
+
+    header-is : w₀ ≡ header (styledMessage s style name os)
+    header-is =
+        let x : nq ≡ length (asked style name) = eq ∙ count-asked (style .asks) (questionOf name (style .qtype) (style .qclass)) in
+        let y : na ≡ length (cond (style .authority) [] rs) = ea ∙ count-answers (style .authority) rs (list .n) number in
+        let z : nn ≡ length (cond (style .authority) rs []) = en ∙ count-authorities (style .authority) rs (list .n) number in
+        λ i. record { bytes = headerBytes (style .id) (style .flags) (x i) (y i) (z i) 0; places = [] }
+
+    pub counts-small : (nq < 65536) × (na < 65536) × (nn < 65536)
+    counts-small = (go₁ (style .asks) eq, go₂ (style .authority) ea, go₃ (style .authority) en)
+      where
+        go₁ : (b : Bool) → nq ≡ cond b 1 0 → nq < 65536
+        go₁ true e = omega arith
+        go₁ false e = omega arith
+
+        go₂ : (b : Bool) → na ≡ cond b 0 (list .n) → na < 65536
+        go₂ true e = omega arith
+        go₂ false e = omega (arith, sized .0)
+
+        go₃ : (b : Bool) → nn ≡ cond b (list .n) 0 → nn < 65536
+        go₃ true e = omega (arith, sized .0)
+        go₃ false e = omega arith
+
+    -- the header
+    module _ (o₁ : List ℕ) (w₁ : o₁ ≡ sets o 0 H) (pl : List ℕ) (l32 : length pl ≡ 32) where
+      laid : o₁ ≡ H ++ drop 12 o
+      laid = w₁ ∙ sets-eq H o 0 (omega (arith, ready .room))
+
+      same : length o₁ ≡ length o
+      same = ap length w₁ ∙ length-sets o 0 H
+
+      behind : drop 12 o₁ ≡ drop 12 o
+      behind = ap (drop 12) laid
+
+      held : heldIn o₁ pl 12 0 ≡ w₀
+      held = let e : take 12 o₁ ≡ H = ap (take 12) laid in λ i. record { bytes = e i; places = [] }
+
+      pub ask-ready : AskReady style name o₁ pl
+      ask-ready = record {
+        named = ready .named;
+        room = omega (arith, ready .room, same);
+        small = omega (arith, ready .small);
+        slots = omega (arith, ready .slots);
+      }
+
+      -- the question
+      module _ (q : Spot) (o₂ pl₂ : List ℕ) (g : Grown (putAll putQuestion (heldIn o₁ pl 12 0) (asked style name)) o₁ pl q o₂ pl₂)
+          (lo : length o₂ ≡ length o₁) (lp : length pl₂ ≡ length pl) where
+        abbrev w₂ : Writing
+        w₂ = putAll putQuestion w₀ (asked style name)
+
+        first : Grown w₂ o₁ pl q o₂ pl₂
+        first = subst (λ (w : Writing). Grown (putAll putQuestion w (asked style name)) o₁ pl q o₂ pl₂) held g
+
+        sizes-are : (12 ≤ length (w₂ .bytes)) × (length (w₂ .bytes) ≤ 12 + askedSize style name) × (length (w₂ .places) ≤ askedLabels style name)
+        sizes-are =
+            let f = asked-size style name (ready .named) w₀ in
+            (omega (arith, f .0), omega (arith, f .1), omega (arith, f .2))
+
+        pub list-ready : ListReady s style os (q .end) (q .count) o₂ pl₂
+        list-ready = record {
+          ok = ready .ok;
+          counts = ready .counts;
+          room = omega (arith, first .ended, sizes-are .1, ready .room, same);
+          small = omega (arith, first .ended, sizes-are .1, ready .small);
+          slots = omega (arith, first .counted, sizes-are .2, ready .slots);
+        }
+
+        -- the records
+        module _ (r : Spot) (o₃ pl₃ : List ℕ) (k : Grown (putAll (putRecord (style .whole)) (heldIn o₂ pl₂ (q .end) (q .count)) rs) o₂ pl₂ r o₃ pl₃) where
+          abbrev w₃ : Writing
+          w₃ = putAll (putRecord (style .whole)) w₂ rs
+
+          last : Grown w₃ o₂ pl₂ r o₃ pl₃
+          last = subst (λ (w : Writing). Grown (putAll (putRecord (style .whole)) w rs) o₂ pl₂ r o₃ pl₃) (held-so w₂ o₁ pl q o₂ pl₂ first) k
+
+          packet : w₃ .bytes ≡ packetIn s style name os
+          unfolding packetOf
+          packet =
+              ap (λ (w : Writing). putAll (putRecord (style .whole)) (putAll putQuestion w (asked style name)) rs .bytes) header-is
+              ∙ ap (λ (w : Writing). w .bytes)
+              (sym (one-section (style .authority) (style .whole) (putAll putQuestion (header (styledMessage s style name os)) (asked style name)) rs))
+
+          low : length (w₂ .bytes) ≤ length (w₃ .bytes)
+          low = all-low s good style w₂ os
+
+          after : drop (length (w₂ .bytes)) o₂ ≡ drop (length (w₂ .bytes)) o
+          after =
+              ap (drop (length (w₂ .bytes))) (laid-on (w₂ .bytes) o₁ o o₂ 12 (first .bytes) (sizes-are .0) behind)
+              ∙ drop-at (w₂ .bytes) (drop (length (w₂ .bytes)) o) (length (w₂ .bytes)) refl
+
+          pub packet-written : (r .end ≡ length (packetIn s style name os)) × (o₃ ≡ laidOver (packetIn s style name os) o)
+          packet-written = (
+            last .ended ∙ ap length packet,
+            laid-on (w₃ .bytes) o₂ o o₃ (length (w₂ .bytes)) (last .bytes) low after ∙ ap (λ (l : List ℕ). laidOver l o) packet,
+          )
+
+-- the packet is longer than nothing
+packet-some : (s : Setup) (ok : Valid s) (style : Style) (name : List ℕ) (os : List Own) → (style .asks ≡ true → isName name ≡ true) → 1 ≤ length
+    (packetIn s style name os)
+unfolding packetOf
+packet-some s ok style name os named =
+    let w : Writing = putAll putQuestion (header (styledMessage s style name os)) (asked style name) in
+    let rs : List Record = map (ownRecord s style) os in
+    let e = one-section (style .authority) (style .whole) w rs in
+    omega (arith, ap (λ (x : Writing). length (x .bytes)) e, all-low s ok style w os, asked-size style name named (header (styledMessage s style name os)) .0)
 
 module _ (s : Setup) (o : List ℕ) where
   pub refuse-3 : (packet : List ℕ) → length o < 1452 → Answered (refusal s o) packet o (Refused 3) o
@@ -116,144 +324,74 @@ module _ (s : Setup) (o : List ℕ) where
       ok : Valid s
       ok = valid s (sym is ∙ t)
 
-      -- the header
-      module _ (flags nq na nn : ℕ) (o₁ : List ℕ) (w₁ : o₁ ≡ sets o 0 (headerBytes 0 flags nq na nn 0)) where
-        laid : o₁ ≡ headerBytes 0 flags nq na nn 0 ++ drop 12 o
-        laid = w₁ ∙ sets-eq (headerBytes 0 flags nq na nn 0) o 0 (omega arith)
-
-        same : length o₁ ≡ length o
-        same = ap length w₁ ∙ length-sets o 0 (headerBytes 0 flags nq na nn 0)
-
-        behind : drop 12 o₁ ≡ drop 12 o
-        behind = ap (drop 12) laid
-
-        held : (pl : List ℕ) → heldIn o₁ pl 12 0 ≡ record { bytes = headerBytes 0 flags nq na nn 0; places = [] }
-        held pl = let e : take 12 o₁ ≡ headerBytes 0 flags nq na nn 0 = ap (take 12) laid in λ i. record { bytes = e i; places = [] }
-
       module _ (chosen : Set) (list : Picked) (p : Picks (responseRecords s chosen) list) where
         pub empty-nothing : list .n ≡ 0 → Answered (refusal s o) (responsePacket s chosen) o Nothing o
         unfolding responsePacket
         empty-nothing z =
             let e : responseRecords s chosen ≡ [] = sym (p .those) ∙ ap (λ (k : ℕ). map recordAt (take k (list .order))) z in
-            nothing (refusal s o) (responsePacket s chosen) o accepted (ap (λ (l : List Own). noneIfEmpty l (packetOf (responseOf s chosen))) e)
+            nothing (refusal s o) (responsePacket s chosen) o accepted
+            (ap (λ (l : List Own). noneIfEmpty l (packetIn s responseStyle [] (responseRecords s chosen))) e)
 
-        module _ (o₁ : List ℕ) (w₁ : o₁ ≡ sets o 0 (headerBytes 0 0x8400 0 (list .n) 0 0)) (pl : List ℕ) (l32 : length pl ≡ 32) where
-          pub response-ready : ListReady s (listed list) 12 0 o₁ pl
-          response-ready = rw (p .those) (record {
-            ok = sym is ∙ t;
-            room = omega (arith, response-size s ok chosen, same 0x8400 0 (list .n) 0 o₁ w₁);
-            small = omega (arith, response-size s ok chosen);
-            slots = omega (arith, response-labels s ok chosen);
-          })
+        pub response-ready : (style : Style) → style ≡ responseStyle → PacketReady s style [] (listed list) o
+        response-ready style e = rw (e, p .those) (record {
+          ok = sym is ∙ t;
+          named = λ f. let z : _≡_ {A = ℕ} 0 1 = cc in absurd (omega arith);
+          counts = each;
+          room = omega (arith, response-size s ok chosen);
+          small = omega (arith, response-size s ok chosen);
+          slots = omega (arith, response-labels s ok chosen);
+        })
 
-          module _ (nz : list .n ≡ 0 → ⊥) (r : Spot) (o₂ pl₂ : List ℕ)
-              (g : Grown (putAll putRecord (heldIn o₁ pl 12 0) (map (ownRecord s false) (listed list))) o₁ pl r o₂ pl₂)
-            where
-              pub response-sent : Answered (refusal s o) (responsePacket s chosen) o (Sent (r .end)) o₂
-              response-sent =
-                  sent (refusal s o) (responsePacket s chosen) o (r .end) o₂ accepted (omega (arith, low, ap length packet)) (g′ .ended ∙ ap length (sym packet))
-                  (laid-on (sum .bytes) o₁ o o₂ 12 (g′ .bytes) low (behind 0x8400 0 (list .n) 0 o₁ w₁) ∙ ap (λ (l : List ℕ). l ++ drop (length l) o) (sym packet))
-                where
-                  is′ : List Own
-                  is′ = responseRecords s chosen
+        pub response-sent : (list .n ≡ 0 → ⊥) → (style : Style) → style ≡ responseStyle → (n : ℕ) (o₁ : List ℕ) → n ≡ length (packetIn s style [] (listed list))
+            → o₁ ≡ laidOver (packetIn s style [] (listed list)) o → Answered (refusal s o) (responsePacket s chosen) o (Sent n) o₁
+        unfolding responsePacket
+        response-sent nz style e n o₁ en w =
+            sent (refusal s o) (responsePacket s chosen) o n o₁ accepted
+            (omega (
+              arith,
+              ap length packet,
+              packet-some s ok responseStyle [] (responseRecords s chosen)
+                  (λ f. let z : _≡_ {A = ℕ} 0 1 = cc in absurd (omega arith)),
+            ))
+            (en ∙ ap length (as-listed ∙ sym packet)) (w ∙ ap (λ (l : List ℕ). laidOver l o) (as-listed ∙ sym packet))
+          where
+            as-listed : packetIn s style [] (listed list) ≡ packetIn s responseStyle [] (responseRecords s chosen)
+            as-listed = ap₂ (λ (x : Style) (l : List Own). packetIn s x [] l) e (p .those)
 
-                  sum : Writing
-                  sum = putAll putRecord (record { bytes = headerBytes 0 0x8400 0 (list .n) 0 0; places = [] }) (map (ownRecord s false) is′)
+            some : (l : List Own) → (length l ≡ 0 → ⊥) → (b : List ℕ) → noneIfEmpty l b ≡ b
+            some [] z b = absurd (z refl)
+            some (x ∷ xs) z b = refl
 
-                  e : putAll putRecord (heldIn o₁ pl 12 0) (map (ownRecord s false) (listed list)) ≡ sum
-                  e = ap₂ (λ (w : Writing) (l : List Own). putAll putRecord w (map (ownRecord s false) l)) (held 0x8400 0 (list .n) 0 o₁ w₁ pl) (p .those)
+            many : length (responseRecords s chosen) ≡ list .n
+            many =
+                ap length (sym (p .those)) ∙ length-map (take (list .n) (list .order)) recordAt
+                ∙ length-take-le (list .n) (list .order) (omega (arith, p .few, p .sized))
 
-                  g′ : Grown sum o₁ pl r o₂ pl₂
-                  g′ = subst (λ (w : Writing). Grown w o₁ pl r o₂ pl₂) e g
+            packet : responsePacket s chosen ≡ packetIn s responseStyle [] (responseRecords s chosen)
+            packet = some (responseRecords s chosen) (λ z. nz (sym many ∙ z)) _
 
-                  low : 12 ≤ length (sum .bytes)
-                  low = all-low s ok false (record { bytes = headerBytes 0 0x8400 0 (list .n) 0 0; places = [] }) is′
+      module _ (claim : Claim) (list : Picked) (p : Picks (probeRecords s claim) list) (k : Own) (ek : k ≡ firstOf claim) (n : OwnBytes)
+          (en : n ≡ ownOf (ownName s k)) where
+        name-is : take (n .len) (n .bytes) ≡ ownName s (firstOf claim)
+        name-is = own-front (ownName s k) n en ∙ ap (ownName s) ek
 
-                  number : length is′ ≡ list .n
-                  number = ap length (sym (p .those)) ∙ map-length recordAt (take (list .n) (list .order)) ∙ length-take-le (list .n) (list .order) (omega (arith, p .few, p .sized))
+        pub probe-ready : (style : Style) → style ≡ probeStyle → PacketReady s style (take (n .len) (n .bytes)) (listed list) o
+        probe-ready style e = rw (e, name-is, p .those) (record {
+          ok = sym is ∙ t;
+          named = λ f. own-is-name s ok (firstOf claim);
+          counts = each;
+          room = omega (arith, claim-size s ok claim, probe-size s ok claim);
+          small = omega (arith, claim-size s ok claim, probe-size s ok claim);
+          slots = omega (arith, claim-labels s ok claim, probe-labels s ok claim);
+        })
 
-                  some : (l : List Own) → (length l ≡ 0 → ⊥) → (b : List ℕ) → noneIfEmpty l b ≡ b
-                  some [] z b = absurd (z refl)
-                  some (x ∷ xs) z b = refl
-
-                  packet : responsePacket s chosen ≡ sum .bytes
-                  packet = response-bytes s chosen ∙ some is′ (λ z. nz (sym number ∙ z)) _ ∙ ap (λ (k : ℕ). putAll putRecord (record { bytes = headerBytes 0 0x8400 0 k 0 0; places = [] }) (map (ownRecord s false) is′) .bytes) (map-length (ownRecord s false) is′ ∙ number)
-
-      module _ (claim : Claim) (list : Picked) (p : Picks (probeRecords s claim) list) (k : Own) (ek : k ≡ firstOf claim) (n : OwnBytes) (en : n ≡ ownOf (ownName s k)) (o₁ : List ℕ)
-          (w₁ : o₁ ≡ sets o 0 (headerBytes 0 0 1 0 (list .n) 0)) (pl : List ℕ) (l32 : length pl ≡ 32)
-        where
-          name-is : take (n .len) (n .bytes) ≡ ownName s (firstOf claim)
-          name-is = own-front (ownName s k) n en ∙ ap (ownName s) ek
-
-          question-fits : questionFits 12 0 (take (n .len) (n .bytes)) (length o₁) (length pl) ≡ true
-          unfolding nameFits
-          question-fits =
-              let a : 12 + length (ownName s (firstOf claim)) + 4 ≤ length o₁ = omega (arith, claim-size s ok claim, same 0 1 0 (list .n) o₁ w₁) in
-              let b : 12 + length (ownName s (firstOf claim)) ≤ 16384 = omega (arith, claim-size s ok claim) in
-              let c : 0 + labelsIn (ownName s (firstOf claim)) + 0 ≤ length pl = omega (arith, claim-labels s ok claim) in
-              ap (λ (l : List ℕ). nameFits 12 0 l 4 0 (length o₁) (length pl)) name-is ∙ simp (own-is-name s ok (firstOf claim), le-leb _ _ a, le-leb _ _ b, le-leb _ _ c)
-
-          module _ (placed : Placed) (o₂ pl₂ : List ℕ)
-              (pq : Placing (questionFits 12 0 (take (n .len) (n .bytes)) (length o₁) (length pl)) (putQuestion (heldIn o₁ pl 12 0) (questionOf (take (n .len) (n .bytes)) 255 1)) o₁ pl placed o₂ pl₂) (q : Spot)
-              (eq : q ≡ spotAfter placed 12 0) (lo : length o₂ ≡ length o₁) (lp : length pl₂ ≡ length pl)
-            where
-              abbrev vq : Writing
-              vq = putQuestion (record { bytes = headerBytes 0 0 1 0 (list .n) 0; places = [] }) (questionOf (ownName s (firstOf claim)) 255 1)
-
-              first : Grown vq o₁ pl q o₂ pl₂
-              first =
-                  subst (λ (w : Writing). Grown w o₁ pl q o₂ pl₂)
-                  (ap₂ (λ (w : Writing) (l : List ℕ). putQuestion w (questionOf l 255 1)) (held 0 1 0 (list .n) o₁ w₁ pl) name-is) (placed-grown _ _ o₁ pl placed o₂ pl₂ pq question-fits 12 0 q eq)
-
-              first-size : length (vq .bytes) ≤ 109
-              first-size =
-                  omega (arith, question-size (record { bytes = headerBytes 0 0 1 0 (list .n) 0; places = [] }) (questionOf (ownName s (firstOf claim)) 255 1) (own-is-name s ok (firstOf claim)), claim-size s ok claim)
-
-              first-count : length (vq .places) ≤ 4
-              first-count =
-                  omega (arith, question-count (record { bytes = headerBytes 0 0 1 0 (list .n) 0; places = [] }) (questionOf (ownName s (firstOf claim)) 255 1), claim-labels s ok claim)
-
-              first-low : 12 ≤ length (vq .bytes)
-              first-low = question-low (record { bytes = headerBytes 0 0 1 0 (list .n) 0; places = [] }) (questionOf (ownName s (firstOf claim)) 255 1)
-
-              pub probe-ready : ListReady s (listed list) (q .end) (q .count) o₂ pl₂
-              probe-ready = rw (p .those) (record {
-                ok = sym is ∙ t;
-                room = omega (arith, first .ended, first-size, probe-size s ok claim, same 0 1 0 (list .n) o₁ w₁);
-                small = omega (arith, first .ended, first-size, probe-size s ok claim);
-                slots = omega (arith, first .counted, first-count, probe-labels s ok claim);
-              })
-
-              module _ (r : Spot) (o₃ pl₃ : List ℕ) (g : Grown (putAll putRecord (heldIn o₂ pl₂ (q .end) (q .count)) (map (ownRecord s true) (listed list))) o₂ pl₂ r o₃ pl₃) where
-                pub probe-sent : Answered (refusal s o) (probePacket s claim) o (Sent (r .end)) o₃
-                probe-sent =
-                    sent (refusal s o) (probePacket s claim) o (r .end) o₃ accepted (omega (arith, low, first-low, ap length packet)) (g′ .ended ∙ ap length (sym packet))
-                    (laid-on (sum .bytes) o₂ o o₃ (length (vq .bytes)) (g′ .bytes) low after ∙ ap (λ (l : List ℕ). l ++ drop (length l) o) (sym packet))
-                  where
-                    is′ : List Own
-                    is′ = probeRecords s claim
-
-                    sum : Writing
-                    sum = putAll putRecord vq (map (ownRecord s true) is′)
-
-                    e : putAll putRecord (heldIn o₂ pl₂ (q .end) (q .count)) (map (ownRecord s true) (listed list)) ≡ sum
-                    e = ap₂ (λ (w : Writing) (l : List Own). putAll putRecord w (map (ownRecord s true) l)) (held-so vq o₁ pl q o₂ pl₂ first) (p .those)
-
-                    g′ : Grown sum o₂ pl₂ r o₃ pl₃
-                    g′ = subst (λ (w : Writing). Grown w o₂ pl₂ r o₃ pl₃) e g
-
-                    low : length (vq .bytes) ≤ length (sum .bytes)
-                    low = all-low s ok true vq is′
-
-                    after : drop (length (vq .bytes)) o₂ ≡ drop (length (vq .bytes)) o
-                    after =
-                        ap (drop (length (vq .bytes))) (laid-on (vq .bytes) o₁ o o₂ 12 (first .bytes) first-low (behind 0 1 0 (list .n) o₁ w₁))
-                        ∙ drop-at (vq .bytes) (drop (length (vq .bytes)) o) (length (vq .bytes)) refl
-
-                    number : length is′ ≡ list .n
-                    number = ap length (sym (p .those)) ∙ map-length recordAt (take (list .n) (list .order)) ∙ length-take-le (list .n) (list .order) (omega (arith, p .few, p .sized))
-
-                    packet : probePacket s claim ≡ sum .bytes
-                    packet =
-                        probe-bytes s claim
-                        ∙ ap (λ (m : ℕ). putAll putRecord (putQuestion (record { bytes = headerBytes 0 0 1 0 m 0; places = [] }) (questionOf (ownName s (firstOf claim)) 255 1)) (map (ownRecord s true) is′) .bytes) (map-length (ownRecord s true) is′ ∙ number)
+        pub probe-sent : (style : Style) → style ≡ probeStyle → (m : ℕ) (o₁ : List ℕ) → m ≡ length (packetIn s style (take (n .len) (n .bytes)) (listed list))
+            → o₁ ≡ laidOver (packetIn s style (take (n .len) (n .bytes)) (listed list)) o → Answered (refusal s o) (probePacket s claim) o (Sent m) o₁
+        unfolding probePacket
+        probe-sent style e m o₁ em w =
+            sent (refusal s o) (probePacket s claim) o m o₁ accepted
+            (packet-some s ok probeStyle (ownName s (firstOf claim)) (probeRecords s claim) (λ f. own-is-name s ok (firstOf claim))) (em ∙ ap length packet)
+            (w ∙ ap (λ (l : List ℕ). laidOver l o) packet)
+          where
+            packet : packetIn s style (take (n .len) (n .bytes)) (listed list) ≡ packetIn s probeStyle (ownName s (firstOf claim)) (probeRecords s claim)
+            packet = λ i. packetIn s (e i) (name-is i) (p .those i)

@@ -43,17 +43,20 @@ module _ (s : Setup) (chosen : Set) (order : List ℕ) (n i : ℕ) (p : Picking 
   picked-all h = record {
     few = omega (arith, p .low, p .high);
     those =
-        sym (p .so ∙ ap (λ (l : List Own). map recordAt (take n order) ++ picked (wanted s chosen) l) (drop-of-length-le all h) ∙ append-nil (map recordAt (take n order)));
+        sym (p .so ∙ ap (λ (l : List Own). map recordAt (take n order) ++ picked (wanted s chosen) l) (drop-of-length-le all h) ∙ append-nil
+        (map recordAt (take n order)));
     sized = p .sized;
   }
 
   module _ (h : i < records) (o : Own) (eo : o ≡ recordAt i) where
     front : (b : Bool) → wanted s chosen o ≡ b
-        → picked (wanted s chosen) (drop i all) ≡ cond b (recordAt i ∷ picked (wanted s chosen) (drop (i + 1) all)) (picked (wanted s chosen) (drop (i + 1) all))
+        → picked (wanted s chosen) (drop i all) ≡ cond b (recordAt i ∷ picked (wanted s chosen) (drop (i + 1) all))
+        (picked (wanted s chosen) (drop (i + 1) all))
     unfolding picked recordAt
     front b e =
         ap (picked (wanted s chosen)) (rest all i Ptr h)
-        ∙ ap (λ (c : Bool). cond c (recordAt i ∷ picked (wanted s chosen) (drop (i + 1) all)) (picked (wanted s chosen) (drop (i + 1) all))) (ap (wanted s chosen) (sym eo) ∙ e)
+        ∙ ap (λ (c : Bool). cond c (recordAt i ∷ picked (wanted s chosen) (drop (i + 1) all)) (picked (wanted s chosen) (drop (i + 1) all)))
+        (ap (wanted s chosen) (sym eo) ∙ e)
 
     pub picked-not : wanted s chosen o ≡ false → Picking s chosen order n (i + 1)
     picked-not e = record {
@@ -75,12 +78,15 @@ module _ (s : Setup) (chosen : Set) (order : List ℕ) (n i : ℕ) (p : Picking 
         let lt : n < length order = omega (arith, p .low, p .sized) in
         let f : take (n + 1) (set order n i) ≡ take n order ++ (i ∷ []) = ap (λ (k : ℕ). take k (set order n i)) (add-one n) ∙ take-suc-set order n i lt in
         let more : List Own = picked (wanted s chosen) (drop (i + 1) all) in
-        let g : map recordAt (take (n + 1) (set order n i)) ≡ map recordAt (take n order) ++ (recordAt i ∷ []) = ap (map recordAt) f ∙ map-append recordAt (take n order) (i ∷ []) in
+        let g : map recordAt (take (n + 1) (set order n i)) ≡ map recordAt (take n order) ++ (recordAt i ∷ []) = ap (map recordAt) f ∙ map-append recordAt
+        (take n order) (i ∷ []) in
         record {
           low = omega (arith, p .low);
           high = omega arith;
           sized = length-set order n i ∙ p .sized;
-          so = p .so ∙ ap (λ (l : List Own). map recordAt (take n order) ++ l) (front true w) ∙ sym (append-assoc (map recordAt (take n order)) (recordAt i ∷ []) more) ∙ ap (λ (l : List Own). l ++ more) (sym g);
+          so =
+              p .so ∙ ap (λ (l : List Own). map recordAt (take n order) ++ l) (front true w) ∙ sym
+              (append-assoc (map recordAt (take n order)) (recordAt i ∷ []) more) ∙ ap (λ (l : List Own). l ++ more) (sym g);
         }
 
 -- a claim's records
@@ -89,7 +95,8 @@ unfolding hasRecord
 first-there s Instance = refl
 first-there s Host = refl
 
-module _ (s : Setup) (claim : Claim) (first second : Own) (ef : first ≡ firstOf claim) (es : second ≡ secondOf claim) (i j : ℕ) (ei : i ≡ indexOf first) (ej : j ≡ indexOf second) (v : Bool) (ev : v ≡ hasRecord s second) where
+module _ (s : Setup) (claim : Claim) (first second : Own) (ef : first ≡ firstOf claim) (es : second ≡ secondOf claim) (i j : ℕ) (ei : i ≡ indexOf first)
+    (ej : j ≡ indexOf second) (v : Bool) (ev : v ≡ hasRecord s second) where
   chosen : (b : Bool) → v ≡ b → probeRecords s claim ≡ cond b (first ∷ second ∷ []) (first ∷ [])
   unfolding probeRecords picked
   chosen true t = simp (first-there s claim, ← es, ← ev, t, ef)

@@ -63,6 +63,13 @@ module _ (s : Setup) (ok : Valid s) where
   unfolding ownName ownLabels ownRdata
   aaaa-size = omega (arith, host-most s ok, ok .sixteen)
 
+  pub own-size : (o : Own) → sizeOf s o ≤ 503
+  own-size Ptr = omega (arith, ptr-size)
+  own-size Srv = omega (arith, srv-size)
+  own-size Txt = txt-size
+  own-size A = omega (arith, a-size)
+  own-size Aaaa = omega (arith, aaaa-size)
+
   instance-labels : labelsIn (encode (instanceLabels s)) ≡ 4
   unfolding instanceLabels serviceLabels
   instance-labels = labels-in 0 (instance-name s ok .labels)
@@ -102,7 +109,8 @@ module _ (s : Setup) (ok : Valid s) where
 
   pub response-labels : (chosen : Set) → labelCounts s (responseRecords s chosen) ≤ 21
   unfolding responseRecords labelCounts
-  response-labels chosen = omega (arith, labels-picked s (λ (o : Own). has o chosen && hasRecord s o) all, ptr-labels, srv-labels, txt-labels, a-labels, aaaa-labels)
+  response-labels chosen =
+      omega (arith, labels-picked s (λ (o : Own). has o chosen && hasRecord s o) all, ptr-labels, srv-labels, txt-labels, a-labels, aaaa-labels)
 
   pub probe-size : (claim : Claim) → sizes s (probeRecords s claim) ≤ 683
   unfolding probeRecords sizes

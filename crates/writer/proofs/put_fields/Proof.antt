@@ -44,7 +44,13 @@ same-length : tie.Need-same-length
 same-length c = search needs
 
 returns : tie.Need-returns
-returns c = five (c .before .before .before .before .before .before .before .before .before .before .before .before .before .before .before .before .before .before .before .before .before .args .out .now) (c .before .before .before .before .before .before .before .before .before .before .before .before .before .before .before .before .before .before .before .before .before .args .at) (c .before .before .before .before .before .before .before .before .before .before .before .before .before .before .before .before .before .before .before .before .before .args .rtype) (c .before .before .before .before .before .before .before .before .before .before .before .before .before .before .before .before .before .before .before .before .before .args .class) (c .before .before .before .before .before .before .before .before .before .before .before .before .before .before .before .before .before .before .before .before .before .args .ttl / 65536) (c .before .before .before .before .before .before .before .before .before .before .before .before .before .before .before .before .before .before .before .before .before .args .ttl % 65536) (c .before .before .before .before .before .before .before .before .before .before .before .before .before .before .before .before .before .before .before .before .before .args .len) _ _ _ _ _ (c .before .before .before .before .before .before .before .before .before .before .before .before .before .before .before .before .before .before .put-u16 .ensures) (c .before .before .before .before .before .before .before .before .before .before .before .before .before .before .put-u162 .ensures) (c .before .before .before .before .before .before .before .before .before .before .put-u163 .ensures) (c .before .before .before .before .before .before .put-u164 .ensures) (c .before .before .put-u165 .ensures)
+returns c =
+    let ten = c .before .before .before .before .before .before .before .before .before .before in
+    let twenty = ten .before .before .before .before .before .before .before .before .before .before in
+    five (twenty .before .args .out .now) (twenty .before .args .at) (twenty .before .args .rtype) (twenty .before .args .class)
+    (twenty .before .args .ttl / 65536) (twenty .before .args .ttl % 65536) (twenty .before .args .len) _ _ _ _ _
+    (ten .before .before .before .before .before .before .before .before .put-u16 .ensures) (ten .before .before .before .before .put-u162 .ensures)
+    (ten .put-u163 .ensures) (c .before .before .before .before .before .before .put-u164 .ensures) (c .before .before .put-u165 .ensures)
 
 pub put-fields-spec : {M : Type 1} → statement M
 put-fields-spec =

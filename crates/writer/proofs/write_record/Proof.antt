@@ -12,21 +12,60 @@ use Rattle.writer.proofs.write_record.Lts as lts
 use Rattle.writer.proofs.put_data.Reads as put-data-reads
 use Rattle.writer.proofs.put_fields.Reads as put-fields-reads
 use Rattle.writer.proofs.put_name.Reads as put-name-reads
+use Rattle.writer.proofs.tried_for.Reads as tried-for-reads
 
 put-name-requires : tie.Need-put-name-requires
-put-name-requires c κs = name-ready (c .before .before .before .before .before .before .args .at) (c .before .before .before .before .before .before .args .count) (c .before .before .before .before .before .before .args .owner .now) (10 + length (c .before .before .before .before .before .before .args .d .now)) (labelsFor (c .before .before .before .before .before .before .args .rtype) (c .before .before .before .before .before .before .args .d .now)) (c .before .before .before .before .before .before .args .out .now) (c .before .before .before .before .before .before .args .places .now) ((record-room (c .before .before .before .before .before .before .args .at) (c .before .before .before .before .before .before .args .count) (c .before .before .before .before .before .before .args .owner .now) (c .before .before .before .before .before .before .args .rtype) (c .before .before .before .before .before .before .args .d .now) (c .before .before .before .before .before .before .args .out .now) (c .before .before .before .before .before .before .args .places .now) (c .before .before .before .before .before .before .pre)) .front)
+put-name-requires c κs =
+    let a = c .before .before .before .before .before .before .args in
+    let room = record-room (a .at) (a .count) (a .owner .now) (a .rtype) (a .ttl) (a .d .now) (a .out .now) (a .places .now)
+    (c .before .before .before .before .before .before .pre) in
+    name-ready (a .at) (a .count) (a .owner .now) (10 + length (a .d .now)) (labelsFor (a .rtype) (a .d .now)) (a .out .now) (a .places .now) (room .front)
 
 add-body : tie.Need-add-body
-add-body c = omega (arith, first-room (c .before .before .before .before .before .before .before .before .before .before .before .args .at) (c .before .before .before .before .before .before .before .before .before .before .before .args .count) (c .before .before .before .before .before .before .before .before .before .before .before .args .owner .now) (10 + length (c .before .before .before .before .before .before .before .before .before .before .before .args .d .now)) (labelsFor (c .before .before .before .before .before .before .before .before .before .before .before .args .rtype) (c .before .before .before .before .before .before .before .before .before .before .before .args .d .now)) (c .before .before .before .before .before .before .before .before .before .before .before .args .out .now) (c .before .before .before .before .before .before .before .before .before .before .before .args .places .now) ((record-room (c .before .before .before .before .before .before .before .before .before .before .before .args .at) (c .before .before .before .before .before .before .before .before .before .before .before .args .count) (c .before .before .before .before .before .before .before .before .before .before .before .args .owner .now) (c .before .before .before .before .before .before .before .before .before .before .before .args .rtype) (c .before .before .before .before .before .before .before .before .before .before .before .args .d .now) (c .before .before .before .before .before .before .before .before .before .before .before .args .out .now) (c .before .before .before .before .before .before .before .before .before .before .before .args .places .now) (c .before .before .before .before .before .before .before .before .before .before .before .pre)) .front) (c .before .before .before .before .put-name .result) _ _ (c .before .before .before .before .put-name .ensures))
+add-body c =
+    let ten = c .before .before .before .before .before .before .before .before .before .before in
+    let a = ten .before .args in
+    let room = record-room (a .at) (a .count) (a .owner .now) (a .rtype) (a .ttl) (a .d .now) (a .out .now) (a .places .now) (ten .before .pre) in
+    omega (
+      arith,
+      first-room (a .at) (a .count) (a .owner .now) (10 + length (a .d .now)) (labelsFor (a .rtype) (a .d .now)) (a .out .now) (a .places .now)
+          (room .front) (c .before .before .before .before .put-name .result) _ _ (c .before .before .before .before .put-name .ensures),
+    )
+
+tried-for-requires : tie.Need-tried-for-requires
+tried-for-requires c κs = search needs
 
 put-data-requires : tie.Need-put-data-requires
-put-data-requires c κs = data-ready (c .before .before .before .before .before .before .before .before .before .before .before .before .before .args .at) (c .before .before .before .before .before .before .before .before .before .before .before .before .before .args .count) (c .before .before .before .before .before .before .before .before .before .before .before .before .before .args .owner .now) (10 + length (c .before .before .before .before .before .before .before .before .before .before .before .before .before .args .d .now)) (labelsFor (c .before .before .before .before .before .before .before .before .before .before .before .before .before .args .rtype) (c .before .before .before .before .before .before .before .before .before .before .before .before .before .args .d .now)) (c .before .before .before .before .before .before .before .before .before .before .before .before .before .args .out .now) (c .before .before .before .before .before .before .before .before .before .before .before .before .before .args .places .now) ((record-room (c .before .before .before .before .before .before .before .before .before .before .before .before .before .args .at) (c .before .before .before .before .before .before .before .before .before .before .before .before .before .args .count) (c .before .before .before .before .before .before .before .before .before .before .before .before .before .args .owner .now) (c .before .before .before .before .before .before .before .before .before .before .before .before .before .args .rtype) (c .before .before .before .before .before .before .before .before .before .before .before .before .before .args .d .now) (c .before .before .before .before .before .before .before .before .before .before .before .before .before .args .out .now) (c .before .before .before .before .before .before .before .before .before .before .before .before .before .args .places .now) (c .before .before .before .before .before .before .before .before .before .before .before .before .before .pre)) .front) (c .before .before .before .before .before .before .put-name .result) _ _ (c .before .before .before .before .before .before .put-name .ensures) (c .before .before .before .before .before .before .before .before .before .before .before .before .before .args .rtype) (c .before .before .before .before .before .before .before .before .before .before .before .before .before .args .d .now) ((record-room (c .before .before .before .before .before .before .before .before .before .before .before .before .before .args .at) (c .before .before .before .before .before .before .before .before .before .before .before .before .before .args .count) (c .before .before .before .before .before .before .before .before .before .before .before .before .before .args .owner .now) (c .before .before .before .before .before .before .before .before .before .before .before .before .before .args .rtype) (c .before .before .before .before .before .before .before .before .before .before .before .before .before .args .d .now) (c .before .before .before .before .before .before .before .before .before .before .before .before .before .args .out .now) (c .before .before .before .before .before .before .before .before .before .before .before .before .before .args .places .now) (c .before .before .before .before .before .before .before .before .before .before .before .before .before .pre)) .names) ((record-room (c .before .before .before .before .before .before .before .before .before .before .before .before .before .args .at) (c .before .before .before .before .before .before .before .before .before .before .before .before .before .args .count) (c .before .before .before .before .before .before .before .before .before .before .before .before .before .args .owner .now) (c .before .before .before .before .before .before .before .before .before .before .before .before .before .args .rtype) (c .before .before .before .before .before .before .before .before .before .before .before .before .before .args .d .now) (c .before .before .before .before .before .before .before .before .before .before .before .before .before .args .out .now) (c .before .before .before .before .before .before .before .before .before .before .before .before .before .args .places .now) (c .before .before .before .before .before .before .before .before .before .before .before .before .before .pre)) .short) refl refl
+put-data-requires c κs =
+    let ten = c .before .before .before .before .before .before .before .before .before .before in
+    let a = ten .before .before .before .before .args in
+    let room = record-room (a .at) (a .count) (a .owner .now) (a .rtype) (a .ttl) (a .d .now) (a .out .now) (a .places .now)
+    (ten .before .before .before .before .pre) in
+    data-ready (a .at) (a .count) (a .owner .now) (10 + length (a .d .now)) (labelsFor (a .rtype) (a .d .now)) (a .out .now) (a .places .now) (room .front)
+    (c .before .before .before .before .before .before .before .put-name .result) _ _
+    (c .before .before .before .before .before .before .before .put-name .ensures) (a .rtype) (a .d .now) (room .shaped) (room .short) refl refl (a .whole) _
+    (c .before .before .tried-for .ensures)
 
 sub-put-fields : tie.Need-sub-put-fields
 sub-put-fields c = search needs
 
 put-fields-requires : tie.Need-put-fields-requires
-put-fields-requires c κs = (fields-room (c .before .before .before .before .before .before .before .before .before .before .before .before .before .before .before .before .before .before .before .args .at) (c .before .before .before .before .before .before .before .before .before .before .before .before .before .before .before .before .before .before .before .args .count) (c .before .before .before .before .before .before .before .before .before .before .before .before .before .before .before .before .before .before .before .args .owner .now) (10 + length (c .before .before .before .before .before .before .before .before .before .before .before .before .before .before .before .before .before .before .before .args .d .now)) (labelsFor (c .before .before .before .before .before .before .before .before .before .before .before .before .before .before .before .before .before .before .before .args .rtype) (c .before .before .before .before .before .before .before .before .before .before .before .before .before .before .before .before .before .before .before .args .d .now)) (c .before .before .before .before .before .before .before .before .before .before .before .before .before .before .before .before .before .before .before .args .out .now) (c .before .before .before .before .before .before .before .before .before .before .before .before .before .before .before .before .before .before .before .args .places .now) ((record-room (c .before .before .before .before .before .before .before .before .before .before .before .before .before .before .before .before .before .before .before .args .at) (c .before .before .before .before .before .before .before .before .before .before .before .before .before .before .before .before .before .before .before .args .count) (c .before .before .before .before .before .before .before .before .before .before .before .before .before .before .before .before .before .before .before .args .owner .now) (c .before .before .before .before .before .before .before .before .before .before .before .before .before .before .before .before .before .before .before .args .rtype) (c .before .before .before .before .before .before .before .before .before .before .before .before .before .before .before .before .before .before .before .args .d .now) (c .before .before .before .before .before .before .before .before .before .before .before .before .before .before .before .before .before .before .before .args .out .now) (c .before .before .before .before .before .before .before .before .before .before .before .before .before .before .before .before .before .before .before .args .places .now) (c .before .before .before .before .before .before .before .before .before .before .before .before .before .before .before .before .before .before .before .pre)) .front) (c .before .before .before .before .before .before .before .before .before .before .before .before .put-name .result) _ _ (c .before .before .before .before .before .before .before .before .before .before .before .before .put-name .ensures) (c .before .before .before .before .before .before .before .before .before .before .before .before .before .before .before .before .before .before .before .args .rtype) (c .before .before .before .before .before .before .before .before .before .before .before .before .before .before .before .before .before .before .before .args .d .now) ((record-room (c .before .before .before .before .before .before .before .before .before .before .before .before .before .before .before .before .before .before .before .args .at) (c .before .before .before .before .before .before .before .before .before .before .before .before .before .before .before .before .before .before .before .args .count) (c .before .before .before .before .before .before .before .before .before .before .before .before .before .before .before .before .before .before .before .args .owner .now) (c .before .before .before .before .before .before .before .before .before .before .before .before .before .before .before .before .before .before .before .args .rtype) (c .before .before .before .before .before .before .before .before .before .before .before .before .before .before .before .before .before .before .before .args .d .now) (c .before .before .before .before .before .before .before .before .before .before .before .before .before .before .before .before .before .before .before .args .out .now) (c .before .before .before .before .before .before .before .before .before .before .before .before .before .before .before .before .before .before .before .args .places .now) (c .before .before .before .before .before .before .before .before .before .before .before .before .before .before .before .before .before .before .before .pre)) .names) ((record-room (c .before .before .before .before .before .before .before .before .before .before .before .before .before .before .before .before .before .before .before .args .at) (c .before .before .before .before .before .before .before .before .before .before .before .before .before .before .before .before .before .before .before .args .count) (c .before .before .before .before .before .before .before .before .before .before .before .before .before .before .before .before .before .before .before .args .owner .now) (c .before .before .before .before .before .before .before .before .before .before .before .before .before .before .before .before .before .before .before .args .rtype) (c .before .before .before .before .before .before .before .before .before .before .before .before .before .before .before .before .before .before .before .args .d .now) (c .before .before .before .before .before .before .before .before .before .before .before .before .before .before .before .before .before .before .before .args .out .now) (c .before .before .before .before .before .before .before .before .before .before .before .before .before .before .before .before .before .before .before .args .places .now) (c .before .before .before .before .before .before .before .before .before .before .before .before .before .before .before .before .before .before .before .pre)) .short) refl refl (c .before .before .before .before .before .put-data .result) _ _ (c .before .before .before .before .before .put-data .ensures), data-fits (c .before .before .before .before .before .before .before .before .before .before .before .before .before .before .before .before .before .before .before .args .at) (c .before .before .before .before .before .before .before .before .before .before .before .before .before .before .before .before .before .before .before .args .count) (c .before .before .before .before .before .before .before .before .before .before .before .before .before .before .before .before .before .before .before .args .owner .now) (10 + length (c .before .before .before .before .before .before .before .before .before .before .before .before .before .before .before .before .before .before .before .args .d .now)) (labelsFor (c .before .before .before .before .before .before .before .before .before .before .before .before .before .before .before .before .before .before .before .args .rtype) (c .before .before .before .before .before .before .before .before .before .before .before .before .before .before .before .before .before .before .before .args .d .now)) (c .before .before .before .before .before .before .before .before .before .before .before .before .before .before .before .before .before .before .before .args .out .now) (c .before .before .before .before .before .before .before .before .before .before .before .before .before .before .before .before .before .before .before .args .places .now) ((record-room (c .before .before .before .before .before .before .before .before .before .before .before .before .before .before .before .before .before .before .before .args .at) (c .before .before .before .before .before .before .before .before .before .before .before .before .before .before .before .before .before .before .before .args .count) (c .before .before .before .before .before .before .before .before .before .before .before .before .before .before .before .before .before .before .before .args .owner .now) (c .before .before .before .before .before .before .before .before .before .before .before .before .before .before .before .before .before .before .before .args .rtype) (c .before .before .before .before .before .before .before .before .before .before .before .before .before .before .before .before .before .before .before .args .d .now) (c .before .before .before .before .before .before .before .before .before .before .before .before .before .before .before .before .before .before .before .args .out .now) (c .before .before .before .before .before .before .before .before .before .before .before .before .before .before .before .before .before .before .before .args .places .now) (c .before .before .before .before .before .before .before .before .before .before .before .before .before .before .before .before .before .before .before .pre)) .front) (c .before .before .before .before .before .before .before .before .before .before .before .before .put-name .result) _ _ (c .before .before .before .before .before .before .before .before .before .before .before .before .put-name .ensures) (c .before .before .before .before .before .before .before .before .before .before .before .before .before .before .before .before .before .before .before .args .rtype) (c .before .before .before .before .before .before .before .before .before .before .before .before .before .before .before .before .before .before .before .args .d .now) ((record-room (c .before .before .before .before .before .before .before .before .before .before .before .before .before .before .before .before .before .before .before .args .at) (c .before .before .before .before .before .before .before .before .before .before .before .before .before .before .before .before .before .before .before .args .count) (c .before .before .before .before .before .before .before .before .before .before .before .before .before .before .before .before .before .before .before .args .owner .now) (c .before .before .before .before .before .before .before .before .before .before .before .before .before .before .before .before .before .before .before .args .rtype) (c .before .before .before .before .before .before .before .before .before .before .before .before .before .before .before .before .before .before .before .args .d .now) (c .before .before .before .before .before .before .before .before .before .before .before .before .before .before .before .before .before .before .before .args .out .now) (c .before .before .before .before .before .before .before .before .before .before .before .before .before .before .before .before .before .before .before .args .places .now) (c .before .before .before .before .before .before .before .before .before .before .before .before .before .before .before .before .before .before .before .pre)) .names) ((record-room (c .before .before .before .before .before .before .before .before .before .before .before .before .before .before .before .before .before .before .before .args .at) (c .before .before .before .before .before .before .before .before .before .before .before .before .before .before .before .before .before .before .before .args .count) (c .before .before .before .before .before .before .before .before .before .before .before .before .before .before .before .before .before .before .before .args .owner .now) (c .before .before .before .before .before .before .before .before .before .before .before .before .before .before .before .before .before .before .before .args .rtype) (c .before .before .before .before .before .before .before .before .before .before .before .before .before .before .before .before .before .before .before .args .d .now) (c .before .before .before .before .before .before .before .before .before .before .before .before .before .before .before .before .before .before .before .args .out .now) (c .before .before .before .before .before .before .before .before .before .before .before .before .before .before .before .before .before .before .before .args .places .now) (c .before .before .before .before .before .before .before .before .before .before .before .before .before .before .before .before .before .before .before .pre)) .short) refl refl (c .before .before .before .before .before .put-data .result) _ _ (c .before .before .before .before .before .put-data .ensures))
+put-fields-requires c κs =
+    let ten = c .before .before .before .before .before .before .before .before .before .before in
+    let twenty = ten .before .before .before .before .before .before .before .before .before .before in
+    let a = twenty .args in
+    let room = record-room (a .at) (a .count) (a .owner .now) (a .rtype) (a .ttl) (a .d .now) (a .out .now) (a .places .now) (twenty .pre) in (
+      fields-room (a .at) (a .count) (a .owner .now) (10 + length (a .d .now)) (labelsFor (a .rtype) (a .d .now)) (a .out .now) (a .places .now) (room .front)
+          (ten .before .before .before .put-name .result) _ _ (ten .before .before .before .put-name .ensures) (a .rtype) (a .d .now)
+          (room .shaped) (room .short)
+          refl refl (a .whole) _ (c .before .before .before .before .before .before .before .before .tried-for .ensures)
+          (c .before .before .before .before .before .put-data .result) _ _ (c .before .before .before .before .before .put-data .ensures),
+      data-fits (a .at) (a .count) (a .owner .now) (10 + length (a .d .now)) (labelsFor (a .rtype) (a .d .now)) (a .out .now) (a .places .now) (room .front)
+          (ten .before .before .before .put-name .result) _ _ (ten .before .before .before .put-name .ensures) (a .rtype) (a .d .now)
+          (room .shaped) (room .short)
+          refl refl (a .whole) _ (c .before .before .before .before .before .before .before .before .tried-for .ensures)
+          (c .before .before .before .before .before .put-data .result) _ _ (c .before .before .before .before .before .put-data .ensures),
+    )
 
 same-length : tie.Need-same-length
 same-length c = search needs
@@ -35,7 +74,17 @@ same-length-2 : tie.Need-same-length-2
 same-length-2 c = search needs
 
 returns : tie.Need-returns
-returns c = record-grown (c .before .before .before .before .before .before .before .before .before .before .before .before .before .before .before .before .before .before .before .before .before .before .args .at) (c .before .before .before .before .before .before .before .before .before .before .before .before .before .before .before .before .before .before .before .before .before .before .args .count) (c .before .before .before .before .before .before .before .before .before .before .before .before .before .before .before .before .before .before .before .before .before .before .args .owner .now) (10 + length (c .before .before .before .before .before .before .before .before .before .before .before .before .before .before .before .before .before .before .before .before .before .before .args .d .now)) (labelsFor (c .before .before .before .before .before .before .before .before .before .before .before .before .before .before .before .before .before .before .before .before .before .before .args .rtype) (c .before .before .before .before .before .before .before .before .before .before .before .before .before .before .before .before .before .before .before .before .before .before .args .d .now)) (c .before .before .before .before .before .before .before .before .before .before .before .before .before .before .before .before .before .before .before .before .before .before .args .out .now) (c .before .before .before .before .before .before .before .before .before .before .before .before .before .before .before .before .before .before .before .before .before .before .args .places .now) ((record-room (c .before .before .before .before .before .before .before .before .before .before .before .before .before .before .before .before .before .before .before .before .before .before .args .at) (c .before .before .before .before .before .before .before .before .before .before .before .before .before .before .before .before .before .before .before .before .before .before .args .count) (c .before .before .before .before .before .before .before .before .before .before .before .before .before .before .before .before .before .before .before .before .before .before .args .owner .now) (c .before .before .before .before .before .before .before .before .before .before .before .before .before .before .before .before .before .before .before .before .before .before .args .rtype) (c .before .before .before .before .before .before .before .before .before .before .before .before .before .before .before .before .before .before .before .before .before .before .args .d .now) (c .before .before .before .before .before .before .before .before .before .before .before .before .before .before .before .before .before .before .before .before .before .before .args .out .now) (c .before .before .before .before .before .before .before .before .before .before .before .before .before .before .before .before .before .before .before .before .before .before .args .places .now) (c .before .before .before .before .before .before .before .before .before .before .before .before .before .before .before .before .before .before .before .before .before .before .pre)) .front) (c .before .before .before .before .before .before .before .before .before .before .before .before .before .before .before .put-name .result) _ _ (c .before .before .before .before .before .before .before .before .before .before .before .before .before .before .before .put-name .ensures) (c .before .before .before .before .before .before .before .before .before .before .before .before .before .before .before .before .before .before .before .before .before .before .args .rtype) (c .before .before .before .before .before .before .before .before .before .before .before .before .before .before .before .before .before .before .before .before .before .before .args .d .now) ((record-room (c .before .before .before .before .before .before .before .before .before .before .before .before .before .before .before .before .before .before .before .before .before .before .args .at) (c .before .before .before .before .before .before .before .before .before .before .before .before .before .before .before .before .before .before .before .before .before .before .args .count) (c .before .before .before .before .before .before .before .before .before .before .before .before .before .before .before .before .before .before .before .before .before .before .args .owner .now) (c .before .before .before .before .before .before .before .before .before .before .before .before .before .before .before .before .before .before .before .before .before .before .args .rtype) (c .before .before .before .before .before .before .before .before .before .before .before .before .before .before .before .before .before .before .before .before .before .before .args .d .now) (c .before .before .before .before .before .before .before .before .before .before .before .before .before .before .before .before .before .before .before .before .before .before .args .out .now) (c .before .before .before .before .before .before .before .before .before .before .before .before .before .before .before .before .before .before .before .before .before .before .args .places .now) (c .before .before .before .before .before .before .before .before .before .before .before .before .before .before .before .before .before .before .before .before .before .before .pre)) .names) ((record-room (c .before .before .before .before .before .before .before .before .before .before .before .before .before .before .before .before .before .before .before .before .before .before .args .at) (c .before .before .before .before .before .before .before .before .before .before .before .before .before .before .before .before .before .before .before .before .before .before .args .count) (c .before .before .before .before .before .before .before .before .before .before .before .before .before .before .before .before .before .before .before .before .before .before .args .owner .now) (c .before .before .before .before .before .before .before .before .before .before .before .before .before .before .before .before .before .before .before .before .before .before .args .rtype) (c .before .before .before .before .before .before .before .before .before .before .before .before .before .before .before .before .before .before .before .before .before .before .args .d .now) (c .before .before .before .before .before .before .before .before .before .before .before .before .before .before .before .before .before .before .before .before .before .before .args .out .now) (c .before .before .before .before .before .before .before .before .before .before .before .before .before .before .before .before .before .before .before .before .before .before .args .places .now) (c .before .before .before .before .before .before .before .before .before .before .before .before .before .before .before .before .before .before .before .before .before .before .pre)) .short) refl refl (c .before .before .before .before .before .before .before .before .put-data .result) _ _ (c .before .before .before .before .before .before .before .before .put-data .ensures) _ _ _ (c .before .before .put-fields .ensures)
+returns c =
+    let ten = c .before .before .before .before .before .before .before .before .before .before in
+    let twenty = ten .before .before .before .before .before .before .before .before .before .before in
+    let a = twenty .before .before .before .args in
+    let room = record-room (a .at) (a .count) (a .owner .now) (a .rtype) (a .ttl) (a .d .now) (a .out .now) (a .places .now)
+    (twenty .before .before .before .pre) in
+    record-grown (a .at) (a .count) (a .owner .now) (10 + length (a .d .now)) (labelsFor (a .rtype) (a .d .now)) (a .out .now) (a .places .now) (room .front)
+    (ten .before .before .before .before .before .before .put-name .result) _ _ (ten .before .before .before .before .before .before .put-name .ensures)
+    (a .rtype) (a .d .now) (room .shaped) (room .short) refl refl (a .whole) _ (ten .before .tried-for .ensures)
+    (c .before .before .before .before .before .before .before .before .put-data .result) _ _
+    (c .before .before .before .before .before .before .before .before .put-data .ensures) _ _ _ (c .before .before .put-fields .ensures)
 
 pub write-record-spec : {M : Type 1} → statement M
 write-record-spec =
@@ -43,6 +92,7 @@ write-record-spec =
     (tie.spec
     put-name-requires
     add-body
+    tried-for-requires
     put-data-requires
     sub-put-fields
     put-fields-requires

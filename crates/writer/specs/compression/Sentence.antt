@@ -41,4 +41,5 @@ pub data Rising : ℕ → ℕ → List ℕ → Type 0 where
 pub data Cuts (p os : List ℕ) (at : ℕ) (ls : List (List ℕ)) (bs ps : List ℕ) : Type 0 where
   whole : ((j o : ℕ) → j < length ls → Stands p os (drop j ls) o → ⊥) → bs ≡ encode ls → ps ≡ startsAt at ls → Cuts p os at ls bs ps
   cut : (k o : ℕ) → k < length ls → Stands p os (drop k ls) o → ((o′ : ℕ) → Stands p os (drop k ls) o′ → o ≤ o′)
-      → ((j o′ : ℕ) → j < k → Stands p os (drop j ls) o′ → ⊥) → bs ≡ labelBytes (take k ls) ++ pointerTo o → ps ≡ take k (startsAt at ls) → Cuts p os at ls bs ps
+      → ((j o′ : ℕ) → j < k → Stands p os (drop j ls) o′ → ⊥) → bs ≡ labelBytes (take k ls) ++ pointerTo o → ps ≡ take k (startsAt at ls) → Cuts p os at ls bs
+      ps

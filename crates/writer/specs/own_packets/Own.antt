@@ -2,28 +2,20 @@
 use Prim.Native.Nat.{ℕ}
 use mathlib.Core.List.{List, [], _∷_, _++_, map}
 use mathlib.Core.Bool.{Bool, true, false, cond, _&&_}
-use Rattle.claims.specs.records.Own.{all, ownType, ownClass, ownTtl, firstOf, claimed, has}
+use Rattle.claims.specs.records.Own.{all, firstOf, claimed, has}
 use Rattle.claims.specs.records.Sets.{picked}
 use Rattle.claims.specs.declared.records.Claim.{Claim}
 use Rattle.claims.specs.declared.records.Own.{Own}
 use Rattle.claims.specs.declared.records.Set.{Set}
 use lib.ListN.{length, drop}
 use lib.Dec.{ltb, eqb}
-use Rattle.wire.specs.message.Message.{Question, Record, Message}
+use Rattle.wire.specs.message.Message.{Message}
 use Rattle.own.specs.declared.records.Setup.{Setup}
 use Rattle.own.specs.records.Setups.{validSetup}
-use Rattle.own.specs.records.Records.{hasRecord, ownName, ownRdata}
-use Rattle.writer.specs.own_packets.Packets.{packetOf}
+use Rattle.own.specs.records.Records.{hasRecord, ownName}
+use Rattle.writer.specs.own_packets.Styles.{responseStyle, probeStyle, styledMessage, packetIn}
 use Rattle.writer.specs.declared.own_packets.Written.{Written}
 use Rattle.writer.specs.declared.own_packets.Written.the-variants.{Sent, Nothing, Refused}
-
--- "class 0x8001, PTR 1" in a response, "class 1" in a probe
-abbrev pub classIn : Bool → Own → ℕ
-classIn probing o = cond probing 1 (ownClass o)
-
--- an own record, in a probe or in a response
-unfoldable pub ownRecord : Setup → Bool → Own → Record
-ownRecord s probing o = record { owner = ownName s o; rtype = ownType o; class = classIn probing o; ttl = ownTtl o; rdata = ownRdata s o }
 
 -- "Records in responses go in the order PTR, SRV, TXT, A, AAAA": those that are chosen and that the set-up has
 unfoldable pub responseRecords : Setup → Set → List Own
@@ -33,20 +25,12 @@ responseRecords s chosen = picked (λ o. has o chosen && hasRecord s o) all
 unfoldable pub probeRecords : Setup → Claim → List Own
 probeRecords s claim = picked (hasRecord s) (claimed claim)
 
--- "ID 0. Responses have flags 0x8400, probes 0."
+-- a response has the chosen records, and a probe asks for the claim's name
 unfoldable pub responseOf : Setup → Set → Message
-responseOf s chosen = record { id = 0; flags = 0x8400; questions = []; answers = map (ownRecord s false) (responseRecords s chosen); authorities = []; additionals = [] }
+responseOf s chosen = styledMessage s responseStyle [] (responseRecords s chosen)
 
--- "A probe is one question (type 255, class 1) with the claim's records in Authority .., class 1."
 unfoldable pub probeOf : Setup → Claim → Message
-probeOf s claim = record {
-  id = 0;
-  flags = 0;
-  questions = record { name = ownName s (firstOf claim); rtype = 255; class = 1 } ∷ [];
-  answers = [];
-  authorities = map (ownRecord s true) (probeRecords s claim);
-  additionals = [];
-}
+probeOf s claim = styledMessage s probeStyle (ownName s (firstOf claim)) (probeRecords s claim)
 
 -- the packet, or none where there is no record to send
 abbrev pub noneIfEmpty : List Own → List ℕ → List ℕ
@@ -54,10 +38,10 @@ noneIfEmpty [] packet = []
 noneIfEmpty (o ∷ os) packet = packet
 
 unfoldable pub responsePacket : Setup → Set → List ℕ
-responsePacket s chosen = noneIfEmpty (responseRecords s chosen) (packetOf (responseOf s chosen))
+responsePacket s chosen = noneIfEmpty (responseRecords s chosen) (packetIn s responseStyle [] (responseRecords s chosen))
 
 unfoldable pub probePacket : Setup → Claim → List ℕ
-probePacket s claim = packetOf (probeOf s claim)
+probePacket s claim = packetIn s probeStyle (ownName s (firstOf claim)) (probeRecords s claim)
 
 -- "3: out buffer under 1,452 bytes", then "7: names or data, in a setup .. break the rules"; 0 where nothing is refused
 unfoldable pub refusal : Setup → List ℕ → ℕ

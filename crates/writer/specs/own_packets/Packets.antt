@@ -1,9 +1,10 @@
 -- A message as the bytes of a packet (specification, 'Writing a packet'; RFC 1035, 4), written from front to back: a header, then questions and records as
 -- the general writer puts them. The message is the reader's own: names and rdata expanded. Assumes nothing: these are definitions.
 use Prim.Native.Nat.{ℕ}
+use mathlib.Core.Bool.{Bool}
 use mathlib.Core.List.{List, [], _∷_, _++_}
 use lib.ListN.{length}
-use Rattle.wire.specs.message.Message.{Message}
+use Rattle.wire.specs.message.Message.{Record, Message}
 use Rattle.writer.specs.Items.{Writing, u16, putQuestion, putRecord}
 
 -- one part after the other
@@ -21,10 +22,12 @@ header m = record {
   places = [];
 }
 
--- the four sections
-abbrev pub written : Message → Writing
-written m = putAll putRecord (putAll putRecord (putAll putRecord (putAll putQuestion (header m) (m .questions)) (m .answers)) (m .authorities)) (m .additionals)
+-- the four sections; with `whole` the targets of SRV records are not cut
+abbrev pub written : Bool → Message → Writing
+written whole m =
+    let put : Writing → List Record → Writing = putAll (putRecord whole) in
+    put (put (put (putAll putQuestion (header m) (m .questions)) (m .answers)) (m .authorities)) (m .additionals)
 
 -- a whole packet
-unfoldable pub packetOf : Message → List ℕ
-packetOf m = written m .bytes
+unfoldable pub packetOf : Bool → Message → List ℕ
+packetOf whole m = written whole m .bytes

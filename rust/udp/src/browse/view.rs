@@ -1,8 +1,8 @@
 //! What the cache knows of the instances of a service.
 
-use std::net::{IpAddr, Ipv4Addr, Ipv6Addr};
+use std::net::IpAddr;
 
-use kurgashel::{Cache, Refusal};
+use kurgashel::{Cache, Data, Refusal};
 
 use crate::rtype;
 
@@ -60,26 +60,35 @@ fn instance(cache: &Cache, now: u64, name: &[u8]) -> Result<Instance, Refusal> {
     })
 }
 
-/// SRV data: priority, weight, port, target.
+/// Where an SRV says that a service is.
 pub fn server(rdata: &[u8]) -> Option<Server> {
-    let port = rdata.get(4..6)?;
-    Some(Server {
-        port: u16::from_be_bytes([port[0], port[1]]),
-        host: rdata[6..].to_vec(),
-    })
+    match Data::of(rtype::SRV, rdata)? {
+        Data::Srv(srv) => Some(Server {
+            port: srv.port,
+            host: srv.target.as_bytes().to_vec(),
+        }),
+        _ => None,
+    }
 }
 
 /// A host's addresses in rising order.
 fn addresses(cache: &Cache, now: u64, host: &[u8]) -> Result<Vec<IpAddr>, Refusal> {
     let mut addresses = Vec::new();
-    for entry in cache.all(now, host, rtype::A)? {
-        addresses.extend(<[u8; 4]>::try_from(entry.rdata).map(|a| IpAddr::V4(Ipv4Addr::from(a))));
-    }
-    for entry in cache.all(now, host, rtype::AAAA)? {
-        addresses.extend(<[u8; 16]>::try_from(entry.rdata).map(|a| IpAddr::V6(Ipv6Addr::from(a))));
+    for rtype in [rtype::A, rtype::AAAA] {
+        for entry in cache.all(now, host, rtype)? {
+            addresses.extend(address(rtype, entry.rdata));
+        }
     }
     addresses.sort();
     Ok(addresses)
+}
+
+fn address(rtype: u16, rdata: &[u8]) -> Option<IpAddr> {
+    match Data::of(rtype, rdata)? {
+        Data::A(address) => Some(address.into()),
+        Data::Aaaa(address) => Some(address.into()),
+        _ => None,
+    }
 }
 
 #[cfg(test)]

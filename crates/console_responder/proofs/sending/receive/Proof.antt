@@ -1,7 +1,9 @@
-use borrow.Author.Needs.{needs}
-use native.Mathlib.Omega.{arith}
+-- `console_responder::sending::receive` meets its contract. Assumes nothing.
 use mathlib.Core.Path.{sym}
+use native.Mathlib.Omega.{arith}
 use lib.Seq.{length-take-le}
+use Rattle.console_responder.proofs.After.{received-over}
+use borrow.Author.Needs.{needs}
 use Rattle.console_responder.proofs.sending.receive.Statement.{statement}
 use Rattle.console_responder.proofs.sending.receive.Tie as tie
 
@@ -18,7 +20,14 @@ same-length : tie.Need-same-length
 same-length c = search needs
 
 returns : tie.Need-returns
-returns c = search needs
+returns c = let a = c .before .before .before .before .before .before .args in received-over (a .held) (a .out .now) (a .time) (a .n) (omega arith) _ (a .from) (a .draw) (a .packet .now) _ (c .before .before .receive .ensures .answers) (c .before .before .receive .ensures .writes)
 
 pub receive-spec : {M : Type 1} → statement M
-receive-spec = tie.close (tie.spec slice-relend-prefix-receive slice-aggregate-receive receive-requires same-length returns)
+receive-spec =
+    tie.close
+    (tie.spec
+    slice-relend-prefix-receive
+    slice-aggregate-receive
+    receive-requires
+    same-length
+    returns)

@@ -1,7 +1,9 @@
-use borrow.Author.Needs.{needs}
-use native.Mathlib.Omega.{arith}
+-- `console_responder::sending::step` meets its contract. Assumes nothing.
 use mathlib.Core.Path.{sym}
+use native.Mathlib.Omega.{arith}
 use lib.Seq.{length-take-le}
+use Rattle.console_responder.proofs.After.{ticked-over}
+use borrow.Author.Needs.{needs}
 use Rattle.console_responder.proofs.sending.step.Statement.{statement}
 use Rattle.console_responder.proofs.sending.step.Tie as tie
 
@@ -18,7 +20,9 @@ same-length : tie.Need-same-length
 same-length c = search needs
 
 returns : tie.Need-returns
-returns c = search needs
+returns c = let a = c .before .before .before .before .before .args in ticked-over (a .held) (a .out .now) (a .time) (a .n) (omega arith) _ _ (c .before .before .tick .ensures .answers) (c .before .before .tick .ensures .writes)
 
 pub step-spec : {M : Type 1} → statement M
-step-spec = tie.close (tie.spec slice-relend-prefix-tick slice-aggregate-tick tick-requires same-length returns)
+step-spec =
+    tie.close
+    (tie.spec slice-relend-prefix-tick slice-aggregate-tick tick-requires same-length returns)

@@ -13,13 +13,18 @@ some-asks-requires : tie.Need-some-asks-requires
 some-asks-requires c κs = search needs
 
 returns-2 : tie.Need-returns-2
-returns-2 c = let a = c .before .before .before .before .before .before .before .before .args in not-asked (a .p .now) (a .l) (a .name .now) (omega arith) _ (c .before .some-asks .ensures) (not-true _ (c .if2 .taken))
+returns-2 c =
+    let a = c .before .before .before .before .before .before .before .before .args in
+    not-asked (a .p .now) (a .l) (a .name .now) (omega arith) _ (c .before .some-asks .ensures) (not-true _ (c .if2 .taken))
 
 some-under-requires : tie.Need-some-under-requires
 some-under-requires c κs = search needs
 
 returns-3 : tie.Need-returns-3
-returns-3 c = let a = c .before .before .before .before .before .before .before .before .before .args in asked-for (a .p .now) (a .l) (a .name .now) (omega arith) _ (c .before .before .some-asks .ensures) (not-false _ (c .before .if2 .left)) _ (c .some-under .ensures)
+returns-3 c =
+    let a = c .before .before .before .before .before .before .before .before .before .args in
+    asked-for (a .p .now) (a .l) (a .name .now) (omega arith) _ (c .before .before .some-asks .ensures) (not-false _ (c .before .if2 .left)) _
+    (c .some-under .ensures)
 
 pub is-probe-spec : {M : Type 1} → statement M
 is-probe-spec =

@@ -1,9 +1,7 @@
 -- `facts::probe::some_asks` meets its contract. Assumes nothing.
 use Rattle.wire.specs.message.Readable.{questionShown}
 use Rattle.wire.proofs.message.Walk.{some-found, some-on, some-broken, some-done, question-found, question-broken}
-use mathlib.Core.Path.{ap, _∙_}
-use mathlib.Core.Bool.{Bool}
-use Rattle.facts.specs.probe.Walked.{asksAt}
+use mathlib.Core.Path.{sym, _∙_}
 use borrow.Author.Needs.{needs}
 use mathlib.Core.Path.{_≡_}
 use native.Mathlib.Omega.{arith}
@@ -30,16 +28,26 @@ enum-known-q : tie.Need-enum-known-q Inv-loop μ-loop
 enum-known-q c = search needs
 
 asks-requires : tie.Need-asks-requires Inv-loop μ-loop
-asks-requires c κs = search needs
+asks-requires c κs = (c .before .before .before .before .before .loop .here, sym (c .before .before .before .question-at .ensures) ∙ c .before .q .given .1)
 
 returns : tie.Need-returns Inv-loop μ-loop
-returns c = let a = c .before .before .before .before .before .before .before .before .before .before .args in let l = c .before .before .before .before .before .before .before .loop in let m = question-found (a .p .now) (l .here) _ (c .before .before .before .before .before .question-at .ensures) _ (c .before .before .before .q .given .1) in some-found (asksAll (a .name .now)) (questionAt (a .p .now)) _ (l .left) (l .here) (l .inv) (omega arith) (questionShown (a .p .now) (c .before .before .before .q .given .0 .0)) _ (m .here) _ (c .before .asks .ensures ∙ ap (λ (b : Bool). asksAt b (c .before .before .before .q .given .0 .0)) (m .named (a .name .now))) (c .if1 .taken)
+returns c =
+    let a = c .before .before .before .before .before .before .before .before .before .before .args in
+    let l = c .before .before .before .before .before .before .before .loop in
+    let m = question-found (a .p .now) (l .here) _ (c .before .before .before .before .before .question-at .ensures) _
+    (c .before .before .before .q .given .1) in
+    some-found (asksAll (a .name .now)) (questionAt (a .p .now)) _ (l .left) (l .here) (l .inv) (omega arith)
+    (questionShown (a .p .now) (c .before .before .before .q .given .0 .0)) _ (m .here) _ (c .before .asks .ensures) (c .if1 .taken)
 
 enum-told : tie.Need-enum-told Inv-loop μ-loop
 enum-told c = search needs
 
 returns-2 : tie.Need-returns-2 Inv-loop μ-loop
-returns-2 c = let a = c .before .before .before .before .before .before .before .args in let l = c .before .before .before .before .loop in some-broken (asksAll (a .name .now)) (questionAt (a .p .now)) _ (l .left) (l .here) (l .inv) (question-broken (a .p .now) (l .here) _ (c .before .before .question-at .ensures) (c .enum-told .given .1))
+returns-2 c =
+    let a = c .before .before .before .before .before .before .before .args in
+    let l = c .before .before .before .before .loop in
+    some-broken (asksAll (a .name .now)) (questionAt (a .p .now)) _ (l .left) (l .here) (l .inv)
+    (question-broken (a .p .now) (l .here) _ (c .before .before .question-at .ensures) (c .enum-told .given .1))
 
 sub-left : tie.Need-sub-left Inv-loop μ-loop
 sub-left c = search needs
@@ -48,10 +56,19 @@ loop-less : tie.Need-loop-less Inv-loop μ-loop
 loop-less c = search needs
 
 loop-again : tie.Need-loop-again Inv-loop μ-loop
-loop-again c = let a = c .before .before .before .before .before .before .before .before .before .before .args in let l = c .before .before .before .before .before .before .before .loop in let m = question-found (a .p .now) (l .here) _ (c .before .before .before .before .before .question-at .ensures) _ (c .before .before .before .q .given .1) in some-on (asksAll (a .name .now)) (questionAt (a .p .now)) _ (l .left) (l .here) (l .inv) (omega arith) (questionShown (a .p .now) (c .before .before .before .q .given .0 .0)) _ (m .here) _ (c .before .asks .ensures ∙ ap (λ (b : Bool). asksAt b (c .before .before .before .q .given .0 .0)) (m .named (a .name .now))) (c .if1 .left)
+loop-again c =
+    let a = c .before .before .before .before .before .before .before .before .before .before .args in
+    let l = c .before .before .before .before .before .before .before .loop in
+    let m = question-found (a .p .now) (l .here) _ (c .before .before .before .before .before .question-at .ensures) _
+    (c .before .before .before .q .given .1) in
+    some-on (asksAll (a .name .now)) (questionAt (a .p .now)) _ (l .left) (l .here) (l .inv) (omega arith)
+    (questionShown (a .p .now) (c .before .before .before .q .given .0 .0)) _ (m .here) _ (c .before .asks .ensures) (c .if1 .left)
 
 returns-3 : tie.Need-returns-3 Inv-loop μ-loop
-returns-3 c = let a = c .before .before .before .before .args in let l = c .before .loop in some-done (asksAll (a .name .now)) (questionAt (a .p .now)) _ (l .left) (l .here) (l .inv) (omega arith)
+returns-3 c =
+    let a = c .before .before .before .before .args in
+    let l = c .before .loop in
+    some-done (asksAll (a .name .now)) (questionAt (a .p .now)) _ (l .left) (l .here) (l .inv) (omega arith)
 
 pub some-asks-spec : {M : Type 1} → statement M
 some-asks-spec =

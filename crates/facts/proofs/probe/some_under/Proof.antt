@@ -31,13 +31,24 @@ name-is-requires : tie.Need-name-is-requires Inv-loop μ-loop
 name-is-requires c κs = search needs
 
 returns : tie.Need-returns Inv-loop μ-loop
-returns c = let a = c .before .before .before .before .before .before .before .before .before .before .args in let l = c .before .before .before .before .before .before .before .loop in let m = record-found (a .p .now) (l .here) _ (c .before .before .before .before .before .whole-record .ensures) _ (c .before .before .before .f .given .1) in some-found (under (a .name .now)) (recordAt (a .p .now)) _ (l .left) (l .here) (l .inv) (omega arith) (recordShown (a .p .now) (c .before .before .before .f .given .0 .0)) _ (m .here) _ (c .before .name-is .ensures ∙ m .named (a .name .now)) (c .if1 .taken)
+returns c =
+    let a = c .before .before .before .before .before .before .before .before .before .before .args in
+    let l = c .before .before .before .before .before .before .before .loop in
+    let m = record-found (a .p .now) (l .here) _ (c .before .before .before .before .before .whole-record .ensures) _ (c .before .before .before .f .given .1)
+    in
+    some-found (under (a .name .now)) (recordAt (a .p .now)) _ (l .left) (l .here) (l .inv) (omega arith)
+    (recordShown (a .p .now) (c .before .before .before .f .given .0 .0)) _ (m .here) _ (c .before .name-is .ensures ∙ m .named (a .name .now))
+    (c .if1 .taken)
 
 enum-told : tie.Need-enum-told Inv-loop μ-loop
 enum-told c = search needs
 
 returns-2 : tie.Need-returns-2 Inv-loop μ-loop
-returns-2 c = let a = c .before .before .before .before .before .before .before .args in let l = c .before .before .before .before .loop in some-broken (under (a .name .now)) (recordAt (a .p .now)) _ (l .left) (l .here) (l .inv) (record-broken (a .p .now) (l .here) _ (c .before .before .whole-record .ensures) (c .enum-told .given .1))
+returns-2 c =
+    let a = c .before .before .before .before .before .before .before .args in
+    let l = c .before .before .before .before .loop in
+    some-broken (under (a .name .now)) (recordAt (a .p .now)) _ (l .left) (l .here) (l .inv)
+    (record-broken (a .p .now) (l .here) _ (c .before .before .whole-record .ensures) (c .enum-told .given .1))
 
 sub-left : tie.Need-sub-left Inv-loop μ-loop
 sub-left c = search needs
@@ -46,10 +57,19 @@ loop-less : tie.Need-loop-less Inv-loop μ-loop
 loop-less c = search needs
 
 loop-again : tie.Need-loop-again Inv-loop μ-loop
-loop-again c = let a = c .before .before .before .before .before .before .before .before .before .before .args in let l = c .before .before .before .before .before .before .before .loop in let m = record-found (a .p .now) (l .here) _ (c .before .before .before .before .before .whole-record .ensures) _ (c .before .before .before .f .given .1) in some-on (under (a .name .now)) (recordAt (a .p .now)) _ (l .left) (l .here) (l .inv) (omega arith) (recordShown (a .p .now) (c .before .before .before .f .given .0 .0)) _ (m .here) _ (c .before .name-is .ensures ∙ m .named (a .name .now)) (c .if1 .left)
+loop-again c =
+    let a = c .before .before .before .before .before .before .before .before .before .before .args in
+    let l = c .before .before .before .before .before .before .before .loop in
+    let m = record-found (a .p .now) (l .here) _ (c .before .before .before .before .before .whole-record .ensures) _ (c .before .before .before .f .given .1)
+    in
+    some-on (under (a .name .now)) (recordAt (a .p .now)) _ (l .left) (l .here) (l .inv) (omega arith)
+    (recordShown (a .p .now) (c .before .before .before .f .given .0 .0)) _ (m .here) _ (c .before .name-is .ensures ∙ m .named (a .name .now)) (c .if1 .left)
 
 returns-3 : tie.Need-returns-3 Inv-loop μ-loop
-returns-3 c = let a = c .before .before .before .before .args in let l = c .before .loop in some-done (under (a .name .now)) (recordAt (a .p .now)) _ (l .left) (l .here) (l .inv) (omega arith)
+returns-3 c =
+    let a = c .before .before .before .before .args in
+    let l = c .before .loop in
+    some-done (under (a .name .now)) (recordAt (a .p .now)) _ (l .left) (l .here) (l .inv) (omega arith)
 
 pub some-under-spec : {M : Type 1} → statement M
 some-under-spec =

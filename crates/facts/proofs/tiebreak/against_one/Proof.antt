@@ -26,7 +26,9 @@ returns : tie.Need-returns
 returns c = one-earlier _ _ _ (c .before .before .before .count-under .ensures) _ (c .before .before .place .ensures) (c .enum-told .given .1)
 
 returns-2 : tie.Need-returns-2
-returns-2 c = one-same _ _ _ (c .before .before .before .before .count-under .ensures) _ (c .before .before .before .place .ensures) (c .before .enum-told2 .given .1) _ (c .past-own .ensures)
+returns-2 c =
+    one-same _ _ _ (c .before .before .before .before .count-under .ensures) _ (c .before .before .before .place .ensures) (c .before .enum-told2 .given .1) _
+    (c .past-own .ensures)
 
 returns-3 : tie.Need-returns-3
 returns-3 c = one-later _ _ _ (c .before .before .before .count-under .ensures) _ (c .before .before .place .ensures) (c .enum-told3 .given .1)

@@ -38,19 +38,38 @@ enum-told-6 : tie.Need-enum-told-6
 enum-told-6 c = search needs
 
 returns : tie.Need-returns
-returns c = two-earlier _ _ _ (c .before .before .before .count-under .ensures) _ (c .before .before .place .ensures) _ (c .before .before .before .before .before .before .before .before .pre) (c .enum-told .given .1)
+returns c =
+    two-earlier _ _ _ (c .before .before .before .count-under .ensures) _ (c .before .before .place .ensures) _
+    (c .before .before .before .before .before .before .before .before .pre) (c .enum-told .given .1)
 
 returns-2 : tie.Need-returns-2
-returns-2 c = second-earlier _ _ _ (c .before .before .before .before .before .before .before .count-under .ensures) _ (c .before .before .before .before .before .before .place .ensures) _ (c .before .before .before .before .before .before .before .before .before .before .before .before .pre) (c .before .before .before .before .enum-told2 .given .1) _ (c .before .before .before .count-under2 .ensures) _ (c .before .before .place2 .ensures) (c .enum-told3 .given .1)
+returns-2 c =
+    second-earlier _ _ _ (c .before .before .before .before .before .before .before .count-under .ensures) _
+    (c .before .before .before .before .before .before .place .ensures) _
+    (c .before .before .before .before .before .before .before .before .before .before .before .before .pre)
+    (c .before .before .before .before .enum-told2 .given .1) _ (c .before .before .before .count-under2 .ensures) _ (c .before .before .place2 .ensures)
+    (c .enum-told3 .given .1)
 
 returns-3 : tie.Need-returns-3
-returns-3 c = second-same _ _ _ (c .before .before .before .before .before .before .before .before .count-under .ensures) _ (c .before .before .before .before .before .before .before .place .ensures) _ (c .before .before .before .before .before .before .before .before .before .before .before .before .before .pre) (c .before .before .before .before .before .enum-told2 .given .1) _ (c .before .before .before .before .count-under2 .ensures) _ (c .before .before .before .place2 .ensures) (c .before .enum-told4 .given .1) _ (c .past-own .ensures)
+returns-3 c =
+    second-same _ _ _ (c .before .before .before .before .before .before .before .before .count-under .ensures) _
+    (c .before .before .before .before .before .before .before .place .ensures) _
+    (c .before .before .before .before .before .before .before .before .before .before .before .before .before .pre)
+    (c .before .before .before .before .before .enum-told2 .given .1) _ (c .before .before .before .before .count-under2 .ensures) _
+    (c .before .before .before .place2 .ensures) (c .before .enum-told4 .given .1) _ (c .past-own .ensures)
 
 returns-4 : tie.Need-returns-4
-returns-4 c = second-later _ _ _ (c .before .before .before .before .before .before .before .count-under .ensures) _ (c .before .before .before .before .before .before .place .ensures) _ (c .before .before .before .before .before .before .before .before .before .before .before .before .pre) (c .before .before .before .before .enum-told2 .given .1) _ (c .before .before .before .count-under2 .ensures) _ (c .before .before .place2 .ensures) (c .enum-told5 .given .1)
+returns-4 c =
+    second-later _ _ _ (c .before .before .before .before .before .before .before .count-under .ensures) _
+    (c .before .before .before .before .before .before .place .ensures) _
+    (c .before .before .before .before .before .before .before .before .before .before .before .before .pre)
+    (c .before .before .before .before .enum-told2 .given .1) _ (c .before .before .before .count-under2 .ensures) _ (c .before .before .place2 .ensures)
+    (c .enum-told5 .given .1)
 
 returns-5 : tie.Need-returns-5
-returns-5 c = two-later _ _ _ (c .before .before .before .count-under .ensures) _ (c .before .before .place .ensures) _ (c .before .before .before .before .before .before .before .before .pre) (c .enum-told6 .given .1)
+returns-5 c =
+    two-later _ _ _ (c .before .before .before .count-under .ensures) _ (c .before .before .place .ensures) _
+    (c .before .before .before .before .before .before .before .before .pre) (c .enum-told6 .given .1)
 
 pub against-two-spec : {M : Type 1} → statement M
 against-two-spec =

@@ -28,10 +28,14 @@ shared-slice-read-y : tie.Need-shared-slice-read-y Inv-loop μ-loop
 shared-slice-read-y c = search needs
 
 returns-2 : tie.Need-returns-2 Inv-loop μ-loop
-returns-2 c = byte-earlier _ _ (c .before .before .before .before .before .loop .i) (c .before .before .before .before .before .loop .inv .2) (omega arith) (omega arith) (c .if2 .taken)
+returns-2 c =
+    byte-earlier _ _ (c .before .before .before .before .before .loop .i) (c .before .before .before .before .before .loop .inv .2) (omega arith)
+    (omega arith) (c .if2 .taken)
 
 returns-3 : tie.Need-returns-3 Inv-loop μ-loop
-returns-3 c = byte-later _ _ (c .before .before .before .before .before .before .loop .i) (c .before .before .before .before .before .before .loop .inv .2) (omega arith) (omega arith) (c .if3 .taken)
+returns-3 c =
+    byte-later _ _ (c .before .before .before .before .before .before .loop .i) (c .before .before .before .before .before .before .loop .inv .2)
+    (omega arith) (omega arith) (c .if3 .taken)
 
 add-i : tie.Need-add-i Inv-loop μ-loop
 add-i c = search needs
@@ -40,7 +44,12 @@ loop-less : tie.Need-loop-less Inv-loop μ-loop
 loop-less c = search needs
 
 loop-again : tie.Need-loop-again Inv-loop μ-loop
-loop-again c = (omega arith, omega arith, byte-same _ _ (c .before .before .before .before .before .before .loop .i) (c .before .before .before .before .before .before .loop .inv .2) (omega arith) (omega arith) (c .if3 .left) (c .before .if2 .left))
+loop-again c = (
+  omega arith,
+  omega arith,
+  byte-same _ _ (c .before .before .before .before .before .before .loop .i)
+      (c .before .before .before .before .before .before .loop .inv .2) (omega arith) (omega arith) (c .if3 .left) (c .before .if2 .left),
+)
 
 returns-4 : tie.Need-returns-4 Inv-loop μ-loop
 returns-4 c = bytes-shorter _ _ (c .before .before .loop .i) (c .before .before .loop .inv .2) (omega arith) (omega arith)

@@ -20,7 +20,9 @@ compare-bytes-requires : tie.Need-compare-bytes-requires
 compare-bytes-requires c κs = search needs
 
 returns-5 : tie.Need-returns-5
-returns-5 c = by-bytes _ _ (c .before .before .before .if2 .left) (c .before .before .before .before .if1 .left) (c .before .if4 .left) (c .before .before .if3 .left) _ (c .compare-bytes .ensures)
+returns-5 c =
+    by-bytes _ _ (c .before .before .before .if2 .left) (c .before .before .before .before .if1 .left) (c .before .if4 .left) (c .before .before .if3 .left) _
+    (c .compare-bytes .ensures)
 
 pub compare-records-spec : {M : Type 1} → statement M
 compare-records-spec =

@@ -17,7 +17,10 @@ compare-records-requires : tie.Need-compare-records-requires
 compare-records-requires c κs = search needs
 
 returns : tie.Need-returns
-returns c = let a = c .before .before .before .before .before .before .before .before .args in seen-record (a .p .now) (a .f) (c .before .before .before .before .before .before .before .before .pre) _ (c .before .before .before .before .before .open .ensures) _ (c .before .before .view .ensures .0) _ _ (c .compare-records .ensures)
+returns c =
+    let a = c .before .before .before .before .before .before .before .before .args in
+    seen-record (a .p .now) (a .f) (c .before .before .before .before .before .before .before .before .pre) _
+    (c .before .before .before .before .before .open .ensures) _ (c .before .before .view .ensures .0) _ _ (c .compare-records .ensures)
 
 pub compare-with-own-spec : {M : Type 1} → statement M
 compare-with-own-spec =

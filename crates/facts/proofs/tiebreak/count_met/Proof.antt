@@ -14,7 +14,9 @@ count-one-requires : tie.Need-count-one-requires
 count-one-requires c κs = search needs
 
 returns : tie.Need-returns
-returns c = met-under _ _ _ _ _ (c .before .before .before .name-is .ensures) (c .before .before .if1 .taken) _ (c .before .compare-with-own .ensures) _ (c .count-one .ensures)
+returns c =
+    met-under _ _ _ _ _ (c .before .before .before .name-is .ensures) (c .before .before .if1 .taken) _ (c .before .compare-with-own .ensures) _
+    (c .count-one .ensures)
 
 returns-2 : tie.Need-returns-2
 returns-2 c = met-other _ _ _ _ _ (c .before .name-is .ensures) (c .if1 .left)

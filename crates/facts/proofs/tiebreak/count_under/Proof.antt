@@ -16,7 +16,10 @@ use Rattle.facts.proofs.tiebreak.count_under.Statement.{statement}
 use Rattle.facts.proofs.tiebreak.count_under.Tie as tie
 
 abbrev Inv-loop : tie.InvT-loop
-Inv-loop p name rtype own c₀ here₀ left₀ c here left = (c .all + left ≤ left₀) × (c .earlier + left ≤ left₀) × (c .same + left ≤ left₀) × (left₀ < 65536) × (countAll (ownRecord rtype own) (listUnder name (readable (recordAt p) left₀ here₀)) noneCounted ≡ countAll (ownRecord rtype own) (listUnder name (readable (recordAt p) left here)) c)
+Inv-loop p name rtype own c₀ here₀ left₀ c here left =
+    (c .all + left ≤ left₀) × (c .earlier + left ≤ left₀) × (c .same + left ≤ left₀) × (left₀ < 65536) ×
+    (countAll (ownRecord rtype own) (listUnder name (readable (recordAt p) left₀ here₀)) noneCounted ≡ countAll (ownRecord rtype own)
+    (listUnder name (readable (recordAt p) left here)) c)
 
 abbrev μ-loop : tie.MeasureT-loop
 μ-loop p name rtype own c₀ here₀ left₀ c here left = left
@@ -31,13 +34,21 @@ enum-known-f : tie.Need-enum-known-f Inv-loop μ-loop
 enum-known-f c = search needs
 
 count-met-requires : tie.Need-count-met-requires Inv-loop μ-loop
-count-met-requires c κs = let a = c .before .before .before .before .before .before .before .before .before .args in let m = record-found (a .p .now) (c .before .before .before .before .before .loop .here) _ (c .before .before .before .whole-record .ensures) _ (c .before .f .given .1) in (ap fits (m .content), (omega arith, omega arith, omega arith))
+count-met-requires c κs =
+    let a = c .before .before .before .before .before .before .before .before .before .args in
+    let m = record-found (a .p .now) (c .before .before .before .before .before .loop .here) _ (c .before .before .before .whole-record .ensures) _
+    (c .before .f .given .1) in
+    (ap fits (m .content), (omega arith, omega arith, omega arith))
 
 enum-told : tie.Need-enum-told Inv-loop μ-loop
 enum-told c = search needs
 
 returns : tie.Need-returns Inv-loop μ-loop
-returns c = let a = c .before .before .before .before .before .before .before .before .args in let l = c .before .before .before .before .loop in count-broken (a .p .now) (ownRecord (a .rtype) (a .own .now)) (a .name .now) _ (l .left) (l .here) (l .c) (l .inv .4) (record-broken (a .p .now) (l .here) _ (c .before .before .whole-record .ensures) (c .enum-told .given .1))
+returns c =
+    let a = c .before .before .before .before .before .before .before .before .args in
+    let l = c .before .before .before .before .loop in
+    count-broken (a .p .now) (ownRecord (a .rtype) (a .own .now)) (a .name .now) _ (l .left) (l .here) (l .c) (l .inv .4)
+    (record-broken (a .p .now) (l .here) _ (c .before .before .whole-record .ensures) (c .enum-told .given .1))
 
 sub-left : tie.Need-sub-left Inv-loop μ-loop
 sub-left c = search needs
@@ -51,7 +62,8 @@ loop-again c = let a = c .before .before .before .before .before .before .before
     let f = c .before .before .f .given .0 .0 in
     let own = ownRecord (a .rtype) (a .own .now) in
     let m = record-found (a .p .now) (l .here) _ (c .before .before .before .before .whole-record .ensures) f (c .before .before .f .given .1) in
-    let k = met-bounds (tieRecord (recordShown (a .p .now) f)) own (l .c) (nameIs (a .p .now) (f .owner) (a .name .now)) (c .count-met .result) (c .count-met .ensures) (l .left) (a .s .count) (omega arith) (l .inv .0) (l .inv .1) (l .inv .2) in (
+    let k = met-bounds (tieRecord (recordShown (a .p .now) f)) own (l .c) (nameIs (a .p .now) (f .owner) (a .name .now)) (c .count-met .result)
+    (c .count-met .ensures) (l .left) (a .s .count) (omega arith) (l .inv .0) (l .inv .1) (l .inv .2) in (
       k .0,
       k .1,
       k .2,
@@ -60,7 +72,10 @@ loop-again c = let a = c .before .before .before .before .before .before .before
     )
 
 returns-2 : tie.Need-returns-2 Inv-loop μ-loop
-returns-2 c = let a = c .before .before .before .before .before .args in let l = c .before .loop in count-done (a .p .now) (ownRecord (a .rtype) (a .own .now)) (a .name .now) _ (l .left) (l .here) (l .c) (l .inv .4) (omega arith)
+returns-2 c =
+    let a = c .before .before .before .before .before .args in
+    let l = c .before .loop in
+    count-done (a .p .now) (ownRecord (a .rtype) (a .own .now)) (a .name .now) _ (l .left) (l .here) (l .c) (l .inv .4) (omega arith)
 
 pub count-under-spec : {M : Type 1} → statement M
 count-under-spec =

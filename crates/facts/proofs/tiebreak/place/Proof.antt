@@ -9,13 +9,20 @@ returns : tie.Need-returns
 returns c = sym (placed-earlier (c .before .before .args .k) (c .before .before .args .c) (omega arith))
 
 returns-2 : tie.Need-returns-2
-returns-2 c = sym (placed-same (c .before .before .before .before .before .args .k) (c .before .before .before .before .before .args .c) (omega arith) (omega arith))
+returns-2 c =
+    sym (placed-same (c .before .before .before .before .before .args .k) (c .before .before .before .before .before .args .c) (omega arith) (omega arith))
 
 returns-3 : tie.Need-returns-3
-returns-3 c = sym (placed-later (c .before .before .before .before .before .before .before .args .k) (c .before .before .before .before .before .before .before .args .c) (omega arith) (omega arith))
+returns-3 c =
+    sym
+    (placed-later (c .before .before .before .before .before .before .before .args .k) (c .before .before .before .before .before .before .before .args .c)
+    (omega arith) (omega arith))
 
 returns-4 : tie.Need-returns-4
-returns-4 c = sym (placed-out (c .before .before .before .before .before .before .before .args .k) (c .before .before .before .before .before .before .before .args .c) (omega arith) (omega arith))
+returns-4 c =
+    sym
+    (placed-out (c .before .before .before .before .before .before .before .args .k) (c .before .before .before .before .before .before .before .args .c)
+    (omega arith) (omega arith))
 
 pub place-spec : {M : Type 1} → statement M
 place-spec = tie.close (tie.spec returns returns-2 returns-3 returns-4)

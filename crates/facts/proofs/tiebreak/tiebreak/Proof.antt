@@ -11,7 +11,11 @@ against-one-requires : tie.Need-against-one-requires
 against-one-requires c κs = search needs
 
 returns : tie.Need-returns
-returns c = let a = c .before .before .before .before .before .before .before .before .args in numbered _ _ (alone-is (a .p .now) (a .l) (a .name .now) (a .own .first) (a .first .now) (a .own .both) (a .own .second) (a .second .now) _ (not-true _ (c .before .if1 .taken)) (c .against-one .ensures))
+returns c =
+    let a = c .before .before .before .before .before .before .before .before .args in
+    numbered _ _
+    (alone-is (a .p .now) (a .l) (a .name .now) (a .own .first) (a .first .now) (a .own .both) (a .own .second) (a .second .now) _
+    (not-true _ (c .before .if1 .taken)) (c .against-one .ensures))
 
 compare-records-requires : tie.Need-compare-records-requires
 compare-records-requires c κs = search needs
@@ -35,13 +39,26 @@ against-two-requires-3 : tie.Need-against-two-requires-3
 against-two-requires-3 c κs = other-order _ _ _ (c .before .before .compare-records .ensures) (c .enum-told3 .given .1)
 
 returns-2 : tie.Need-returns-2
-returns-2 c = let a = c .before .before .before .before .before .before .before .before .before .before .before .args in numbered _ _ (pair-is (a .p .now) (a .l) (a .name .now) (a .own .first) (a .first .now) (a .own .both) (a .own .second) (a .second .now) _ (not-false _ (c .before .before .before .before .if1 .left)) (c .against-two .ensures))
+returns-2 c =
+    let a = c .before .before .before .before .before .before .before .before .before .before .before .args in
+    numbered _ _
+    (pair-is (a .p .now) (a .l) (a .name .now) (a .own .first) (a .first .now) (a .own .both) (a .own .second) (a .second .now) _
+    (not-false _ (c .before .before .before .before .if1 .left)) (c .against-two .ensures))
 
 returns-3 : tie.Need-returns-3
-returns-3 c = let a = c .before .before .before .before .before .before .before .before .before .before .before .args in numbered _ _ (pair-is (a .p .now) (a .l) (a .name .now) (a .own .first) (a .first .now) (a .own .both) (a .own .second) (a .second .now) _ (not-false _ (c .before .before .before .before .if1 .left)) (c .against-two2 .ensures))
+returns-3 c =
+    let a = c .before .before .before .before .before .before .before .before .before .before .before .args in
+    numbered _ _
+    (pair-is (a .p .now) (a .l) (a .name .now) (a .own .first) (a .first .now) (a .own .both) (a .own .second) (a .second .now) _
+    (not-false _ (c .before .before .before .before .if1 .left)) (c .against-two2 .ensures))
 
 returns-4 : tie.Need-returns-4
-returns-4 c = let a = c .before .before .before .before .before .before .before .before .before .before .before .args in numbered _ _ (turned-is (a .p .now) (a .l) (a .name .now) (a .own .first) (a .first .now) (a .own .both) (a .own .second) (a .second .now) _ (not-false _ (c .before .before .before .before .if1 .left)) (out-of-order _ _ _ (c .before .before .before .compare-records .ensures) (c .before .enum-told3 .given .1)) (c .against-two3 .ensures))
+returns-4 c =
+    let a = c .before .before .before .before .before .before .before .before .before .before .before .args in
+    numbered _ _
+    (turned-is (a .p .now) (a .l) (a .name .now) (a .own .first) (a .first .now) (a .own .both) (a .own .second) (a .second .now) _
+    (not-false _ (c .before .before .before .before .if1 .left))
+    (out-of-order _ _ _ (c .before .before .before .compare-records .ensures) (c .before .enum-told3 .given .1)) (c .against-two3 .ensures))
 
 pub tiebreak-spec : {M : Type 1} → statement M
 tiebreak-spec =

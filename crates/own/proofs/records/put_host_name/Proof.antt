@@ -1,4 +1,6 @@
-use Rattle.own.proofs.records.Laying.{laid-host}
+use native.Mathlib.Omega.{arith}
+use Rattle.own.proofs.records.Arrays.{sized}
+use Rattle.own.proofs.records.Laying.{held-in, laid-host}
 use borrow.Author.Needs.{needs}
 use Rattle.own.proofs.records.put_host_name.Statement.{statement}
 use Rattle.own.proofs.records.put_host_name.Tie as tie
@@ -7,14 +9,18 @@ use Rattle.own.proofs.records.put_host_name.Lts as lts
 use Rattle.own.proofs.records.put_held.Reads as put-held-reads
 use Rattle.own.proofs.records.put_local.Reads as put-local-reads
 
+slice-aggregate-put-held : tie.Need-slice-aggregate-put-held
+slice-aggregate-put-held c = search needs
+
 put-held-requires : tie.Need-put-held-requires
-put-held-requires c κs = search needs
+put-held-requires c κs = (omega (arith, sized (c .before .before .before .before .args .s .host .bytes) 63 (c .before .before .before .before .good .1 .1 .0 .1 .1 .1 .1 .1 .0 .1 .1 .0 .1 .0 .1)), omega (arith, sized (c .before .before .before .before .args .s .host .bytes) 63 (c .before .before .before .before .good .1 .1 .0 .1 .1 .1 .1 .1 .0 .1 .1 .0 .1 .0 .1)))
 
 put-local-requires : tie.Need-put-local-requires
-put-local-requires c κs = search needs
+put-local-requires c κs = omega (arith, c .before .put-held .ensures .ended, c .before .put-held .ensures .few, sized (c .before .before .before .before .before .before .args .s .host .bytes) 63 (c .before .before .before .before .before .before .good .1 .1 .0 .1 .1 .1 .1 .1 .0 .1 .1 .0 .1 .0 .1))
 
 returns : tie.Need-returns
-returns c = laid-host _ _ _ _ _ _ _ (c .before .before .put-held .ensures) (c .put-local .ensures)
+returns c = laid-host _ _ _ _ _ _ _ (held-in _ _ (c .before .before .before .before .before .before .before .args .s .host .len) (c .before .before .before .before .before .before .before .args .s .host .bytes) _ _ 63 (sized (c .before .before .before .before .before .before .before .args .s .host .bytes) 63 (c .before .before .before .before .before .before .before .good .1 .1 .0 .1 .1 .1 .1 .1 .0 .1 .1 .0 .1 .0 .1)) (c .before .before .put-held .ensures)) (c .put-local .ensures)
 
 pub put-host-name-spec : {M : Type 1} → statement M
-put-host-name-spec = tie.close (tie.spec put-held-requires put-local-requires returns)
+put-host-name-spec =
+    tie.close (tie.spec slice-aggregate-put-held put-held-requires put-local-requires returns)

@@ -4,7 +4,7 @@ use Rattle.own.proofs.records.put_label.Statement.{statement}
 use Rattle.own.proofs.records.put_label.Tie as tie
 use Rattle.own.proofs.records.put_label.Reads as reads
 use Rattle.own.proofs.records.put_label.Lts as lts
-use Rattle.own.proofs.records.put.Reads as put-reads
+use Rattle.wire.proofs.buffer.put.Reads as put-reads
 
 cast-out : tie.Need-cast-out
 cast-out c = search needs

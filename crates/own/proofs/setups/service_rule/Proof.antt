@@ -6,7 +6,7 @@ use Rattle.own.proofs.setups.service_rule.Tie as tie
 use Rattle.own.proofs.setups.service_rule.Reads as reads
 use Rattle.own.proofs.setups.service_rule.Lts as lts
 use Rattle.own.proofs.setups.hyphens_apart.Reads as hyphens-apart-reads
-use Rattle.own.proofs.setups.name_bytes.Reads as name-bytes-reads
+use Rattle.own.proofs.setups.all_name_bytes.Reads as all-name-bytes-reads
 use Rattle.own.proofs.setups.some_letter.Reads as some-letter-reads
 
 returns : tie.Need-returns
@@ -27,23 +27,23 @@ part-name-start c = search needs
 part-name-end : tie.Need-part-name-end
 part-name-end c = search needs
 
-name-bytes-requires : tie.Need-name-bytes-requires
-name-bytes-requires c κs = search needs
+all-name-bytes-requires : tie.Need-all-name-bytes-requires
+all-name-bytes-requires c κs = search needs
 
 returns-3 : tie.Need-returns-3
-returns-3 c = rule-bytes _ (c .before .before .before .before .before .if1 .left) (c .before .before .before .if2 .left) _ (c .before .name-bytes .ensures) (not-true _ (c .if3 .taken))
+returns-3 c = rule-bytes _ (c .before .before .before .before .before .if1 .left) (c .before .before .before .if2 .left) _ (c .before .all-name-bytes .ensures) (not-true _ (c .if3 .taken))
 
 some-letter-requires : tie.Need-some-letter-requires
 some-letter-requires c κs = search needs
 
 returns-4 : tie.Need-returns-4
-returns-4 c = rule-letter _ (c .before .before .before .before .before .before .before .if1 .left) (c .before .before .before .before .before .if2 .left) _ (c .before .before .before .name-bytes .ensures) (not-false _ (c .before .before .if3 .left)) _ (c .before .some-letter .ensures) (not-true _ (c .if4 .taken))
+returns-4 c = rule-letter _ (c .before .before .before .before .before .before .before .if1 .left) (c .before .before .before .before .before .if2 .left) _ (c .before .before .before .all-name-bytes .ensures) (not-false _ (c .before .before .if3 .left)) _ (c .before .some-letter .ensures) (not-true _ (c .if4 .taken))
 
 hyphens-apart-requires : tie.Need-hyphens-apart-requires
 hyphens-apart-requires c κs = search needs
 
 returns-5 : tie.Need-returns-5
-returns-5 c = rule-hyphens _ (c .before .before .before .before .before .before .before .before .if1 .left) (c .before .before .before .before .before .before .if2 .left) _ (c .before .before .before .before .name-bytes .ensures) (not-false _ (c .before .before .before .if3 .left)) _ (c .before .before .some-letter .ensures) (not-false _ (c .before .if4 .left)) _ (c .hyphens-apart .ensures)
+returns-5 c = rule-hyphens _ (c .before .before .before .before .before .before .before .before .if1 .left) (c .before .before .before .before .before .before .if2 .left) _ (c .before .before .before .before .all-name-bytes .ensures) (not-false _ (c .before .before .before .if3 .left)) _ (c .before .before .some-letter .ensures) (not-false _ (c .before .if4 .left)) _ (c .hyphens-apart .ensures)
 
 pub service-rule-spec : {M : Type 1} → statement M
 service-rule-spec =
@@ -55,7 +55,7 @@ service-rule-spec =
     sub-name
     part-name-start
     part-name-end
-    name-bytes-requires
+    all-name-bytes-requires
     returns-3
     some-letter-requires
     returns-4

@@ -1,5 +1,6 @@
 use borrow.Author.Tests.{not-true, not-false}
 use Rattle.wire.proofs.message.Sections.{message-short, message-long, message-header, message-sections}
+use Rattle.wire.proofs.message.Refused.{number-is}
 use borrow.Author.Needs.{needs}
 use Rattle.wire.proofs.message.read_message.Statement.{statement}
 use Rattle.wire.proofs.message.read_message.Tie as tie
@@ -10,10 +11,10 @@ use Rattle.wire.proofs.message.plain_header.Reads as plain-header-reads
 use Rattle.wire.proofs.message.read_sections.Reads as read-sections-reads
 
 returns : tie.Need-returns
-returns c = message-short _ (c .if1 .taken)
+returns c = let h = message-short _ (c .if1 .taken) in (h, number-is _ _ h)
 
 returns-2 : tie.Need-returns-2
-returns-2 c = message-long _ (c .before .if1 .left) (c .if2 .taken)
+returns-2 c = let h = message-long _ (c .before .if1 .left) (c .if2 .taken) in (h, number-is _ _ h)
 
 be16-requires : tie.Need-be16-requires
 be16-requires c κs = search needs
@@ -22,13 +23,13 @@ plain-header-requires : tie.Need-plain-header-requires
 plain-header-requires c κs = search needs
 
 returns-3 : tie.Need-returns-3
-returns-3 c = message-header _ (c .before .before .before .before .if1 .left) (c .before .before .before .if2 .left) _ (c .before .before .be16 .ensures) _ (c .before .plain-header .ensures) (not-true _ (c .if3 .taken))
+returns-3 c = let h = message-header _ (c .before .before .before .before .if1 .left) (c .before .before .before .if2 .left) _ (c .before .before .be16 .ensures) _ (c .before .plain-header .ensures) (not-true _ (c .if3 .taken)) in (h, number-is _ _ h)
 
 read-sections-requires : tie.Need-read-sections-requires
 read-sections-requires c κs = search needs
 
 returns-4 : tie.Need-returns-4
-returns-4 c = message-sections _ (c .before .before .before .before .before .if1 .left) (c .before .before .before .before .if2 .left) _ (c .before .before .before .be16 .ensures) _ (c .before .before .plain-header .ensures) (not-false _ (c .before .if3 .left)) _ (c .read-sections .ensures)
+returns-4 c = let h = message-sections _ (c .before .before .before .before .before .if1 .left) (c .before .before .before .before .if2 .left) _ (c .before .before .before .be16 .ensures) _ (c .before .before .plain-header .ensures) (not-false _ (c .before .if3 .left)) _ (c .read-sections .ensures) in (h, number-is _ _ h)
 
 pub read-message-spec : {M : Type 1} → statement M
 read-message-spec =

@@ -48,7 +48,7 @@ follow-chase-requires : (t : ℕ) → follow-lts.Need-chase-requires (follow-cla
 follow-chase-requires t c κs = omega arith
 
 follow-walk-requires : (t : ℕ) → follow-lts.Need-walk-requires (follow-claims t) (follow-at t) follow.Post
-follow-walk-requires t c κs = (omega (arith, c .before .chase .ensures .back), omega arith)
+follow-walk-requires t c κs = (omega (arith, c .before .chase .ensures .0 .back), omega arith)
 
 follow-enum-known-span : (t : ℕ) → follow-lts.Need-enum-known-span (follow-claims t) (follow-at t) follow.Post
 follow-enum-known-span t c = search needs
@@ -60,10 +60,10 @@ follow-enum-told : (t : ℕ) → follow-lts.Need-enum-told (follow-claims t) (fo
 follow-enum-told t c = search needs
 
 follow-returns : (t : ℕ) → follow-lts.Need-returns (follow-claims t) (follow-at t) follow.Post
-follow-returns t c = followed _ _ _ _ _ (c .before .before .before .before .before .chase .ensures) _ _ _ (c .before .before .before .walk .ensures) _ (c .before .span .given .1)
+follow-returns t c = followed _ _ _ _ _ (c .before .before .before .before .before .chase .ensures .0) _ _ _ (c .before .before .before .walk .ensures) _ (c .before .span .given .1)
 
 follow-returns-2 : (t : ℕ) → follow-lts.Need-returns-2 (follow-claims t) (follow-at t) follow.Post
-follow-returns-2 t c = followed-bad _ _ _ _ _ (c .before .before .before .before .chase .ensures) _ _ _ (c .before .before .walk .ensures) (c .enum-told .given .1)
+follow-returns-2 t c = followed-bad _ _ _ _ _ (c .before .before .before .before .chase .ensures .0) _ _ _ (c .before .before .walk .ensures) (c .enum-told .given .1)
 
 walk-piece-at-requires : (t : ℕ) → walk-lts.Need-piece-at-requires (walk-claims t) (walk-at t) walk.Post
 walk-piece-at-requires t c κs = omega arith

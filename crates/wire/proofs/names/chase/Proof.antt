@@ -4,7 +4,7 @@ use Prim.Native.Nat.{_<_}
 use native.Mathlib.Omega.{arith}
 use Rattle.wire.specs.names.Answers.{Chased}
 use Rattle.wire.proofs.name_pieces.Pieces.{pointer-back}
-use Rattle.wire.proofs.names.Walked.{chased-on, chased-none}
+use Rattle.wire.proofs.names.Walked.{chased-on, chased-none, not-pointer}
 use Rattle.wire.proofs.names.chase.Statement.{statement}
 use Rattle.wire.proofs.names.chase.Tie as tie
 use Rattle.wire.proofs.names.chase.Reads as reads
@@ -36,19 +36,19 @@ enum-told : tie.Need-enum-told Inv-loop μ-loop
 enum-told c = search needs
 
 returns : tie.Need-returns Inv-loop μ-loop
-returns c = c .before .before .before .loop .inv
+returns c = (c .before .before .before .loop .inv, not-pointer _ _ _ _ _ (c .before .before .piece-at .ensures) (c .enum-told .given .1) refl)
 
 enum-told-2 : tie.Need-enum-told-2 Inv-loop μ-loop
 enum-told-2 c = search needs
 
 returns-2 : tie.Need-returns-2 Inv-loop μ-loop
-returns-2 c = c .before .before .before .loop .inv
+returns-2 c = (c .before .before .before .loop .inv, not-pointer _ _ _ _ _ (c .before .before .piece-at .ensures) (c .enum-told2 .given .1) refl)
 
 enum-told-3 : tie.Need-enum-told-3 Inv-loop μ-loop
 enum-told-3 c = search needs
 
 returns-3 : tie.Need-returns-3 Inv-loop μ-loop
-returns-3 c = c .before .before .before .loop .inv
+returns-3 c = (c .before .before .before .loop .inv, not-pointer _ _ _ _ _ (c .before .before .piece-at .ensures) (c .enum-told3 .given .1) refl)
 
 pub chase-spec : {M : Type 1} → statement M
 chase-spec =

@@ -4,9 +4,9 @@ use mathlib.Core.Logic.{⊎-elim}
 use Prim.Native.Nat.{_<_, _+_, _-_}
 use native.Mathlib.Omega.{arith}
 use Rattle.wire.specs.names.Names.{nameAt, fromRun}
-use Rattle.wire.specs.names.Answers.{foundOf}
+use Rattle.wire.specs.names.Answers.{foundOf, seenOf}
 use Rattle.wire.proofs.name_pieces.Pieces.{is-root, label-in, label-room, pointer-in, pointer-back}
-use Rattle.wire.proofs.names.Walked.{seenOf, seen-start, seen-root, seen-root-after, seen-label, seen-pointer-first, seen-pointer, seen-bad}
+use Rattle.wire.proofs.names.Walked.{seen-start, seen-root, seen-root-after, seen-label, seen-pointer, seen-bad, passed-first, passed-later}
 use Rattle.wire.proofs.names.name_at.Statement.{statement}
 use Rattle.wire.proofs.names.name_at.Tie as tie
 use Rattle.wire.proofs.names.name_at.Reads as reads
@@ -74,13 +74,13 @@ loop-less-2 : tie.Need-loop-less-2 Inv-loop μ-loop
 loop-less-2 c = omega (arith, pointer-back _ _ _ _ _ (sym (c .before .before .before .before .piece-at .ensures) ∙ c .before .before .target .given .1))
 
 loop-again-2 : tie.Need-loop-again-2 Inv-loop μ-loop
-loop-again-2 c = (omega arith, c .before .before .before .before .before .loop .inv .1 ∙ seen-pointer-first _ _ _ _ _ _ (c .before .before .before .before .piece-at .ensures) _ (c .before .before .target .given .1) (c .if2 .taken))
+loop-again-2 c = (omega arith, c .before .before .before .before .before .loop .inv .1 ∙ seen-pointer _ _ _ _ _ _ (c .before .before .before .before .piece-at .ensures) _ (c .before .before .target .given .1) ∙ sym (passed-first _ _ _ _ _ (c .if2 .taken)))
 
 loop-less-3 : tie.Need-loop-less-3 Inv-loop μ-loop
 loop-less-3 c = omega (arith, pointer-back _ _ _ _ _ (sym (c .before .before .before .before .piece-at .ensures) ∙ c .before .before .target .given .1))
 
 loop-again-3 : tie.Need-loop-again-3 Inv-loop μ-loop
-loop-again-3 c = (omega arith, c .before .before .before .before .before .loop .inv .1 ∙ seen-pointer _ _ _ _ _ _ (c .before .before .before .before .piece-at .ensures) _ (c .before .before .target .given .1) (c .if2 .left))
+loop-again-3 c = (omega arith, c .before .before .before .before .before .loop .inv .1 ∙ seen-pointer _ _ _ _ _ _ (c .before .before .before .before .piece-at .ensures) _ (c .before .before .target .given .1) ∙ sym (passed-later _ _ _ _ _ (c .if2 .left)))
 
 enum-told-2 : tie.Need-enum-told-2 Inv-loop μ-loop
 enum-told-2 c = search needs

@@ -1,14 +1,16 @@
 use borrow.Author.Needs.{needs}
 use native.Mathlib.Omega.{arith}
-use mathlib.Core.Path.{_≡_, refl}
-use Prim.Native.Nat.{_≤_, _-_}
+use mathlib.Core.Path.{_≡_, refl, sym, ap, _∙_}
+use Prim.Native.Nat.{ℕ, _≤_, _-_}
 use lib.ListN.{length, drop}
 use Rattle.wire.specs.rdata.Rdata.{stringsFill}
 use Rattle.wire.proofs.rdata.Strings.{string-fits, string-over, strings-end}
+use Rattle.wire.proofs.rdata.Parts.{found-there, ends-there, cut-there}
 use Rattle.wire.proofs.rdata.strings_fill.Statement.{statement}
 use Rattle.wire.proofs.rdata.strings_fill.Tie as tie
 use Rattle.wire.proofs.rdata.strings_fill.Reads as reads
 use Rattle.wire.proofs.rdata.strings_fill.Lts as lts
+use Rattle.wire.proofs.rdata.string_at.Reads as string-at-reads
 
 abbrev Inv-loop : tie.InvT-loop
 Inv-loop d at₀ at = (at ≤ length d) × (stringsFill 0 d ≡ stringsFill 0 (drop at d))
@@ -19,35 +21,33 @@ abbrev μ-loop : tie.MeasureT-loop
 loop-holds : tie.Need-loop-holds Inv-loop μ-loop
 loop-holds c = (search needs, refl)
 
-shared-slice-read-n : tie.Need-shared-slice-read-n Inv-loop μ-loop
-shared-slice-read-n c = search needs
+string-at-requires : tie.Need-string-at-requires Inv-loop μ-loop
+string-at-requires c κs = search needs
 
-cast-n : tie.Need-cast-n Inv-loop μ-loop
-cast-n c = omega (arith, c .shared-slice-known .given (c .before .before .loop .at))
-
-sub-left : tie.Need-sub-left Inv-loop μ-loop
-sub-left c = search needs
-
-sub-left-2 : tie.Need-sub-left-2 Inv-loop μ-loop
-sub-left-2 c = search needs
-
-returns : tie.Need-returns Inv-loop μ-loop
-returns c = string-over _ (c .before .before .before .loop .at) _ (omega arith) refl (c .before .before .before .loop .inv .1) (omega arith)
-
-add-at : tie.Need-add-at Inv-loop μ-loop
-add-at c = search needs
-
-add-at-2 : tie.Need-add-at-2 Inv-loop μ-loop
-add-at-2 c = search needs
+enum-known-s : tie.Need-enum-known-s Inv-loop μ-loop
+enum-known-s c = search needs
 
 loop-less : tie.Need-loop-less Inv-loop μ-loop
-loop-less c = search needs
+loop-less c = let f = found-there _ _ _ (sym (c .before .before .before .string-at .ensures) ∙ c .before .s .given .1) in omega (arith, f .0, f .1, f .2)
 
 loop-again : tie.Need-loop-again Inv-loop μ-loop
-loop-again c = (omega arith, string-fits _ (c .before .before .before .loop .at) _ (omega arith) refl (c .before .before .before .loop .inv .1) (omega arith))
+loop-again c =
+    let f = found-there _ _ _ (sym (c .before .before .before .string-at .ensures) ∙ c .before .s .given .1) in
+    (omega (arith, f .1, f .2), string-fits _ (c .before .before .before .before .loop .at) _ (f .0) refl (c .before .before .before .before .loop .inv .1) (f .1) ∙ ap (λ (n : ℕ). stringsFill 0 (drop n (c .before .before .before .before .before .before .args .d .now))) (sym (f .2)))
+
+enum-told : tie.Need-enum-told Inv-loop μ-loop
+enum-told c = search needs
+
+returns : tie.Need-returns Inv-loop μ-loop
+returns c = strings-end _ _ (ends-there _ _ (sym (c .before .before .string-at .ensures) ∙ c .enum-told .given .1)) (c .before .before .before .loop .inv .1)
+
+enum-told-2 : tie.Need-enum-told-2 Inv-loop μ-loop
+enum-told-2 c = search needs
 
 returns-2 : tie.Need-returns-2 Inv-loop μ-loop
-returns-2 c = strings-end _ _ (c .loop-test .left) (c .before .loop .inv .1)
+returns-2 c =
+    let f = cut-there _ _ (sym (c .before .before .string-at .ensures) ∙ c .enum-told2 .given .1) in
+    string-over _ (c .before .before .before .loop .at) _ (f .0) refl (c .before .before .before .loop .inv .1) (f .1)
 
 pub strings-fill-spec : {M : Type 1} → statement M
 strings-fill-spec =
@@ -56,13 +56,11 @@ strings-fill-spec =
     Inv-loop
     μ-loop
     loop-holds
-    shared-slice-read-n
-    cast-n
-    sub-left
-    sub-left-2
-    returns
-    add-at
-    add-at-2
+    string-at-requires
+    enum-known-s
     loop-less
     loop-again
+    enum-told
+    returns
+    enum-told-2
     returns-2)

@@ -45,7 +45,10 @@ enum-known-o : tie.Need-enum-known-o Inv-loop μ-loop
 enum-known-o c = search needs
 
 returns-2 : tie.Need-returns-2 Inv-loop μ-loop
-returns-2 c = cut-found _ _ _ (c .before .before .before .before .before .before .before .before .loop .i) (c .before .before .before .before .before .before .before .before .loop .inv .1) (omega arith) (c .before .before .before .before .before .if1 .left) _ (c .before .before .before .place-of .ensures) _ (c .before .o .given .1)
+returns-2 c =
+    cut-found _ _ _ (c .before .before .before .before .before .before .before .before .loop .i)
+    (c .before .before .before .before .before .before .before .before .loop .inv .1) (omega arith) (c .before .before .before .before .before .if1 .left) _
+    (c .before .before .before .place-of .ensures) _ (c .before .o .given .1)
 
 enum-told : tie.Need-enum-told Inv-loop μ-loop
 enum-told c = search needs
@@ -54,7 +57,10 @@ sub-if2 : tie.Need-sub-if2 Inv-loop μ-loop
 sub-if2 c = search needs
 
 returns-3 : tie.Need-returns-3 Inv-loop μ-loop
-returns-3 c = cut-long _ _ _ (c .before .before .before .before .before .before .before .before .loop .i) (c .before .before .before .before .before .before .before .before .loop .inv .1) (omega arith) (c .before .before .before .before .before .if1 .left) _ (c .before .before .before .place-of .ensures) (c .before .enum-told .given .1) (c .if2 .taken)
+returns-3 c =
+    cut-long _ _ _ (c .before .before .before .before .before .before .before .before .loop .i)
+    (c .before .before .before .before .before .before .before .before .loop .inv .1) (omega arith) (c .before .before .before .before .before .if1 .left) _
+    (c .before .before .before .place-of .ensures) (c .before .enum-told .given .1) (c .if2 .taken)
 
 add-i : tie.Need-add-i Inv-loop μ-loop
 add-i c = search needs
@@ -66,7 +72,12 @@ loop-less : tie.Need-loop-less Inv-loop μ-loop
 loop-less c = search needs
 
 loop-again : tie.Need-loop-again Inv-loop μ-loop
-loop-again c = (omega arith, cut-on _ _ _ (c .before .before .before .before .before .before .before .before .loop .i) (c .before .before .before .before .before .before .before .before .loop .inv .1) (omega arith) (c .before .before .before .before .before .if1 .left) _ (c .before .before .before .place-of .ensures) (c .before .enum-told .given .1) (c .if2 .left))
+loop-again c = (
+  omega arith,
+  cut-on _ _ _ (c .before .before .before .before .before .before .before .before .loop .i)
+      (c .before .before .before .before .before .before .before .before .loop .inv .1) (omega arith) (c .before .before .before .before .before .if1 .left) _
+      (c .before .before .before .place-of .ensures) (c .before .enum-told .given .1) (c .if2 .left),
+)
 
 returns-4 : tie.Need-returns-4 Inv-loop μ-loop
 returns-4 c = cut-end _ _ _ (c .before .loop .i) (c .before .loop .inv .1) (omega arith)

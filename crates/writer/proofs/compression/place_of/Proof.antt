@@ -30,7 +30,9 @@ stands-at-requires : tie.Need-stands-at-requires Inv-loop μ-loop
 stands-at-requires c κs = search needs
 
 returns : tie.Need-returns Inv-loop μ-loop
-returns c = place-here _ _ _ (c .before .before .before .before .loop .i) (c .before .before .before .before .loop .inv .1) (omega arith) _ (c .before .stands-at .ensures) (c .if1 .taken)
+returns c =
+    place-here _ _ _ (c .before .before .before .before .loop .i) (c .before .before .before .before .loop .inv .1) (omega arith) _
+    (c .before .stands-at .ensures) (c .if1 .taken)
 
 add-i : tie.Need-add-i Inv-loop μ-loop
 add-i c = search needs
@@ -39,7 +41,11 @@ loop-less : tie.Need-loop-less Inv-loop μ-loop
 loop-less c = search needs
 
 loop-again : tie.Need-loop-again Inv-loop μ-loop
-loop-again c = (omega arith, place-on _ _ _ (c .before .before .before .before .loop .i) (c .before .before .before .before .loop .inv .1) (omega arith) _ (c .before .stands-at .ensures) (c .if1 .left))
+loop-again c = (
+  omega arith,
+  place-on _ _ _ (c .before .before .before .before .loop .i) (c .before .before .before .before .loop .inv .1) (omega arith) _
+      (c .before .stands-at .ensures) (c .if1 .left),
+)
 
 returns-2 : tie.Need-returns-2 Inv-loop μ-loop
 returns-2 c = place-end _ _ _ (c .before .loop .i) (c .before .loop .inv .1) (omega arith)

@@ -14,10 +14,15 @@ enum-known-name : tie.Need-enum-known-name
 enum-known-name c = search needs
 
 array-share-prefix-bytes : tie.Need-array-share-prefix-bytes
-array-share-prefix-bytes c = front-fits (c .before .before .before .before .before .before .before .args .p .now) (c .before .before .before .before .before .before .before .args .at) _ (c .before .before .before .before .expand .ensures) _ (c .before .name .given .1)
+array-share-prefix-bytes c =
+    front-fits (c .before .before .before .before .before .before .before .args .p .now) (c .before .before .before .before .before .before .before .args .at) _
+    (c .before .before .before .before .expand .ensures) _ (c .before .name .given .1)
 
 slice-aggregate-same-bytes : tie.Need-slice-aggregate-same-bytes
-slice-aggregate-same-bytes c = front-long (c .before .before .before .before .before .before .before .before .args .p .now) (c .before .before .before .before .before .before .before .before .args .at) _ (c .before .before .before .before .before .expand .ensures) _ (c .before .before .name .given .1)
+slice-aggregate-same-bytes c =
+    front-long (c .before .before .before .before .before .before .before .before .args .p .now)
+    (c .before .before .before .before .before .before .before .before .args .at) _ (c .before .before .before .before .before .expand .ensures) _
+    (c .before .before .name .given .1)
 
 same-bytes-requires : tie.Need-same-bytes-requires
 same-bytes-requires c κs = search needs
@@ -26,7 +31,9 @@ enum-told : tie.Need-enum-told
 enum-told c = search needs
 
 returns : tie.Need-returns
-returns c = stands-found _ _ _ (c .before .before .before .before .before .before .expand .ensures) _ (c .before .before .before .name .given .1) _ _ (c .same-bytes .ensures)
+returns c =
+    stands-found _ _ _ (c .before .before .before .before .before .before .expand .ensures) _ (c .before .before .before .name .given .1) _ _
+    (c .same-bytes .ensures)
 
 returns-2 : tie.Need-returns-2
 returns-2 c = stands-bad _ _ _ (c .before .before .before .expand .ensures) _ (c .enum-told .given .1)

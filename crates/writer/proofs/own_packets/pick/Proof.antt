@@ -29,7 +29,9 @@ loop-less : tie.Need-loop-less Inv-loop μ-loop
 loop-less c = search needs
 
 loop-again : tie.Need-loop-again Inv-loop μ-loop
-loop-again c = not-chosen _ _ _ _ _ (c .before .before .before .before .loop .inv) (omega arith) _ (c .before .before .record-at .ensures) _ (c .before .is-in .ensures) (not-true _ (c .if1 .taken))
+loop-again c =
+    not-chosen _ _ _ _ _ (c .before .before .before .before .loop .inv) (omega arith) _ (c .before .before .record-at .ensures) _ (c .before .is-in .ensures)
+    (not-true _ (c .if1 .taken))
 
 has-record-requires : tie.Need-has-record-requires Inv-loop μ-loop
 has-record-requires c κs = search needs
@@ -41,7 +43,9 @@ loop-less-2 : tie.Need-loop-less-2 Inv-loop μ-loop
 loop-less-2 c = search needs
 
 loop-again-2 : tie.Need-loop-again-2 Inv-loop μ-loop
-loop-again-2 c = not-there _ _ _ _ _ (c .before .before .before .before .before .before .loop .inv) (omega arith) _ (c .before .before .before .before .record-at .ensures) _ (c .before .has-record .ensures) (not-true _ (c .if2 .taken))
+loop-again-2 c =
+    not-there _ _ _ _ _ (c .before .before .before .before .before .before .loop .inv) (omega arith) _ (c .before .before .before .before .record-at .ensures) _
+    (c .before .has-record .ensures) (not-true _ (c .if2 .taken))
 
 mul-order : tie.Need-mul-order Inv-loop μ-loop
 mul-order c = search needs
@@ -59,7 +63,9 @@ loop-less-3 : tie.Need-loop-less-3 Inv-loop μ-loop
 loop-less-3 c = search needs
 
 loop-again-3 : tie.Need-loop-again-3 Inv-loop μ-loop
-loop-again-3 c = taken _ _ _ _ _ (c .before .before .before .before .before .before .loop .inv) (omega arith) _ (c .before .before .before .before .record-at .ensures) _ (c .before .before .before .is-in .ensures) (not-false _ (c .before .before .if1 .left)) _ (c .before .has-record .ensures) (not-false _ (c .if2 .left))
+loop-again-3 c =
+    taken _ _ _ _ _ (c .before .before .before .before .before .before .loop .inv) (omega arith) _ (c .before .before .before .before .record-at .ensures) _
+    (c .before .before .before .is-in .ensures) (not-false _ (c .before .before .if1 .left)) _ (c .before .has-record .ensures) (not-false _ (c .if2 .left))
 
 returns : tie.Need-returns Inv-loop μ-loop
 returns c = picked-all _ _ _ _ _ (c .before .loop .inv) (omega arith)

@@ -25,10 +25,14 @@ array-write-order-2 : tie.Need-array-write-order-2
 array-write-order-2 c = search needs
 
 returns : tie.Need-returns
-returns c = both-picks _ _ _ _ (c .before .before .before .before .before .first-of .ensures) (c .before .before .before .before .second-of .ensures) _ _ (c .before .before .before .index-of .ensures) (c .before .before .index-of2 .ensures) _ (c .before .has-record .ensures) (c .if1 .taken)
+returns c =
+    both-picks _ _ _ _ (c .before .before .before .before .before .first-of .ensures) (c .before .before .before .before .second-of .ensures) _ _
+    (c .before .before .before .index-of .ensures) (c .before .before .index-of2 .ensures) _ (c .before .has-record .ensures) (c .if1 .taken)
 
 returns-2 : tie.Need-returns-2
-returns-2 c = one-picks _ _ _ _ (c .before .before .before .before .before .first-of .ensures) (c .before .before .before .before .second-of .ensures) _ _ (c .before .before .before .index-of .ensures) (c .before .before .index-of2 .ensures) _ (c .before .has-record .ensures) (c .if1 .left)
+returns-2 c =
+    one-picks _ _ _ _ (c .before .before .before .before .before .first-of .ensures) (c .before .before .before .before .second-of .ensures) _ _
+    (c .before .before .before .index-of .ensures) (c .before .before .index-of2 .ensures) _ (c .before .has-record .ensures) (c .if1 .left)
 
 pub pick-claim-spec : {M : Type 1} → statement M
 pick-claim-spec =

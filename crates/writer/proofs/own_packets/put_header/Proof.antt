@@ -4,7 +4,7 @@ use Rattle.writer.proofs.own_packets.put_header.Statement.{statement}
 use Rattle.writer.proofs.own_packets.put_header.Tie as tie
 use Rattle.writer.proofs.own_packets.put_header.Reads as reads
 use Rattle.writer.proofs.own_packets.put_header.Lts as lts
-use Rattle.writer.proofs.own_packets.put_u16.Reads as put-u16-reads
+use Rattle.writer.proofs.put_u16.Reads as put-u16-reads
 
 put-u16-requires : tie.Need-put-u16-requires
 put-u16-requires c κs = search needs
@@ -28,7 +28,13 @@ same-length : tie.Need-same-length
 same-length c = search needs
 
 returns : tie.Need-returns
-returns c = six (c .before .before .before .before .before .before .before .before .before .before .before .before .before .before .before .before .before .before .before .before .before .before .before .before .before .args .out .now) (c .before .before .before .before .before .before .before .before .before .before .before .before .before .before .before .before .before .before .before .before .before .before .before .before .before .args .id) (c .before .before .before .before .before .before .before .before .before .before .before .before .before .before .before .before .before .before .before .before .before .before .before .before .before .args .flags) (c .before .before .before .before .before .before .before .before .before .before .before .before .before .before .before .before .before .before .before .before .before .before .before .before .before .args .questions) (c .before .before .before .before .before .before .before .before .before .before .before .before .before .before .before .before .before .before .before .before .before .before .before .before .before .args .answers) (c .before .before .before .before .before .before .before .before .before .before .before .before .before .before .before .before .before .before .before .before .before .before .before .before .before .args .authorities) 0 _ _ _ _ _ _ (c .before .before .before .before .before .before .before .before .before .before .before .before .before .before .before .before .before .before .before .before .before .before .put-u16 .ensures) (c .before .before .before .before .before .before .before .before .before .before .before .before .before .before .before .before .before .before .put-u162 .ensures) (c .before .before .before .before .before .before .before .before .before .before .before .before .before .before .put-u163 .ensures) (c .before .before .before .before .before .before .before .before .before .before .put-u164 .ensures) (c .before .before .before .before .before .before .put-u165 .ensures) (c .before .before .put-u166 .ensures)
+returns c =
+    let ten = c .before .before .before .before .before .before .before .before .before .before in
+    let twenty = ten .before .before .before .before .before .before .before .before .before .before in
+    let a = twenty .before .before .before .before .before .args in
+    six (a .out .now) (a .id) (a .flags) (a .questions) (a .answers) (a .authorities) 0 _ _ _ _ _ _ (twenty .before .before .put-u16 .ensures)
+    (ten .before .before .before .before .before .before .before .before .put-u162 .ensures) (ten .before .before .before .before .put-u163 .ensures)
+    (ten .put-u164 .ensures) (c .before .before .before .before .before .before .put-u165 .ensures) (c .before .before .put-u166 .ensures)
 
 pub put-header-spec : {M : Type 1} → statement M
 put-header-spec =

@@ -1,0 +1,81 @@
+// The exported readers of rdata from C, over the reader's archive alone: an announcement by hand, its SRV, TXT, A and AAAA, and parts that are none of them.
+// Says what fails, and the count. Run by tests/capi.sh.
+#include "kurgashel.h"
+#include <stdio.h>
+#include <string.h>
+
+static int failed, cases;
+static void expect(int ok, const char *what) { cases++; if (!ok) { failed++; printf("FAILED: %s\n", what); } }
+
+// the owner at 12, "local" in it at 30; SRV rdata at 47, its target at 53; TXT rdata at 72; A rdata at 100; AAAA rdata at 116
+static const uint8_t message[] = "\0\0\x84\0\0\0\0\4\0\0\0\0"
+    "\5booth\6_voice\4_tcp\5local\0" "\0\x21\x80\1\0\0\0\x78\0\x0d" "\0\1\0\2\x0f\xa0" "\4dock\xc0\x1e"
+    "\xc0\x0c" "\0\x10\x80\1\0\0\x11\x94\0\x10" "\6room=3\0\7passreq"
+    "\xc0\x35" "\0\1\x80\1\0\0\0\x78\0\4" "\n\0\0\7"
+    "\xc0\x35" "\0\x1c\x80\1\0\0\0\x78\0\x10" "\xfe\x80\0\0\0\0\0\0\0\0\0\0\0\0\0\7";
+enum { BYTES = sizeof message - 1, A = 1, TXT = 16, AAAA = 28, SRV = 33 };
+
+static int none(struct kurgashel_srv s) { return !s.found && !s.priority && !s.weight && !s.port && !s.target && !s.target_length; }
+static struct kurgashel_srv srv(size_t at, size_t length) { return kurgashel_srv(message, BYTES, at, length); }
+
+static void walk(void) {
+    static const struct { uint16_t rtype; size_t at, rdata, length, next; } records[] = { { SRV, 12, 47, 13, 60 }, { TXT, 60, 72, 16, 88 }, { A, 88, 100, 4, 104 }, { AAAA, 104, 116, 16, 132 } };
+    expect(BYTES == 132 && !kurgashel_message(message, BYTES).refusal && kurgashel_message(message, BYTES).end == 132, "the announcement is well formed");
+    for (size_t i = 0; i < 4; i++) {
+        struct kurgashel_record r = kurgashel_record(message, BYTES, records[i].at);
+        expect(r.found && r.rtype == records[i].rtype && r.rdata == records[i].rdata && r.rdata_length == records[i].length && r.next == records[i].next, "a record");
+    }
+}
+
+static void services(void) {
+    struct kurgashel_srv s = srv(47, 13);
+    expect(s.found && s.priority == 1 && s.weight == 2 && s.port == 4000 && s.target == 53 && s.target_length == 12, "the SRV");
+    struct kurgashel_name name = kurgashel_name(message, BYTES, s.target);
+    expect(name.length == 12 && !memcmp(name.bytes, "\4dock\5local", 12), "its target, uncompressed");
+    expect(none(srv(47, 12)) && none(srv(47, 14)) && none(srv(48, 12)), "the target has to end where the part does");
+    expect(none(srv(47, 6)) && none(srv(47, 5)) && none(srv(47, 0)), "no target, and no numbers");
+    expect(none(srv(100, 4)) && none(srv(72, 16)), "an address and strings are no SRV");
+    expect(none(srv(47, 1000)) && none(srv(47, SIZE_MAX)) && none(srv(SIZE_MAX, 13)) && none(srv(133, 0)), "a part past the message");
+    expect(none(kurgashel_srv(message, 59, 47, 13)) && none(kurgashel_srv(NULL, 0, 0, 0)), "a message that is cut, and none");
+    static const uint8_t cached[18] = "\xff\xff\0\0\1\2\4dock\5local";
+    s = kurgashel_srv(cached, 18, 0, 18);
+    expect(s.found && s.priority == 65535 && !s.weight && s.port == 258 && s.target == 6 && s.target_length == 12, "uncompressed rdata, as in the cache");
+}
+
+static int address(uint16_t rtype, size_t at, size_t length, const char *bytes, size_t count) {
+    struct kurgashel_address a = kurgashel_address(message, BYTES, rtype, at, length);
+    static const uint8_t zeros[16];
+    return a.length == count && !memcmp(a.bytes, bytes, count) && !memcmp(a.bytes + count, zeros, 16 - count);
+}
+
+static void addresses(void) {
+    expect(address(A, 100, 4, "\n\0\0\7", 4), "the A's address, zeros behind it");
+    expect(address(AAAA, 116, 16, "\xfe\x80\0\0\0\0\0\0\0\0\0\0\0\0\0\7", 16), "the AAAA's");
+    expect(address(AAAA, 100, 4, "", 0) && address(A, 116, 16, "", 0), "4 bytes are no AAAA, and 16 no A");
+    expect(address(A, 100, 3, "", 0) && address(A, 100, 5, "", 0) && address(AAAA, 116, 15, "", 0), "a byte less or more");
+    expect(address(TXT, 72, 16, "", 0) && address(SRV, 100, 4, "", 0) && address(255, 100, 0, "", 0), "other types have none");
+    expect(address(A, 130, 4, "", 0) && address(A, SIZE_MAX, 4, "", 0) && address(A, 100, SIZE_MAX, "", 0), "a part past the message");
+    expect(!kurgashel_address(NULL, 0, A, 0, 0).length, "no message");
+}
+
+static int string(size_t at, uint8_t refusal, bool found, size_t text, size_t length, size_t next) {
+    struct kurgashel_txt_string s = kurgashel_txt_string(message + 72, 16, at);
+    return s.refusal == refusal && s.found == found && s.text == text && s.length == length && s.next == next;
+}
+
+static void strings(void) {
+    expect(string(0, 0, true, 1, 6, 7) && string(7, 0, true, 8, 0, 8) && string(8, 0, true, 9, 7, 16), "three strings, the second empty");
+    expect(string(16, 0, false, 0, 0, 0) && string(17, 0, false, 0, 0, 0) && string(SIZE_MAX, 0, false, 0, 0, 0), "the end");
+    expect(string(1, 6, false, 0, 0, 0) && string(15, 6, false, 0, 0, 0), "a string past the end");
+    expect(kurgashel_txt_string(message + 72, 15, 8).refusal == 6 && kurgashel_txt_string(message + 72, 8, 7).found, "a TXT that is cut");
+    expect(!kurgashel_txt_string(NULL, 0, 0).found && !kurgashel_txt_string(NULL, 0, 0).refusal, "no TXT");
+}
+
+int main(void) {
+    walk();
+    services();
+    addresses();
+    strings();
+    printf("reader: %d cases, %d failed\n", cases, failed);
+    return failed != 0;
+}

@@ -1,0 +1,30 @@
+-- A call to which the theorem applies, by evaluation. Assumes nothing.
+use mathlib.Core.Path.{refl}
+use Rattle.wire.specs.case_folding.Fold.{sameName}
+use Rattle.wire.specs.name_pieces.Pieces.{pieceAt}
+use Rattle.wire.specs.names.Names.{readFrom, fromRun, nameAt}
+use Rattle.wire.specs.rdata.Rdata.{stringsFill, rdataIn, rdataAt}
+use Rattle.wire.specs.expansion.Equal.{sameBytes}
+use Rattle.wire.specs.Lists.{some}
+use Rattle.wire.specs.message.Layout.{questionRead, questionAt, recordRead, recordAt, listFrom, andThen, messageAt}
+use Rattle.own.specs.records.Setups.{labelFits, isLetter, isNameByte, allNameBytes, someLetter, hyphensApart, serviceRule, serviceFits, protocolFits, domainFits, txtFits, validSetup, serviceLabels, instanceLabels, hostLabels}
+use Rattle.own.specs.records.Records.{hasRecord, ownLabels, ownName, ownRdata}
+use Rattle.claims.specs.Refusals.{multicastsKept, kept, wrongTime}
+use Rattle.claims.specs.records.Sets.{everyOf}
+use Rattle.facts.specs.probe.Probe.{isProbe}
+use Rattle.facts.specs.Facts.{isAsked, isKnown}
+use Rattle.writer.specs.compression.Compression.{standsAt, placeOf, cutFrom, nameBytes, starts, namePlaces}
+use Rattle.writer.specs.Items.{putName, dataBytes, dataPlaces, putFields}
+use Rattle.writer.specs.own_packets.Packets.{packetOf}
+use Rattle.responder.specs.Refusals.{wrongState, receiveRefusal}
+use Rattle.responder.specs.Causes.{isDue, hasCause}
+use Rattle.causes.specs.Witness.{query, Witness}
+
+pub witness : Witness
+unfolding query receiveRefusal wrongState wrongTime kept multicastsKept everyOf validSetup labelFits isLetter isNameByte allNameBytes someLetter hyphensApart serviceRule serviceFits protocolFits domainFits txtFits stringsFill sameBytes messageAt andThen listFrom questionAt questionRead recordAt recordRead nameAt fromRun readFrom pieceAt rdataAt rdataIn isDue hasCause isProbe isAsked isKnown some sameName hasRecord ownLabels ownName ownRdata serviceLabels instanceLabels hostLabels packetOf putName dataBytes dataPlaces putFields nameBytes namePlaces starts cutFrom placeOf standsAt
+witness = record {
+  known = record { accepted = refl; message = refl };
+  left = refl;
+  unknown = record { accepted = refl; message = refl };
+  goes = refl;
+}

@@ -1,0 +1,18 @@
+-- `console::calls::at_first` meets its contract. Assumes nothing.
+use Rattle.console.specs.Lines.{heldAtFirst}
+use borrow.Author.Needs.{needs}
+use Rattle.console.proofs.calls.at_first.Statement.{statement}
+use Rattle.console.proofs.calls.at_first.Tie as tie
+
+at-first-requires : tie.Need-at-first-requires
+at-first-requires c κs = search needs
+
+no-entries-requires : tie.Need-no-entries-requires
+no-entries-requires c κs = search needs
+
+returns : tie.Need-returns
+unfolding heldAtFirst
+returns c = λ i. record { state = c .before .at-first .ensures i; entries = c .no-entries .ensures i }
+
+pub at-first-spec : {M : Type 1} → statement M
+at-first-spec = tie.close (tie.spec at-first-requires no-entries-requires returns)

@@ -1,0 +1,51 @@
+-- What a line makes of all that the console holds between lines: the responder, the table of the cache, its byte store and the out buffer.
+-- Assumes nothing: these are definitions.
+use Prim.Native.Nat.{ℕ}
+use mathlib.Core.List.{List}
+use mathlib.Core.Bool.{Bool, cond, _||_}
+use lib.ListN.{length, getD, replicate}
+use lib.Dec.{ltb, eqb}
+use Rattle.cache.specs.entries.Entries.{blank}
+use Rattle.console_text.specs.fields.Numbers.{fieldAt}
+use Rattle.console_calls.specs.cache_calls.Lines.{isCacheCall, cacheAfter}
+use Rattle.console_responder.specs.Forms.{isResponderCall}
+use Rattle.console_responder.specs.Lines.{unstarted, responderAfter}
+use Rattle.console.specs.declared.calls.Held.{Held}
+
+-- what is held, with the store and the out buffer
+pub record Console : Type 0 where
+  pub held : Held
+  pub store : List ℕ
+  pub out : List ℕ
+
+-- before the first line: no responder has started, and the table is zeros
+unfoldable pub heldAtFirst : Held
+heldAtFirst = record { state = unstarted; entries = replicate 64 blank }
+
+-- after a call on the responder, and after one on the cache
+abbrev pub byResponder : List ℕ → Console → Console
+byResponder line c = record {
+  held = record { state = responderAfter line (c .held .state) (c .out) .state; entries = c .held .entries };
+  store = c .store;
+  out = responderAfter line (c .held .state) (c .out) .out;
+}
+
+abbrev pub byCache : List ℕ → Console → Console
+byCache line c = record {
+  held = record { state = c .held .state; entries = cacheAfter line (c .held .entries) (c .store) .entries };
+  store = cacheAfter line (c .held .entries) (c .store) .store;
+  out = c .out;
+}
+
+-- after a call, by its first word: those that hold nothing, and words that are no call, leave all
+unfoldable pub afterCall : List ℕ → Console → Console
+afterCall line c =
+    cond (isResponderCall (fieldAt line 0)) (byResponder line c) (cond (isCacheCall (fieldAt line 0)) (byCache line c) c)
+
+-- an empty line, a comment ('#', 35) and a line of more than 40,000 bytes are no call
+abbrev pub isNoCall : List ℕ → Bool
+isNoCall line = eqb (length line) 0 || (eqb (getD line 0 0) 35 || ltb 40000 (length line))
+
+-- after a line
+unfoldable pub afterLine : List ℕ → Console → Console
+afterLine line c = cond (isNoCall line) c (afterCall line c)

@@ -1,0 +1,196 @@
+-- The forms of the calls on the responder, from what the code has tested. Assumes nothing.
+use mathlib.Core.Path.{_≡_, sym, ap, _∙_}
+use mathlib.Core.List.{List}
+use mathlib.Core.Bool.{Bool, true, false}
+use Prim.Native.Nat.{ℕ, _+_, _≤_, _<_}
+use native.Mathlib.Omega.{arith}
+use lib.ListN.{length}
+use lib.Dec.{ltb, eqb}
+use borrow.Author.Tests.{lt-ltb, le-ltb}
+use Rattle.wire.specs.expansion.Equal.{sameBytes}
+use Rattle.console_text.specs.hex.Bytes.{bytesOf, isBytes}
+use Rattle.console_text.specs.lines.Fields.{fieldsOf}
+use Rattle.console_text.specs.fields.Numbers.{fieldAt, isNumberAt, numberAt}
+use Rattle.console_text.specs.fields.Forms.{argumentsOf, hasArguments, areBytesAt}
+use Rattle.console_responder.specs.Forms.{startWord, recvWord, tickWord, claimsWord, outWord, isResponderCall, isBytesOf, isAaaa, areNames, isStart, isNumberOrMissing, isRecv, isTick, lentBy}
+
+-- how many fields follow the first, against a bound
+module _ (line : List ℕ) (r n : ℕ) (e : r + 1 ≡ length (fieldsOf line)) where
+  pub fewer : r < n → ltb (argumentsOf line) n ≡ true
+  fewer h = lt-ltb (argumentsOf line) n (omega arith)
+
+  pub no-fewer : n ≤ r → ltb (argumentsOf line) n ≡ false
+  no-fewer h = le-ltb (argumentsOf line) n (omega arith)
+
+  pub more : n < r → ltb n (argumentsOf line) ≡ true
+  more h = lt-ltb n (argumentsOf line) (omega arith)
+
+  pub no-more : r ≤ n → ltb n (argumentsOf line) ≡ false
+  no-more h = le-ltb n (argumentsOf line) (omega arith)
+
+-- the last field, which may be missing
+module _ (line : List ℕ) (index : ℕ) where
+  pub missing : ltb (argumentsOf line) index ≡ true → true ≡ isNumberOrMissing line index
+  unfolding isNumberOrMissing
+  missing m = simp m
+
+  pub not-missing : ltb (argumentsOf line) index ≡ false → (r : Bool) → r ≡ isNumberAt line index → r ≡ isNumberOrMissing line index
+  unfolding isNumberOrMissing
+  not-missing m r e = e ∙ sym (simp m)
+
+  pub usual : ltb (argumentsOf line) index ≡ true → 1452 ≡ lentBy line index
+  unfolding lentBy
+  usual m = simp m
+
+  pub asked : ltb (argumentsOf line) index ≡ false → (n : ℕ) → n ≡ numberAt line index → n ≡ lentBy line index
+  unfolding lentBy
+  asked m n e = e ∙ sym (simp m)
+
+-- a field of so many bytes
+module _ (field : List ℕ) (n : ℕ) where
+  pub no-bytes : isBytes field ≡ false → false ≡ isBytesOf field n
+  unfolding isBytesOf
+  no-bytes b = simp b
+
+  pub so-many : isBytes field ≡ true → (k : ℕ) → k ≡ length (bytesOf field) → eqb k n ≡ isBytesOf field n
+  unfolding isBytesOf
+  so-many b k e = ap (λ (m : ℕ). eqb m n) e ∙ sym (simp b)
+
+module _ (field : List ℕ) where
+  pub an-address : isBytesOf field 16 ≡ true → true ≡ isAaaa field
+  unfolding isAaaa
+  an-address h = simp h
+
+  pub or-none : isBytesOf field 16 ≡ false → (r : Bool) → r ≡ isBytesOf field 0 → r ≡ isAaaa field
+  unfolding isAaaa
+  or-none h r e = e ∙ sym (simp h)
+
+-- a word is one of the calls
+module _ (word : List ℕ) where
+  pub word-1 : sameBytes word startWord ≡ true → true ≡ isResponderCall word
+  unfolding isResponderCall
+  word-1 h = simp (h)
+
+  pub word-2 : sameBytes word startWord ≡ false → sameBytes word recvWord ≡ true → true ≡ isResponderCall word
+  unfolding isResponderCall
+  word-2 h0 h = simp (h0, h)
+
+  pub word-3 : sameBytes word startWord ≡ false → sameBytes word recvWord ≡ false → sameBytes word tickWord ≡ true → true ≡ isResponderCall word
+  unfolding isResponderCall
+  word-3 h0 h1 h = simp (h0, h1, h)
+
+  pub word-4 : sameBytes word startWord ≡ false → sameBytes word recvWord ≡ false → sameBytes word tickWord ≡ false → sameBytes word claimsWord ≡ true → true ≡ isResponderCall word
+  unfolding isResponderCall
+  word-4 h0 h1 h2 h = simp (h0, h1, h2, h)
+
+  pub word-5 : sameBytes word startWord ≡ false → sameBytes word recvWord ≡ false → sameBytes word tickWord ≡ false → sameBytes word claimsWord ≡ false → (r : Bool) → r ≡ sameBytes word outWord → r ≡ isResponderCall word
+  unfolding isResponderCall
+  word-5 h0 h1 h2 h3 r e = e ∙ sym (simp (h0, h1, h2, h3))
+
+-- the fields of labels and strings
+module _ (line : List ℕ) where
+  pub names-1 : areBytesAt line 3 ≡ false → false ≡ areNames line
+  unfolding areNames
+  names-1 h = simp h
+
+  pub names-2 : areBytesAt line 3 ≡ true → areBytesAt line 4 ≡ false → false ≡ areNames line
+  unfolding areNames
+  names-2 h0 h = simp (h0, h)
+
+  pub names-3 : areBytesAt line 3 ≡ true → areBytesAt line 4 ≡ true → areBytesAt line 5 ≡ false → false ≡ areNames line
+  unfolding areNames
+  names-3 h0 h1 h = simp (h0, h1, h)
+
+  pub names-4 : areBytesAt line 3 ≡ true → areBytesAt line 4 ≡ true → areBytesAt line 5 ≡ true → areBytesAt line 6 ≡ false → false ≡ areNames line
+  unfolding areNames
+  names-4 h0 h1 h2 h = simp (h0, h1, h2, h)
+
+  pub names-5 : areBytesAt line 3 ≡ true → areBytesAt line 4 ≡ true → areBytesAt line 5 ≡ true → areBytesAt line 6 ≡ true → areBytesAt line 7 ≡ false → false ≡ areNames line
+  unfolding areNames
+  names-5 h0 h1 h2 h3 h = simp (h0, h1, h2, h3, h)
+
+  pub names-6 : areBytesAt line 3 ≡ true → areBytesAt line 4 ≡ true → areBytesAt line 5 ≡ true → areBytesAt line 6 ≡ true → areBytesAt line 7 ≡ true → (r : Bool) → r ≡ areBytesAt line 9 → r ≡ areNames line
+  unfolding areNames
+  names-6 h0 h1 h2 h3 h4 r e = e ∙ sym (simp (h0, h1, h2, h3, h4))
+
+-- the form of `start`
+module _ (line : List ℕ) where
+  pub start-1 : hasArguments line 11 ≡ false → false ≡ isStart line
+  unfolding isStart
+  start-1 h = simp h
+
+  pub start-2 : hasArguments line 11 ≡ true → isNumberAt line 1 ≡ false → false ≡ isStart line
+  unfolding isStart
+  start-2 h0 h = simp (h0, h)
+
+  pub start-3 : hasArguments line 11 ≡ true → isNumberAt line 1 ≡ true → isNumberAt line 2 ≡ false → false ≡ isStart line
+  unfolding isStart
+  start-3 h0 h1 h = simp (h0, h1, h)
+
+  pub start-4 : hasArguments line 11 ≡ true → isNumberAt line 1 ≡ true → isNumberAt line 2 ≡ true → areNames line ≡ false → false ≡ isStart line
+  unfolding isStart
+  start-4 h0 h1 h2 h = simp (h0, h1, h2, h)
+
+  pub start-5 : hasArguments line 11 ≡ true → isNumberAt line 1 ≡ true → isNumberAt line 2 ≡ true → areNames line ≡ true → isNumberAt line 8 ≡ false → false ≡ isStart line
+  unfolding isStart
+  start-5 h0 h1 h2 h3 h = simp (h0, h1, h2, h3, h)
+
+  pub start-6 : hasArguments line 11 ≡ true → isNumberAt line 1 ≡ true → isNumberAt line 2 ≡ true → areNames line ≡ true → isNumberAt line 8 ≡ true → ltb 65535 (numberAt line 8) ≡ true → false ≡ isStart line
+  unfolding isStart
+  start-6 h0 h1 h2 h3 h4 h = simp (h0, h1, h2, h3, h4, h)
+
+  pub start-7 : hasArguments line 11 ≡ true → isNumberAt line 1 ≡ true → isNumberAt line 2 ≡ true → areNames line ≡ true → isNumberAt line 8 ≡ true → ltb 65535 (numberAt line 8) ≡ false → isBytesOf (fieldAt line 10) 4 ≡ false → false ≡ isStart line
+  unfolding isStart
+  start-7 h0 h1 h2 h3 h4 h5 h = simp (h0, h1, h2, h3, h4, h5, h)
+
+  pub start-8 : hasArguments line 11 ≡ true → isNumberAt line 1 ≡ true → isNumberAt line 2 ≡ true → areNames line ≡ true → isNumberAt line 8 ≡ true → ltb 65535 (numberAt line 8) ≡ false → isBytesOf (fieldAt line 10) 4 ≡ true → (r : Bool) → r ≡ isAaaa (fieldAt line 11) → r ≡ isStart line
+  unfolding isStart
+  start-8 h0 h1 h2 h3 h4 h5 h6 r e = e ∙ sym (simp (h0, h1, h2, h3, h4, h5, h6))
+
+-- the form of `recv`
+module _ (line : List ℕ) where
+  pub recv-1 : ltb (argumentsOf line) 4 ≡ true → false ≡ isRecv line
+  unfolding isRecv
+  recv-1 h = simp h
+
+  pub recv-2 : ltb (argumentsOf line) 4 ≡ false → ltb 5 (argumentsOf line) ≡ true → false ≡ isRecv line
+  unfolding isRecv
+  recv-2 h0 h = simp (h0, h)
+
+  pub recv-3 : ltb (argumentsOf line) 4 ≡ false → ltb 5 (argumentsOf line) ≡ false → isNumberAt line 1 ≡ false → false ≡ isRecv line
+  unfolding isRecv
+  recv-3 h0 h1 h = simp (h0, h1, h)
+
+  pub recv-4 : ltb (argumentsOf line) 4 ≡ false → ltb 5 (argumentsOf line) ≡ false → isNumberAt line 1 ≡ true → isNumberAt line 2 ≡ false → false ≡ isRecv line
+  unfolding isRecv
+  recv-4 h0 h1 h2 h = simp (h0, h1, h2, h)
+
+  pub recv-5 : ltb (argumentsOf line) 4 ≡ false → ltb 5 (argumentsOf line) ≡ false → isNumberAt line 1 ≡ true → isNumberAt line 2 ≡ true → isNumberAt line 3 ≡ false → false ≡ isRecv line
+  unfolding isRecv
+  recv-5 h0 h1 h2 h3 h = simp (h0, h1, h2, h3, h)
+
+  pub recv-6 : ltb (argumentsOf line) 4 ≡ false → ltb 5 (argumentsOf line) ≡ false → isNumberAt line 1 ≡ true → isNumberAt line 2 ≡ true → isNumberAt line 3 ≡ true → areBytesAt line 4 ≡ false → false ≡ isRecv line
+  unfolding isRecv
+  recv-6 h0 h1 h2 h3 h4 h = simp (h0, h1, h2, h3, h4, h)
+
+  pub recv-7 : ltb (argumentsOf line) 4 ≡ false → ltb 5 (argumentsOf line) ≡ false → isNumberAt line 1 ≡ true → isNumberAt line 2 ≡ true → isNumberAt line 3 ≡ true → areBytesAt line 4 ≡ true → (r : Bool) → r ≡ isNumberOrMissing line 5 → r ≡ isRecv line
+  unfolding isRecv
+  recv-7 h0 h1 h2 h3 h4 h5 r e = e ∙ sym (simp (h0, h1, h2, h3, h4, h5))
+
+-- the form of `tick`
+module _ (line : List ℕ) where
+  pub tick-1 : ltb (argumentsOf line) 1 ≡ true → false ≡ isTick line
+  unfolding isTick
+  tick-1 h = simp h
+
+  pub tick-2 : ltb (argumentsOf line) 1 ≡ false → ltb 2 (argumentsOf line) ≡ true → false ≡ isTick line
+  unfolding isTick
+  tick-2 h0 h = simp (h0, h)
+
+  pub tick-3 : ltb (argumentsOf line) 1 ≡ false → ltb 2 (argumentsOf line) ≡ false → isNumberAt line 1 ≡ false → false ≡ isTick line
+  unfolding isTick
+  tick-3 h0 h1 h = simp (h0, h1, h)
+
+  pub tick-4 : ltb (argumentsOf line) 1 ≡ false → ltb 2 (argumentsOf line) ≡ false → isNumberAt line 1 ≡ true → (r : Bool) → r ≡ isNumberOrMissing line 2 → r ≡ isTick line
+  unfolding isTick
+  tick-4 h0 h1 h2 r e = e ∙ sym (simp (h0, h1, h2))

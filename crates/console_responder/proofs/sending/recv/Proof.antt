@@ -1,0 +1,93 @@
+-- `console_responder::sending::recv` meets its contract. Assumes nothing.
+use mathlib.Core.Path.{sym, _∙_}
+use Prim.Native.Nat.{ℕ}
+use native.Mathlib.Omega.{arith}
+use lib.ListN.{replicate, length-replicate}
+use borrow.Author.Tests.{not-true, not-false}
+use Rattle.console_text.proofs.hex.Room.{in-room}
+use Rattle.console_responder.proofs.After.{not-recv, recv-over, is-recv}
+use borrow.Author.Needs.{needs}
+use Rattle.console_responder.proofs.sending.recv.Statement.{statement}
+use Rattle.console_responder.proofs.sending.recv.Tie as tie
+
+is-recv-requires : tie.Need-is-recv-requires
+is-recv-requires c κs = search needs
+
+bad-line-requires : tie.Need-bad-line-requires
+bad-line-requires c κs = search needs
+
+returns : tie.Need-returns
+returns c = let a = c .before .before .before .before .before .before .args in not-recv (a .line .now) (a .held) (a .out .now) (sym (c .before .before .before .is-recv .ensures) ∙ not-true _ (c .before .before .if1 .taken))
+
+number-requires : tie.Need-number-requires
+number-requires c κs = search needs
+
+number-of-16-requires : tie.Need-number-of-16-requires
+number-of-16-requires c κs = search needs
+
+number-requires-2 : tie.Need-number-requires-2
+number-requires-2 c κs = search needs
+
+field-requires : tie.Need-field-requires
+field-requires c κs = search needs
+
+slice-aggregate-fill : tie.Need-slice-aggregate-fill
+slice-aggregate-fill c = search needs
+
+fill-requires : tie.Need-fill-requires
+fill-requires c κs = search needs
+
+lent-requires : tie.Need-lent-requires
+lent-requires c κs = search needs
+
+bad-line-requires-2 : tie.Need-bad-line-requires-2
+bad-line-requires-2 c κs = search needs
+
+returns-2 : tie.Need-returns-2
+returns-2 c = let a = c .before .before .before .before .before .before .before .before .before .before .before .before .before .before .before .args in recv-over (a .line .now) (a .held) (a .out .now) (sym (c .before .before .before .before .before .before .before .before .before .before .before .before .is-recv .ensures) ∙ not-false _ (c .before .before .before .before .before .before .before .before .before .before .before .if1 .left)) (c .before .before .before .lent .result) (c .before .before .before .lent .ensures) (omega arith)
+
+slice-aggregate-front : tie.Need-slice-aggregate-front
+slice-aggregate-front c = search needs
+
+front-requires : tie.Need-front-requires
+front-requires c κs = search needs
+
+receive-requires : tie.Need-receive-requires
+receive-requires c κs = search needs
+
+shown-requires : tie.Need-shown-requires
+shown-requires c κs = search needs
+
+same-length : tie.Need-same-length
+same-length c = search needs
+
+returns-3 : tie.Need-returns-3
+returns-3 c =
+    let a = c .before .before .before .before .before .before .before .before .before .before .before .before .before .before .before .before .before .before .before .before .before .before .before .args in
+    is-recv (a .line .now) (a .held) (a .out .now) (sym (c .before .before .before .before .before .before .before .before .before .before .before .before .before .before .before .before .before .before .before .before .is-recv .ensures) ∙ not-false _ (c .before .before .before .before .before .before .before .before .before .before .before .before .before .before .before .before .before .before .before .if1 .left)) (c .before .before .before .before .before .before .before .before .before .before .before .lent .result) (c .before .before .before .before .before .before .before .before .before .before .before .lent .ensures) (omega arith) _ _ _ _
+    (c .before .before .before .before .before .before .before .before .before .before .before .before .before .before .before .before .before .before .number .ensures) (c .before .before .before .before .before .before .before .before .before .before .before .before .before .before .before .before .before .number-of-16 .ensures) (c .before .before .before .before .before .before .before .before .before .before .before .before .before .before .before .before .number2 .ensures)
+    (in-room (a .line .now) 4 20000 _ _ (replicate 20000 0) _ _ (length-replicate {A = ℕ} 20000 0) (c .before .before .before .before .before .before .before .before .before .before .before .before .before .before .before .field .ensures) (c .before .before .before .before .before .before .before .before .before .before .before .before .before .fill .ensures .0) (c .before .before .before .before .before .before .before .before .before .before .before .before .before .fill .ensures .1) (c .before .before .before .before .before .before .before .before .front .ensures))
+    _ _ (c .before .before .before .before .before .before .receive .ensures)
+
+pub recv-spec : {M : Type 1} → statement M
+recv-spec =
+    tie.close
+    (tie.spec
+    is-recv-requires
+    bad-line-requires
+    returns
+    number-requires
+    number-of-16-requires
+    number-requires-2
+    field-requires
+    slice-aggregate-fill
+    fill-requires
+    lent-requires
+    bad-line-requires-2
+    returns-2
+    slice-aggregate-front
+    front-requires
+    receive-requires
+    shown-requires
+    same-length
+    returns-3)

@@ -1,0 +1,75 @@
+-- What a line makes of the console's responder and of its out buffer: `start` puts another responder in its place, `recv` and `tick` call it over the first bytes
+-- of the out buffer, and every other line leaves both. Assumes nothing: these are definitions.
+use Prim.Native.Nat.{ℕ}
+use mathlib.Core.List.{List, [], _++_}
+use mathlib.Core.Bool.{cond, _&&_}
+use lib.ListN.{length, take, drop}
+use lib.Dec.{leb}
+use Rattle.writer.specs.own_packets.Own.{laidOver}
+use Rattle.responder.specs.Handed.{Arrival, Tick}
+use Rattle.responder.specs.Calls.{startOf, receiveOf, receivedPacket, tickOf, tickedPacket}
+use Rattle.responder.specs.declared.State.{State}
+use Rattle.responder.specs.declared.Answer.{Answer}
+use Rattle.responder.specs.declared.Answer.the-variants.{Refused, Quiet, Sent}
+use Rattle.responder.specs.declared.Started.{Started}
+use Rattle.console_text.specs.fields.Numbers.{numberAt, number16At}
+use Rattle.console_text.specs.fields.Forms.{isWord, bytesIn}
+use Rattle.console_responder.specs.Forms.{startWord, recvWord, tickWord, setupTold, isStart, isRecv, isTick, lentBy}
+
+-- the responder's state and the out buffer
+pub record Responder : Type 0 where
+  pub state : State
+  pub out : List ℕ
+
+abbrev pub left : State → List ℕ → Responder
+left s out = record { state = s; out = out }
+
+-- before the first start: the state of a start that is refused, as one from an empty line is
+unfoldable pub unstarted : State
+unstarted = startOf (setupTold []) 0 0 .state
+
+-- an accepted start replaces the responder, a refused one changes nothing
+abbrev pub startedOr : State → Answer → State → State
+startedOr s (Refused n) begun = s
+startedOr s Quiet begun = begun
+startedOr s (Sent n) begun = begun
+
+abbrev pub begunOr : State → Started → State
+begunOr s r = startedOr s (r .answer) (r .state)
+
+unfoldable pub afterStart : List ℕ → State → State
+afterStart line s = cond (isStart line) (begunOr s (startOf (setupTold line) (numberAt line 1) (numberAt line 2))) s
+
+-- the out buffer where a packet is written over the first `n` bytes of it, which were lent: the others stay
+abbrev pub lentOver : ℕ → List ℕ → List ℕ → List ℕ
+lentOver n packet out = laidOver packet (take n out) ++ drop n out
+
+-- what a packet received, and a tick, are handed
+abbrev pub arrived : ℕ → ℕ → ℕ → List ℕ → ℕ → Arrival
+arrived time port draw p n = record { time = time; port = port; draw = draw; packet = p; room = n }
+
+abbrev pub tickAt : ℕ → ℕ → Tick
+tickAt time n = record { time = time; room = n }
+
+-- both over the first `n` bytes of the out buffer
+abbrev pub received : State → List ℕ → ℕ → ℕ → ℕ → List ℕ → ℕ → Responder
+received s out time port draw p n =
+    record { state = receiveOf s (arrived time port draw p n) .state; out = lentOver n (receivedPacket s (arrived time port draw p n)) out }
+
+abbrev pub ticked : State → List ℕ → ℕ → ℕ → Responder
+ticked s out time n = record { state = tickOf s (tickAt time n) .state; out = lentOver n (tickedPacket s (tickAt time n)) out }
+
+-- A port that is too great for one is 0, which is no 5353 either; a packet has at most 20,000 bytes. A line that would lend more than there is changes nothing.
+unfoldable pub afterRecv : List ℕ → State → List ℕ → Responder
+afterRecv line s out =
+    cond (isRecv line && leb (lentBy line 5) (length out))
+    (received s out (numberAt line 1) (number16At line 2) (numberAt line 3) (bytesIn 20000 line 4) (lentBy line 5)) (left s out)
+
+unfoldable pub afterTick : List ℕ → State → List ℕ → Responder
+afterTick line s out = cond (isTick line && leb (lentBy line 2) (length out)) (ticked s out (numberAt line 1) (lentBy line 2)) (left s out)
+
+-- the responder after a line, by its first word
+unfoldable pub responderAfter : List ℕ → State → List ℕ → Responder
+responderAfter line s out =
+    cond (isWord startWord line) (left (afterStart line s) out)
+    (cond (isWord recvWord line) (afterRecv line s out) (cond (isWord tickWord line) (afterTick line s out) (left s out)))

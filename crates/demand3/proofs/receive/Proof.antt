@@ -1,0 +1,16 @@
+use Rattle.demand3.proofs.Seen.{receive-seen}
+use borrow.Author.Needs.{needs}
+use Rattle.demand3.proofs.receive.Statement.{statement}
+use Rattle.demand3.proofs.receive.Tie as tie
+
+receive-requires : tie.Need-receive-requires
+receive-requires c κs = search needs
+
+same-length : tie.Need-same-length
+same-length c = search needs
+
+returns : tie.Need-returns
+returns c = receive-seen _ _ _ _ _ (c .before .before .receive .ensures)
+
+pub receive-spec : {M : Type 1} → statement M
+receive-spec = tie.close (tie.spec receive-requires same-length returns)

@@ -1,0 +1,40 @@
+// The exported calls, on a state in bytes: the state that its bytes say before the call, those after it, and the answer in numbers.
+ghost use mathlib.Core.Path.{_≡_};
+ghost use lib.ListN.{length};
+ghost use Rattle.responder.specs.Handed.{Arrival, Tick};
+ghost use Rattle.capi_responder.specs.codec.Codec.{decode};
+ghost use Rattle.capi_responder.specs.Exported.{setupFor};
+ghost use Rattle.uniqueness.specs.Responder.{responder};
+ghost use Rattle.demand3.specs.Seen.{begunAs, Answers};
+use capi_responder::Called;
+
+pub fn start(state: &mut [u8], setup: &[u8], time: u64, draw: u64) -> Called
+    ensures { λ r. ⌜ (let setup = setupFor (now (setup .entry)) (length (now (state .entry))) in
+        responder .start setup time draw ≡ begunAs (r .refusal) (decode (now (state .exit)))) ⌝ }
+{
+    capi_responder::kurgashel_start(state, setup, time, draw)
+}
+
+pub fn receive(
+    state: &mut [u8],
+    time: u64,
+    port: u16,
+    draw: u64,
+    packet: &[u8],
+    out: &mut [u8],
+) -> Called
+    ensures { λ r. ⌜ (let x = decode (now (state .entry)) in
+        let room = length (now (out .entry)) in
+        let a : Arrival = record { time = time; port = port; draw = draw; packet = now (packet .entry); room = room } in
+        Answers (responder .receive x a) x (now (out .entry)) (r .refusal) (r .length) (decode (now (state .exit))) (now (out .exit))) ⌝ }
+{
+    capi_responder::kurgashel_receive(state, time, port, draw, packet, out)
+}
+
+pub fn tick(state: &mut [u8], time: u64, out: &mut [u8]) -> Called
+    ensures { λ r. ⌜ (let x = decode (now (state .entry)) in
+        let t : Tick = record { time = time; room = length (now (out .entry)) } in
+        Answers (responder .tick x t) x (now (out .entry)) (r .refusal) (r .length) (decode (now (state .exit))) (now (out .exit))) ⌝ }
+{
+    capi_responder::kurgashel_tick(state, time, out)
+}

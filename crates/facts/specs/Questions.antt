@@ -1,0 +1,15 @@
+-- What a question asks for (specification, 'Which answers go out'). Assumes nothing: these are definitions.
+use Prim.Native.Nat.{ℕ}
+use mathlib.Core.List.{List}
+use mathlib.Core.Bool.{Bool, _&&_, _||_}
+use lib.Dec.{eqb}
+use Rattle.wire.specs.case_folding.Fold.{sameName}
+use Rattle.wire.specs.message.Message.{Question, classOf}
+
+-- a type or a class that is asked for takes in another: it is that one, or 255
+abbrev pub takesIn : ℕ → ℕ → Bool
+takesIn asked own = eqb asked own || eqb asked 255
+
+-- "a question of a query has its name, its type or 255, and class 1 or 255"; "The unicast bit in questions is ignored."
+abbrev pub asksFor : List ℕ → ℕ → Question → Bool
+asksFor name rtype q = sameName (q .name) name && (takesIn (q .rtype) rtype && takesIn (classOf (q .class)) 1)

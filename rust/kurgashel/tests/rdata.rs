@@ -1,0 +1,78 @@
+//! What rdata says, of an announcement by hand and of parts that are not as their types ask.
+
+use kurgashel::{Data, Message, Section, Srv, Strings};
+
+/// SRV, TXT, A and AAAA of one instance: the SRV's rdata at 47 with its target at 53, the TXT's at 72, the A's at 100, the AAAA's at 116.
+const ANNOUNCEMENT: &[u8] = b"\0\0\x84\0\0\0\0\x04\0\0\0\0\
+    \x05booth\x06_voice\x04_tcp\x05local\0\0\x21\x80\x01\0\0\0\x78\0\x0d\0\x01\0\x02\x0f\xa0\x04dock\xc0\x1e\
+    \xc0\x0c\0\x10\x80\x01\0\0\x11\x94\0\x10\x06room=3\0\x07passreq\
+    \xc0\x35\0\x01\x80\x01\0\0\0\x78\0\x04\x0a\0\0\x07\
+    \xc0\x35\0\x1c\x80\x01\0\0\0\x78\0\x10\xfe\x80\0\0\0\0\0\0\0\0\0\0\0\0\0\x07";
+
+const HOST: &[u8] = b"\x04dock\x05local\0";
+
+#[test]
+fn the_records_of_an_announcement() {
+    let message = Message::read(ANNOUNCEMENT).expect("well formed");
+    let records: Vec<_> = message.records(Section::Answer).collect();
+    let [srv, txt, a, aaaa] = &records[..] else {
+        panic!("{} records", records.len());
+    };
+    let Data::Srv(service) = &srv.data else {
+        panic!("an SRV");
+    };
+    assert_eq!(
+        (service.priority, service.weight, service.port),
+        (1, 2, 4000)
+    );
+    assert_eq!(service.target.as_bytes(), HOST);
+    assert_eq!(srv.data.target().map(|name| name.as_bytes()), Some(HOST));
+    let Data::Txt(strings) = txt.data else {
+        panic!("a TXT");
+    };
+    assert_eq!(
+        strings.collect::<Vec<_>>(),
+        [&b"room=3"[..], b"", b"passreq"]
+    );
+    assert!(txt.data.target().is_none());
+    assert!(matches!(a.data, Data::A(address) if address.octets() == [10, 0, 0, 7]));
+    assert!(matches!(aaaa.data, Data::Aaaa(address) if address.to_string() == "fe80::7"));
+    assert_eq!(a.owner.as_bytes(), HOST);
+}
+
+#[test]
+fn parts_that_are_not_as_their_types_ask() {
+    assert!(Srv::read(ANNOUNCEMENT, 47..60).is_some());
+    for part in [47..59, 47..61, 48..60, 47..53, 47..47, 47..1000] {
+        assert!(Srv::read(ANNOUNCEMENT, part.clone()).is_none());
+        assert!(Data::read(33, ANNOUNCEMENT, part.clone()).is_none());
+        assert!(Data::read(1, ANNOUNCEMENT, part).is_none());
+    }
+    assert!(Data::read(12, ANNOUNCEMENT, 53..60).is_some());
+    assert!(Data::read(12, ANNOUNCEMENT, 53..59).is_none());
+    assert!(Data::read(28, ANNOUNCEMENT, 100..104).is_none());
+    assert!(Data::read(1, ANNOUNCEMENT, 116..132).is_none());
+    assert!(Data::read(255, ANNOUNCEMENT, 116..133).is_none());
+    assert!(
+        matches!(Data::read(255, ANNOUNCEMENT, 100..104), Some(Data::Other(bytes)) if bytes == [10, 0, 0, 7])
+    );
+}
+
+#[test]
+fn rdata_of_a_cache() {
+    let rdata = b"\xff\xff\0\0\x01\x02\x04dock\x05local\0";
+    let Some(Data::Srv(srv)) = Data::of(33, rdata) else {
+        panic!("an SRV");
+    };
+    assert_eq!((srv.priority, srv.weight, srv.port), (65535, 0, 258));
+    assert_eq!(srv.target.as_bytes(), HOST);
+    assert!(Data::of(33, &rdata[..17]).is_none());
+    assert!(Data::of(12, HOST).is_some());
+}
+
+#[test]
+fn strings_end_at_one_that_runs_past() {
+    assert_eq!(Strings::of(b"\x01a\x02b").collect::<Vec<_>>(), [b"a"]);
+    assert_eq!(Strings::of(b"").count(), 0);
+    assert_eq!(Strings::of(b"\0").collect::<Vec<_>>(), [b""]);
+}
