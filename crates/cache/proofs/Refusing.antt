@@ -1,8 +1,8 @@
 -- The refusals of `take`, from what the code has tested. Assumes nothing.
-use mathlib.Core.Path.{_≡_, sym, ap, _∙_}
+use mathlib.Core.Path.{_≡_, refl, sym, ap, _∙_}
 use mathlib.Core.List.{List, []}
 use mathlib.Core.Bool.{Bool, true, cond}
-use Prim.Native.Nat.{ℕ}
+use Prim.Native.Nat.{ℕ, zero, suc}
 use native.Mathlib.Omega.{arith}
 use lib.ListN.{length}
 use lib.Dec.{eqb}
@@ -21,13 +21,24 @@ use Rattle.cache.specs.entries.Cache.{Cache, atStart, entriesRefusal, ta
 use Rattle.cache.specs.declared.entries.Entry.{Entry}
 use Rattle.cache.proofs.lookup.Refusing.{not-late, table-first}
 use Rattle.cache.specs.Kept.{Room, cacheOf}
-use Rattle.cache.specs.Answers.{takenOf, refusedWith, afterTake}
+use Rattle.cache.specs.Answers.{takenWith, takenNumber, takenOf, refusedWith, afterTake}
 use Rattle.cache.specs.declared.AfterTake.{AfterTake}
 use Rattle.cache.specs.declared.Kept.{Kept}
 use Rattle.cache.specs.declared.Taken.the-variants as t
 
 -- the call `take`
 module _ (now : ℕ) (es : List Entry) (store : List ℕ) (port : ℕ) (p : List ℕ) where
+  -- with the specification's number for the answer
+  number : (n : ℕ) (c : Cache) → takenNumber (takenWith n c) ≡ n
+  number zero c = refl
+  number (suc n) c = simp (ne-eqb (suc n) 0 (λ e. omega arith))
+
+  pub with-number : (r : AfterTake) (last : List ℕ) → (r ≡ afterTake now es store port p) × (last ≡ takeIn now es store port p .store)
+      → (r ≡ afterTake now es store port p) × ((last ≡ takeIn now es store port p .store) × (takenNumber (r .answer) ≡ takeRefusal now es store port p))
+  unfolding afterTake takenOf
+  with-number r last h =
+      (h .0, (h .1, ap (λ (x : AfterTake). takenNumber (x .answer)) (h .0) ∙ number (takeRefusal now es store port p) (takeIn now es store port p)))
+
   refuses : (n : ℕ) → takeRefusal now es store port p ≡ n → (n ≡ 0 → ⊥) → (r : AfterTake) → r ≡ refusedWith n es → (r ≡ afterTake now es store port p) × (store ≡ takeIn now es store port p .store)
   unfolding afterTake takenOf takeIn
   refuses n h z r k =

@@ -13,6 +13,11 @@ use Rattle.cache.specs.declared.AfterTake.{AfterTake}
 abbrev pub takenWith : ℕ → Cache → Taken
 takenWith number c = cond (eqb number 0) (t.Accepted (record { turned = c .turned; passed = c .passed })) (t.Refused number)
 
+-- the specification's number for each answer: 0 where nothing is refused
+abbrev pub takenNumber : Taken → ℕ
+takenNumber (t.Refused number) = number
+takenNumber (t.Accepted c) = 0
+
 unfoldable pub takenOf : ℕ → List Entry → List ℕ → ℕ → List ℕ → Taken
 takenOf now es store port p = takenWith (takeRefusal now es store port p) (takeIn now es store port p)
 

@@ -10,12 +10,12 @@ ghost use lib.ListN.{length};
 ghost use lib.Seq.{sets};
 ghost use Rattle.cache.specs.entries.Entries.{isFree, holds, flushed, refreshed};
 ghost use Rattle.cache.specs.entries.Tables.{lowest, each};
-ghost use Rattle.cache.specs.entries.Cache.{Cache, isCached, rule1, equalSlot, freeSlot, goodbye, slotWith, taken, renewed, afterRule1, takeRecord, takeRecords, takeMessage, takeIn, atStart};
+ghost use Rattle.cache.specs.entries.Cache.{Cache, isCached, rule1, equalSlot, freeSlot, goodbye, slotWith, taken, renewed, afterRule1, takeRecord, takeRecords, takeMessage, takeRefusal, takeIn, atStart};
 ghost use Rattle.wire.specs.message.Message.{Record, recordOf};
 ghost use Rattle.wire.specs.message.Layout.{recordAt};
 ghost use Rattle.wire.specs.message.Readable.{readable, messageIn, recordShown};
 ghost use Rattle.cache.specs.Kept.{cacheOf, Room, Whole};
-ghost use Rattle.cache.specs.Answers.{refusedWith, afterTake};
+ghost use Rattle.cache.specs.Answers.{takenNumber, refusedWith, afterTake};
 use crate::entries::Entry;
 use crate::entries::Slot;
 
@@ -368,7 +368,8 @@ pub fn take_by_value(
 ) -> AfterTake
     ensures { λ r. ⌜ (let s : List ℕ = now (store .entry) in
         let p : List ℕ = now (message .entry) in
-        (r ≡ afterTake time es s port p) × (now (store .exit) ≡ takeIn time es s port p .store)) ⌝ }
+        (r ≡ afterTake time es s port p)
+        × ((now (store .exit) ≡ takeIn time es s port p .store) × (takenNumber (r .answer) ≡ takeRefusal time es s port p))) ⌝ }
 {
     let refusal = crate::lookup::entries_refusal(es, time);
     if refusal != 0 {

@@ -4,8 +4,8 @@ ghost use lib.ListN.{length};
 ghost use Rattle.wire.specs.Lists.{some};
 ghost use Rattle.cache.specs.entries.Entries.{matches, heardAhead, tooLong};
 ghost use Rattle.cache.specs.entries.Tables.{lowest};
-ghost use Rattle.cache.specs.entries.Cache.{entriesRefusal};
-ghost use Rattle.cache.specs.lookup.Answers.{lookedRefusal, lookedOf};
+ghost use Rattle.cache.specs.entries.Cache.{entriesRefusal, lookRefusal};
+ghost use Rattle.cache.specs.lookup.Answers.{lookedRefusal, lookedNumber, lookedOf};
 use crate::entries::Entry;
 use crate::entries::Slot;
 
@@ -108,7 +108,8 @@ pub fn look_by_value(
     rtype: u16,
     from: usize,
 ) -> Looked
-    ensures { λ r. ⌜ r ≡ lookedOf time es (now (store .entry)) (now (name .entry)) rtype from ⌝ }
+    ensures answer { λ r. ⌜ r ≡ lookedOf time es (now (store .entry)) (now (name .entry)) rtype from ⌝ }
+    ensures number { λ r. ⌜ lookedNumber r ≡ lookRefusal time es (now (store .entry)) (now (name .entry)) ⌝ }
 {
     let refusal = look_refusal(entries_refusal(es, time), store, name);
     if refusal != 0 {

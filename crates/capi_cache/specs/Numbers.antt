@@ -1,17 +1,14 @@
 -- The answers in numbers: the specification's number and values for each case ('The cache'). Assumes nothing: these are definitions.
 use Prim.Native.Nat.{ℕ}
 use mathlib.Core.Bool.{Bool, true, false}
+use Rattle.cache.specs.Answers.{takenNumber}
+use Rattle.cache.specs.lookup.Answers.{lookedNumber}
 use Rattle.cache.specs.declared.lookup.Looked.{Looked}
 use Rattle.cache.specs.declared.lookup.Looked.the-variants as l
 use Rattle.cache.specs.declared.Taken.{Taken}
 use Rattle.cache.specs.declared.Taken.the-variants as t
 use Rattle.capi_cache.specs.declared.TakenNumbers.{TakenNumbers}
 use Rattle.capi_cache.specs.declared.LookedNumbers.{LookedNumbers}
-
--- The specification's number for each answer of `take`: 0 where nothing is refused
-abbrev pub takenNumber : Taken → ℕ
-takenNumber (t.Refused number) = number
-takenNumber (t.Accepted c) = 0
 
 -- The specification's values: the two counts, of an answer without them 0
 abbrev pub turnedAway : Taken → ℕ
@@ -25,12 +22,6 @@ passedOver (t.Accepted c) = c .passed
 -- the number and the values of an answer together
 abbrev pub takenNumbers : Taken → TakenNumbers
 takenNumbers answer = record { refusal = takenNumber answer; turned = turnedAway answer; passed = passedOver answer }
-
--- The specification's number for each answer of a lookup: 0 where nothing is refused
-abbrev pub lookedNumber : Looked → ℕ
-lookedNumber (l.Refused number) = number
-lookedNumber (l.Found i) = 0
-lookedNumber l.Nothing = 0
 
 -- The specification's values: whether a slot was found, and the slot, of an answer without it 0
 abbrev pub isFound : Looked → Bool

@@ -9,13 +9,10 @@ use Rattle.wire.specs.message.Layout.{Reads, messageAt}
 use Rattle.wire.specs.message.Refusals.{messageTests, orRefused}
 use Rattle.own.specs.declared.records.Setup.{Setup}
 use Rattle.own.specs.records.Setups.{validSetup}
+pub use Rattle.writer.specs.own_packets.Own.{smallBuffer}
 use Rattle.claims.specs.Refusals.{lateStart, wrongTime, wrongStartDraw, wrongReplyDraw}
 use Rattle.responder.specs.Handed.{Arrival, Tick}
 use Rattle.responder.specs.declared.State.{State}
-
--- 3: "out buffer under 1,452 bytes"
-abbrev pub smallBuffer : ℕ → Bool
-smallBuffer room = ltb room 1452
 
 -- 7: "names or data, in a setup or a state handed in, break the rules below, or a kept start draw is above 250"
 unfoldable pub wrongState : State → Bool

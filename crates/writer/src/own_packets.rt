@@ -309,10 +309,10 @@ pub fn respond(s: Setup, chosen: Set, out: &mut [u8]) -> Written
     ensures sent { λ r. ⌜ lengthOf r ≡ length (unlessRefused (refusal s (now (out .entry))) (responsePacket s chosen)) ⌝ }
 {
     if out.len() < LEAST_OUT {
-        return Written::Refused(3);
+        return Written::Refused(wire::refusals::BUFFER);
     }
     if !own::setups::check_setup(s) {
-        return Written::Refused(7);
+        return Written::Refused(wire::refusals::SETUP);
     }
     let list = pick(s, chosen);
     if list.n == 0 {
@@ -329,10 +329,10 @@ pub fn probe(s: Setup, claim: Claim, out: &mut [u8]) -> Written
     ensures sent { λ r. ⌜ lengthOf r ≡ length (unlessRefused (refusal s (now (out .entry))) (probePacket s claim)) ⌝ }
 {
     if out.len() < LEAST_OUT {
-        return Written::Refused(3);
+        return Written::Refused(wire::refusals::BUFFER);
     }
     if !own::setups::check_setup(s) {
-        return Written::Refused(7);
+        return Written::Refused(wire::refusals::SETUP);
     }
     let list = pick_claim(s, claim);
     let owner = own::records::own_name(s, claims::records::first_of(claim));

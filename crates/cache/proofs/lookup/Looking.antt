@@ -1,8 +1,9 @@
 -- A lookup's refusal and its answer, from what the code has tested. Assumes nothing.
-use mathlib.Core.Path.{_≡_, sym, ap, _∙_}
+use mathlib.Core.Path.{_≡_, refl, sym, ap, _∙_}
 use mathlib.Core.List.{List}
 use mathlib.Core.Bool.{true, false}
-use Prim.Native.Nat.{ℕ}
+use Prim.Native.Nat.{ℕ, zero, suc}
+use native.Mathlib.Omega.{arith}
 use lib.ListN.{length}
 use borrow.Author.Tests.{eq-eqb, ne-eqb}
 use Rattle.wire.specs.names.Names.{isName}
@@ -10,7 +11,7 @@ use Rattle.cache.specs.entries.Cache.{lookTests, entriesRefusal, lookRef
 use Rattle.cache.specs.declared.entries.Entry.{Entry}
 use Rattle.cache.specs.declared.entries.Slot.{Slot}
 use Rattle.cache.specs.declared.entries.Slot.the-variants as s
-use Rattle.cache.specs.lookup.Answers.{lookedWith, lookedOf, lookedRefusal}
+use Rattle.cache.specs.lookup.Answers.{lookedWith, lookedNumber, lookedOf, lookedRefusal}
 use Rattle.cache.specs.declared.lookup.Looked.{Looked}
 use Rattle.cache.specs.declared.lookup.Looked.the-variants as l
 use Rattle.cache.proofs.lookup.Refusing.{table-first}
@@ -47,3 +48,16 @@ module _ (now : ℕ) (es : List Entry) (store name : List ℕ) (rtype from m : �
   pub look-slot : n ≡ 0 → (x : Slot) → x ≡ lookIn now es store name rtype from → (r : Looked) → r ≡ lookedWith 0 x → r ≡ lookedOf now es store name rtype from
   unfolding lookedOf
   look-slot z x h r k = k ∙ ap (λ (m : ℕ). lookedWith m x) (sym z ∙ number) ∙ ap (lookedWith (lookRefusal now es store name)) h
+
+-- with the specification's number for the answer
+module _ (now : ℕ) (es : List Entry) (store name : List ℕ) (rtype from : ℕ) where
+  looked-number : (n : ℕ) (x : Slot) → lookedNumber (lookedWith n x) ≡ n
+  looked-number zero (s.At i) = refl
+  looked-number zero s.Nowhere = refl
+  looked-number (suc n) (s.At i) = simp (ne-eqb (suc n) 0 (λ e. omega arith))
+  looked-number (suc n) s.Nowhere = simp (ne-eqb (suc n) 0 (λ e. omega arith))
+
+  pub look-numbered : (r : Looked) → r ≡ lookedOf now es store name rtype from
+      → (r ≡ lookedOf now es store name rtype from) × (lookedNumber r ≡ lookRefusal now es store name)
+  unfolding lookedOf
+  look-numbered r h = (h, ap lookedNumber h ∙ looked-number (lookRefusal now es store name) (lookIn now es store name rtype from))

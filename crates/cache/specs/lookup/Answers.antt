@@ -16,6 +16,12 @@ abbrev pub lookedWith : ℕ → Slot → Looked
 lookedWith number (s.At i) = cond (eqb number 0) (l.Found i) (l.Refused number)
 lookedWith number s.Nowhere = cond (eqb number 0) l.Nothing (l.Refused number)
 
+-- the specification's number for each answer: 0 where nothing is refused
+abbrev pub lookedNumber : Looked → ℕ
+lookedNumber (l.Refused number) = number
+lookedNumber (l.Found i) = 0
+lookedNumber l.Nothing = 0
+
 unfoldable pub lookedOf : ℕ → List Entry → List ℕ → List ℕ → ℕ → ℕ → Looked
 lookedOf now es store name rtype from = lookedWith (lookRefusal now es store name) (lookIn now es store name rtype from)
 

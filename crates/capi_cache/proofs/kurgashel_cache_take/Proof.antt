@@ -48,10 +48,10 @@ use denote.Triple.Table.{entered, cited}
 use denote.Triple.Walked.{says, Stays, stay-none, stay-none-slice, stay-slice, gave-slice, walkOf, goes-none, goes-none-slice, goes-slice, goes-gave-slice, Walks, ends-at, walked, walk-meets}
 use denote.Exit.{yes}
 use Rattle.cache.specs.declared.entries.Entry.{Entry}
-use Rattle.cache.specs.entries.Cache.{entriesRefusal, takeIn}
+use Rattle.cache.specs.entries.Cache.{entriesRefusal, takeRefusal, takeIn}
 use Rattle.cache.proofs.entries.Entry as E
 use Rattle.cache.proofs.entries.Entry.Laws as E′
-use Rattle.cache.specs.Answers.{takenOf, afterTake}
+use Rattle.cache.specs.Answers.{takenNumber, takenOf, afterTake}
 use Rattle.cache.specs.declared.AfterTake.{AfterTake}
 use Rattle.cache.proofs.AfterTake as AT
 use Rattle.cache.proofs.AfterTake.Laws as AT′
@@ -282,8 +282,8 @@ module _ {M : Type 1} (𝓤 : URA M) (H : Heap 𝓤) (A : Atoms 𝓤) (W : Given
           use2 W (raw (TakeByValue 𝓤 H A at-mem run .pre (to-take v))) (goes-take v v-is) $
           calls-at ! fm (TakeByValue 𝓤 H A at-mem run) known-take (to-take v) (and-then ! (load ! (from ! (stop !)) (look ! 20 refl)) (and-then ! (load ! (from ! (stop !)) (look ! 12 refl)) (and-then ! (load ! (from ! (stop !)) (look ! 36 refl)) (and-then ! (load ! (from ! (stop !)) (look ! 34 refl)) (and-then ! (load ! (from ! (stop !)) (look ! 32 refl)) (no-more !)))))) (λ x.
           use1 W (later (some (λ (y : AfterTake). ((‵ (flft κ₁ q₁) ⊛ ‵ (flft κ₂ q₂) ⊛ ‵ ftrue) ⊛ ‵ (AT.the-row .own y (x ∷ []))) ⊛ raw (ensured 𝓤 H A take-by-value.ended (take-by-value.clauses 𝓤 H A at-mem run) (κ₁, (κ₂, tt)) (xs, (bytes-at b₁ o₁ γ₁ bs, (time, (port, (bytes-at b₂ o₂ γ₂ ms, tt))))) tt y)))) (id⊢ 𝓤 _) $ await ! tt $ pick ! (λ y.
-          split ! $ move ! (1 ∷ []) $ use1 W (some (λ (ws : Unit {0} × (List ℕ × (Unit {0} × (Unit {0} × (Unit {0} × Unit {0}))))). ‵ (lasts take-by-value.ended (κ₁, (κ₂, tt)) (xs, (bytes-at b₁ o₁ γ₁ bs, (time, (port, (bytes-at b₂ o₂ γ₂ ms, tt))))) ws) ⊛ raw (fact 𝓤 ((y ≡ after) × (ws .1 .0 ≡ last))))) (id⊢ 𝓤 _) $ pick ! (λ ws.
-          split ! $ move ! (1 ∷ []) $ heard ! ((y ≡ after) × (ws .1 .0 ≡ last)) (λ both. fsplit ! $ drop ! $ fsplit ! $ fsplit ! $ move ! (1 ∷ []) $ drop ! $ move ! (1 ∷ []) $ drop ! $ rewrite ! 0 (λ (l′ : List ℕ). ‵ (finally u8 γ₁ l′)) (both .1) refl $
+          split ! $ move ! (1 ∷ []) $ use1 W (some (λ (ws : Unit {0} × (List ℕ × (Unit {0} × (Unit {0} × (Unit {0} × Unit {0}))))). ‵ (lasts take-by-value.ended (κ₁, (κ₂, tt)) (xs, (bytes-at b₁ o₁ γ₁ bs, (time, (port, (bytes-at b₂ o₂ γ₂ ms, tt))))) ws) ⊛ raw (fact 𝓤 ((y ≡ after) × ((ws .1 .0 ≡ last) × (takenNumber (y .answer) ≡ takeRefusal time xs bs port ms)))))) (id⊢ 𝓤 _) $ pick ! (λ ws.
+          split ! $ move ! (1 ∷ []) $ heard ! ((y ≡ after) × ((ws .1 .0 ≡ last) × (takenNumber (y .answer) ≡ takeRefusal time xs bs port ms))) (λ both. fsplit ! $ drop ! $ fsplit ! $ fsplit ! $ move ! (1 ∷ []) $ drop ! $ move ! (1 ∷ []) $ drop ! $ rewrite ! 0 (λ (l′ : List ℕ). ‵ (finally u8 γ₁ l′)) (both .1 .0) refl $
           move ! (1 ∷ []) $ split ! $ move ! (1 ∷ []) $ peeks ! AT.the-row (Is AT.the-row) (shows 𝓤 H A AT.the-row) y (x ∷ []) (λ is. drop ! $ split ! $ move ! (1 ∷ []) $ split ! $
           -- [the message's token; true; the store's; its last list; what the message owns; the entries; the open borrow; obs; auth; the locals]: back in order
           move ! (5 ∷ 6 ∷ 7 ∷ 8 ∷ 3 ∷ 2 ∷ 4 ∷ 0 ∷ []) $ move ! (8 ∷ []) $ drop ! $

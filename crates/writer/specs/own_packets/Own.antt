@@ -1,7 +1,7 @@
 -- The packets of own records (specification, 'Writing a packet'): a response of any of them, and a claim's probe. Assumes nothing: these are definitions.
 use Prim.Native.Nat.{ℕ}
 use mathlib.Core.List.{List, [], _∷_, _++_, map}
-use mathlib.Core.Bool.{Bool, true, false, cond, _&&_}
+use mathlib.Core.Bool.{Bool, cond, not, _&&_}
 use Rattle.claims.specs.records.Own.{all, firstOf, claimed, has}
 use Rattle.claims.specs.records.Sets.{picked}
 use Rattle.claims.specs.declared.records.Claim.{Claim}
@@ -9,6 +9,7 @@ use Rattle.claims.specs.declared.records.Own.{Own}
 use Rattle.claims.specs.declared.records.Set.{Set}
 use lib.ListN.{length, drop}
 use lib.Dec.{ltb, eqb}
+use Rattle.wire.specs.refusals.Numbers.{BUFFER, SETUP, firstRefusal}
 use Rattle.wire.specs.message.Message.{Message}
 use Rattle.own.specs.declared.records.Setup.{Setup}
 use Rattle.own.specs.records.Setups.{validSetup}
@@ -43,9 +44,13 @@ responsePacket s chosen = noneIfEmpty (responseRecords s chosen) (packetIn s res
 unfoldable pub probePacket : Setup → Claim → List ℕ
 probePacket s claim = packetIn s probeStyle (ownName s (firstOf claim)) (probeRecords s claim)
 
--- "3: out buffer under 1,452 bytes", then "7: names or data, in a setup .. break the rules"; 0 where nothing is refused
+-- 3: "out buffer under 1,452 bytes"
+abbrev pub smallBuffer : ℕ → Bool
+smallBuffer room = ltb room 1452
+
+-- 3, then 7: "names or data, in a setup .. break the rules"
 unfoldable pub refusal : Setup → List ℕ → ℕ
-refusal s out = cond (ltb (length out) 1452) 3 (cond (validSetup s) 0 7)
+refusal s out = firstRefusal ((BUFFER, smallBuffer (length out)) ∷ ((SETUP, not (validSetup s)) ∷ []))
 
 -- what is written: nothing where it is refused
 abbrev pub unlessRefused : ℕ → List ℕ → List ℕ

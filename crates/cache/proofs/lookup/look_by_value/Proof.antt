@@ -3,7 +3,7 @@ use mathlib.Core.Path.{sym, ap}
 use native.Mathlib.Omega.{arith}
 use Rattle.cache.specs.entries.Cache.{lookIn}
 use Rattle.cache.specs.lookup.Answers.{lookedWith}
-use Rattle.cache.proofs.lookup.Looking.{look-refused, look-slot}
+use Rattle.cache.proofs.lookup.Looking.{look-refused, look-slot, look-numbered}
 use borrow.Author.Needs.{needs}
 use Rattle.cache.proofs.lookup.look_by_value.Statement.{statement}
 use Rattle.cache.proofs.lookup.look_by_value.Tie as tie
@@ -15,7 +15,7 @@ look-refusal-requires : tie.Need-look-refusal-requires
 look-refusal-requires c κs = search needs
 
 returns : tie.Need-returns
-returns c = look-refused _ _ _ _ _ _ _ (c .before .before .entries-refusal .ensures) _ (c .before .look-refusal .ensures) (c .if1 .taken)
+returns c = look-numbered _ _ _ _ _ _ _ (look-refused _ _ _ _ _ _ _ (c .before .before .entries-refusal .ensures) _ (c .before .look-refusal .ensures) (c .if1 .taken))
 
 find-requires : tie.Need-find-requires
 find-requires c κs = search needs
@@ -28,11 +28,11 @@ enum-told c = search needs
 
 returns-2 : tie.Need-returns-2
 unfolding lookIn
-returns-2 c = look-slot _ _ _ _ _ _ _ (c .before .before .before .before .before .before .entries-refusal .ensures) _ (c .before .before .before .before .before .look-refusal .ensures) (omega arith) _ (c .before .before .before .find .ensures) _ (sym (ap (lookedWith 0) (c .before .i .given .1)))
+returns-2 c = look-numbered _ _ _ _ _ _ _ (look-slot _ _ _ _ _ _ _ (c .before .before .before .before .before .before .entries-refusal .ensures) _ (c .before .before .before .before .before .look-refusal .ensures) (omega arith) _ (c .before .before .before .find .ensures) _ (sym (ap (lookedWith 0) (c .before .i .given .1))))
 
 returns-3 : tie.Need-returns-3
 unfolding lookIn
-returns-3 c = look-slot _ _ _ _ _ _ _ (c .before .before .before .before .before .entries-refusal .ensures) _ (c .before .before .before .before .look-refusal .ensures) (omega arith) _ (c .before .before .find .ensures) _ (sym (ap (lookedWith 0) (c .enum-told .given .1)))
+returns-3 c = look-numbered _ _ _ _ _ _ _ (look-slot _ _ _ _ _ _ _ (c .before .before .before .before .before .entries-refusal .ensures) _ (c .before .before .before .before .look-refusal .ensures) (omega arith) _ (c .before .before .find .ensures) _ (sym (ap (lookedWith 0) (c .enum-told .given .1))))
 
 pub look-by-value-spec : {M : Type 1} → statement M
 look-by-value-spec =

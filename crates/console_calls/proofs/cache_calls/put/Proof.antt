@@ -53,7 +53,7 @@ returns-2 c =
     let a = c .before .before .before .before .before .before .before .before .before .before .before .before .before .before .before .before .before .before .before .args in
     is-put (a .line .now) (a .es) (a .store .now) (sym (c .before .before .before .before .before .before .before .before .before .before .before .before .before .before .before .before .is-put .ensures) ∙ not-false _ (c .before .before .before .before .before .before .before .before .before .before .before .before .before .before .before .if1 .left)) _ _ _ (c .before .before .before .before .before .before .before .before .before .before .before .before .before .before .number .ensures) (c .before .before .before .before .before .before .before .before .before .before .before .before .before .number-of-16 .ensures)
     (in-room (a .line .now) 3 20000 _ _ (replicate 20000 0) _ _ (length-replicate {A = ℕ} 20000 0) (c .before .before .before .before .before .before .before .before .before .before .before .before .field .ensures) (c .before .before .before .before .before .before .before .before .before .before .fill .ensures .0) (c .before .before .before .before .before .before .before .before .before .before .fill .ensures .1) (c .before .before .before .before .before .before .front .ensures))
-    _ _ (c .before .before .before .before .before .take-by-value .ensures)
+    _ _ (let e = c .before .before .before .before .before .take-by-value .ensures in (e .0, e .1 .0))
 
 pub put-spec : {M : Type 1} → statement M
 put-spec =
