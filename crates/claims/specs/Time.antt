@@ -24,6 +24,23 @@ lastDue = 4611686018427388904
 abbrev pub lastKept : ℕ
 lastKept = 4611686018427389904
 
+-- The gaps, in ms: "each due 250 ms after the last was sent"; a second announcement after 1,000; a deferral of 1,000; and "multicast less than 1,000 ms ago, 250 ms if
+-- the query is a probe for its claim", by which a name is defended
+abbrev pub probeGap : ℕ
+probeGap = 250
+
+abbrev pub announcementGap : ℕ
+announcementGap = 1000
+
+abbrev pub deferral : ℕ
+deferral = 1000
+
+abbrev pub multicastGap : ℕ
+multicastGap = 1000
+
+abbrev pub defenceGap : ℕ
+defenceGap = 250
+
 -- The time `ms` after `now`. A sum past 64 bits stays at the last number; no call that is accepted has one (`after-exact`).
 unfoldable pub afterMs : ℕ → ℕ → ℕ
 afterMs now ms = cond (leb (now + ms) 18446744073709551615) (now + ms) 18446744073709551615

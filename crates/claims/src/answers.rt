@@ -13,10 +13,8 @@ use crate::records::Set;
 // A deferred claim sends its next first probe after 1,000 ms.
 const DEFERRAL: u64 = 1000;
 
-// A record that was multicast less than 1,000 ms ago is not sent again, nor for a probe one less than 250 ms ago.
-const MULTICAST_GAP: u64 = 1000;
-
-const PROBE_GAP: u64 = 250;
+// To a probe for its name a claim is defended with a record that was multicast 250 ms ago or more.
+const DEFENCE_GAP: u64 = 250;
 
 // What a message says to one claim: it is a probe for its name, that probe's records are later than its own, it has a record that conflicts.
 pub struct Heard {
@@ -101,9 +99,9 @@ fn is_omitted(progress: Progress, f: Facts, now: u64, o: Own) -> bool
     let told = heard_for(crate::records::claim_for(o), f);
     let last = crate::sent_of(o, sent);
     if told.probe {
-        return crate::was_recent(last, now, PROBE_GAP);
+        return crate::was_recent(last, now, DEFENCE_GAP);
     }
-    crate::was_recent(last, now, MULTICAST_GAP)
+    crate::was_recent(last, now, crate::MULTICAST_GAP)
 }
 
 // Is a record due and not left out?

@@ -18,6 +18,9 @@ use crate::records::Set;
 // The last time that 64 bits hold.
 const END_OF_TIME: u64 = 18446744073709551615;
 
+// A record that was multicast less than 1,000 ms ago is not sent again.
+pub const MULTICAST_GAP: u64 = 1000;
+
 // Never, or at a time.
 pub enum When {
     Never,

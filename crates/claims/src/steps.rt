@@ -17,9 +17,6 @@ const PROBE_GAP: u64 = 250;
 
 const ANNOUNCEMENT_GAP: u64 = 1000;
 
-// A record that was multicast less than 1,000 ms ago is not sent again.
-const MULTICAST_GAP: u64 = 1000;
-
 // The steps of a tick: of each claim, and of the PTR reply.
 pub enum Step {
     OfClaim(Claim),
@@ -130,7 +127,7 @@ fn is_unsent(wanted: bool, last: When, now: u64) -> bool
     ensures { λ r. ⌜ r ≡ unsent wanted last now ⌝ }
 {
     if wanted {
-        return !crate::was_recent(last, now, MULTICAST_GAP);
+        return !crate::was_recent(last, now, crate::MULTICAST_GAP);
     }
     false
 }

@@ -4,7 +4,7 @@ use Prim.Native.Nat.{ℕ}
 use mathlib.Core.Bool.{Bool, cond, not, _&&_, _||_}
 use Rattle.claims.specs.records.Own.{claimFor, present, has, each}
 use Rattle.claims.specs.records.Sets.{atOnce}
-use Rattle.claims.specs.Time.{afterMs, recently, sentOf, markedAll}
+use Rattle.claims.specs.Time.{deferral, multicastGap, defenceGap, afterMs, recently, sentOf, markedAll}
 use Rattle.claims.specs.Claims.{heldNow, claimOf, afterConflict, afterProbe}
 use Rattle.claims.specs.declared.records.Claim.{Claim}
 use Rattle.claims.specs.declared.records.Claim.the-variants.{Instance, Host}
@@ -37,7 +37,7 @@ isDue progress f aaaa o = not (f .response) && (heldNow (claimOf (claimFor o) pr
 
 -- "1,000 ms ago, 250 ms if the query is a probe for its claim"
 abbrev pub gapOf : Bool → ℕ
-gapOf probe = cond probe 250 1000
+gapOf probe = cond probe defenceGap multicastGap
 
 -- "It is omitted exactly when (a) an Answer record in the query has equal name, class, type and rdata and twice its TTL is at least our own TTL, or (b)
 -- it was multicast less than 1,000 ms ago, 250 ms if the query is a probe for its claim."
@@ -62,8 +62,8 @@ receiveOf progress now draw f aaaa =
     record {
       progress =
           record {
-            instance = heardOf (progress .instance) (f .response) (f .instance) (afterMs now (progress .draw)) (afterMs now 1000);
-            host = heardOf (progress .host) (f .response) (f .host) (afterMs now (progress .draw)) (afterMs now 1000);
+            instance = heardOf (progress .instance) (f .response) (f .instance) (afterMs now (progress .draw)) (afterMs now deferral);
+            host = heardOf (progress .host) (f .response) (f .host) (afterMs now (progress .draw)) (afterMs now deferral);
             sent = markedAll (atOnce (wantedOf progress f now aaaa)) (progress .sent) now;
             reply = setReply (has Ptr (wantedOf progress f now aaaa)) (progress .reply) (afterMs now draw);
             draw = progress .draw;

@@ -6,7 +6,7 @@ use mathlib.Core.List.{List, [], _∷_}
 use lib.ListN.{getD}
 use Rattle.claims.specs.records.Own.{has, each}
 use Rattle.claims.specs.records.Sets.{someOf}
-use Rattle.claims.specs.Time.{afterMs, dueBy, recently, sentOf}
+use Rattle.claims.specs.Time.{probeGap, announcementGap, multicastGap, afterMs, dueBy, recently, sentOf}
 use Rattle.claims.specs.Claims.{dueOf, claimOf}
 use Rattle.claims.specs.declared.ClaimState.{ClaimState}
 use Rattle.claims.specs.declared.ClaimState.the-variants.{Waiting, Probing1, Probing2, Probing3, Deferred, Announced, Held, Lost}
@@ -42,11 +42,11 @@ moreDue progress now = someOf (λ s. dueBy (stepDue s progress) now) steps
 -- What the step of a claim does whose step is due. "Probing: three probes, each due 250 ms after the last was sent. 250 ms after the third the claim is held, and
 -- that step sends the first announcement, .. A second step, due 1,000 ms later if still held, ..". A waiting or a deferred claim sends its first probe.
 abbrev pub takenAction : ClaimState → ℕ → Action
-takenAction (Waiting due) now = Probe (Probing1 (afterMs now 250))
-takenAction (Probing1 due) now = Probe (Probing2 (afterMs now 250))
-takenAction (Probing2 due) now = Probe (Probing3 (afterMs now 250))
-takenAction (Probing3 due) now = Announce (Announced (afterMs now 1000))
-takenAction (Deferred due) now = Probe (Probing1 (afterMs now 250))
+takenAction (Waiting due) now = Probe (Probing1 (afterMs now probeGap))
+takenAction (Probing1 due) now = Probe (Probing2 (afterMs now probeGap))
+takenAction (Probing2 due) now = Probe (Probing3 (afterMs now probeGap))
+takenAction (Probing3 due) now = Announce (Announced (afterMs now announcementGap))
+takenAction (Deferred due) now = Probe (Probing1 (afterMs now probeGap))
 takenAction (Announced due) now = Repeat Held
 takenAction Held now = Idle
 takenAction Lost now = Idle
@@ -56,7 +56,7 @@ actionOf c now = cond (claimDue c now) (takenAction c now) Idle
 
 -- a record that is wanted is sent unless it was multicast less than 1,000 ms ago
 abbrev pub unsent : Bool → When → ℕ → Bool
-unsent wanted last now = wanted && not (recently last now 1000)
+unsent wanted last now = wanted && not (recently last now multicastGap)
 
 -- of a set of records, "those not multicast less than 1,000 ms ago"
 unfoldable pub unsentOf : Set → Multicasts → ℕ → Set
