@@ -174,8 +174,10 @@ class Kit:
                 shutil.copytree(ROOT / "crates" / name / part, copy / part)
         for file, text in texts.items():
             (copy / file).write_text(text)
-        # links: the prover replaces a file and never writes into one
-        shutil.copytree(TARGET / "rlib" / f"{name}.rlib" / "toolchain" / "checked", copy / "kept" / self.kept, copy_function=os.link)
+        # links: the prover replaces a file and never writes into one; of a program's proof nothing is left, so it is checked from nothing
+        left = TARGET / "rlib" / f"{name}.rlib" / "toolchain" / "checked"
+        if left.is_dir():
+            shutil.copytree(left, copy / "kept" / self.kept, copy_function=os.link)
         source = copy / "src" / ("main.rt" if (copy / "src" / "main.rt").is_file() else "lib.rt")
         run = subprocess.run([*self.words(name, source), "--incremental", copy / "kept"], stdout=subprocess.PIPE, stderr=subprocess.STDOUT, text=True)
         shutil.rmtree(copy)
