@@ -1,7 +1,8 @@
 // A tick on numbers alone (specification, 'A claim's life'): the due steps of the two claims and of the PTR reply, in order, up to the first that sends.
 ghost use mathlib.Core.Path.{_≡_};
 ghost use Rattle.claims.specs.steps.Steps.{claimDue, stepAt, stepDue, moreDue, takenAction, actionOf, unsent, unsentOf};
-ghost use Rattle.claims.specs.steps.Tick.{withClaim, withSent, withoutReply, sends, actionTurn, claimTurn, ptrReply, replyTurn, stepTurn, walked, endedOf, tickOf};
+ghost use Rattle.claims.specs.steps.Tick.{withClaim, withSent, withoutReply, sends, actionTurn, claimTurn};
+ghost use Rattle.claims.specs.steps.Tick.{ptrReply, replyTurn, stepTurn, walked, endedOf, tickOf};
 ghost use Rattle.claims.specs.steps.Steps as steps;
 use crate::ClaimState;
 use crate::Multicasts;

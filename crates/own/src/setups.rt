@@ -8,7 +8,8 @@ use crate::records::Setup;
 use crate::records::Strings;
 ghost use mathlib.Core.Path.{_≡_};
 ghost use mathlib.Core.Bool.{true};
-ghost use Rattle.own.specs.records.Setups.{local, isLetter, isNameByte, allNameBytes, someLetter, hyphensApart, serviceRule, labelFits, serviceFits, protocolFits, domainFits, txtFits, validSetup};
+ghost use Rattle.own.specs.records.Setups.{local, isLetter, isNameByte, allNameBytes, someLetter, hyphensApart};
+ghost use Rattle.own.specs.records.Setups.{serviceRule, labelFits, serviceFits, protocolFits, domainFits, txtFits, validSetup};
 
 // An ASCII letter.
 fn letter(b: u8) -> bool

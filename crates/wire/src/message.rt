@@ -2,7 +2,8 @@
 // message once, and then walks a section with a cursor.
 ghost use mathlib.Core.Path.{_≡_};
 ghost use Rattle.wire.specs.message.Message.{ttlOf};
-ghost use Rattle.wire.specs.message.Layout.{questionRead, recordRead, questionAt, recordAt, listFrom, sectionsOf, plainHeader, messageAt, readOf, refusalOf};
+ghost use Rattle.wire.specs.message.Layout.{questionRead, recordRead, questionAt, recordAt, listFrom};
+ghost use Rattle.wire.specs.message.Layout.{sectionsOf, plainHeader, messageAt, readOf, refusalOf};
 ghost use Rattle.wire.specs.message.Places.{pastItem, pastList};
 ghost use Rattle.wire.specs.message.Readable.{wholeRead};
 ghost use Rattle.wire.specs.message.Refusals.{packetRefusal, messageFrom};
