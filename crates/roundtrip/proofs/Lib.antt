@@ -1,4 +1,4 @@
--- Theorems: Whole, Puts, Composed, OwnPackets, Cases. What they are made of: Names, Sound, Records, Questions, Lists.
+-- Theorems: Whole, Puts (with PutCase, calls to which it applies), Composed, OwnPackets, Cases. What they are made of: Names, Sound, Records, Questions, Lists.
 mod Names
 mod Sound
 mod Records
@@ -9,3 +9,4 @@ pub mod Puts
 pub mod Composed
 pub mod OwnPackets
 pub mod Cases
+pub mod PutCase
