@@ -51,6 +51,10 @@ put refused 4
 put refused 5
 put refused 6
 look slot
+look owner of no label
+look owner of 1 label
+look owner of 2 to 126 labels
+look owner of 127 labels
 look none
 look refused 1
 look refused 6
@@ -60,5 +64,17 @@ clear cleared
 txt value received
 txt value factory
 read message with something
+read question of no label
+read question of 1 label
+read question of 2 to 126 labels
+read question of 127 labels
+read owner of no label
+read owner of 127 labels
+read PTR target of no label
+read PTR target of 1 label
+read PTR target of 127 labels
+read SRV target of no label
+read SRV target of 1 label
+read SRV target of 127 labels
 KINDS
 exit "$missing"

@@ -110,11 +110,11 @@ struct kurgashel_taken {
 struct kurgashel_taken kurgashel_cache_take(struct kurgashel_entry *table, size_t entries, uint8_t *store, size_t store_bytes, uint64_t now, uint16_t port,
                                             const uint8_t *message, size_t message_bytes);
 
-/* A refusal or 0; whether a live entry was found, and its slot. */
+/* A refusal or 0; whether a live entry was found, and its slot; how many labels the name has, and the entry's owner as well, and the length of the first. */
 struct kurgashel_looked {
     uint8_t refusal;
     bool found;
-    size_t slot;
+    size_t slot, name_labels, name_first_label;
 };
 
 /* The lowest live entry from slot `from` on with that name (uncompressed, as on the wire) and type. Refusals 1, 8, 6. */
@@ -151,12 +151,15 @@ struct kurgashel_message kurgashel_message(const uint8_t *message, size_t messag
 /* The refusal alone. */
 uint8_t kurgashel_message_refusal(const uint8_t *message, size_t message_bytes);
 
-/* The question at an offset: type and class as on the wire, the offset of its name and its uncompressed length, and the offset past it, where the section's
- * next one starts. All is 0 where none is found, which does not happen inside a section of a message that is not refused. */
+/* Of a name that is read, `labels` is how many labels it has, pointers followed: 0 to 127, and 0 for the root alone. `first_label` is the length of the first,
+ * 0 to 63, such as that of the instance in the name of one; it stands behind its length byte, at 1 of the uncompressed bytes. */
+
+/* The question at an offset: type and class as on the wire, the offset of its name, its uncompressed length and its labels, and the offset past it, where the
+ * section's next one starts. All is 0 where none is found, which does not happen inside a section of a message that is not refused. */
 struct kurgashel_question {
     bool found;
     uint16_t rtype, class_;
-    size_t name, name_length, next;
+    size_t name, name_length, name_labels, name_first_label, next;
 };
 struct kurgashel_question kurgashel_question(const uint8_t *message, size_t message_bytes, size_t at);
 
@@ -166,7 +169,7 @@ struct kurgashel_record {
     bool found;
     uint16_t rtype, class_;
     uint32_t ttl;
-    size_t owner, owner_length, rdata, rdata_length, next;
+    size_t owner, owner_length, owner_labels, owner_first_label, rdata, rdata_length, next;
 };
 struct kurgashel_record kurgashel_record(const uint8_t *message, size_t message_bytes, size_t at);
 
@@ -177,12 +180,12 @@ struct kurgashel_address {
 };
 struct kurgashel_address kurgashel_address(const uint8_t *message, size_t message_bytes, uint16_t rtype, size_t rdata, size_t rdata_length);
 
-/* The SRV in the rdata of one: priority, weight, port, the offset of its target's name and the uncompressed length of that. All is 0 where none is found, which
- * does not happen in a message that is not refused. Of an entry of the cache the rdata itself is the message, since the names in it are uncompressed. */
+/* The SRV in the rdata of one: priority, weight, port, the offset of its target's name, the uncompressed length of that and its labels. All is 0 where none is
+ * found, which does not happen in a message that is not refused. Of an entry of the cache the rdata itself is the message, since the names in it are uncompressed. */
 struct kurgashel_srv {
     bool found;
     uint16_t priority, weight, port;
-    size_t target, target_length;
+    size_t target, target_length, target_labels, target_first_label;
 };
 struct kurgashel_srv kurgashel_srv(const uint8_t *message, size_t message_bytes, size_t rdata, size_t rdata_length);
 
@@ -195,9 +198,9 @@ struct kurgashel_txt_string {
 };
 struct kurgashel_txt_string kurgashel_txt_string(const uint8_t *txt, size_t txt_bytes, size_t at);
 
-/* The name at an offset, uncompressed: its length, zero byte included, 0 where it is malformed; and its bytes, with zeros behind them. */
+/* The name at an offset, uncompressed: its length, zero byte included, 0 where it is malformed; its labels; and its bytes, with zeros behind them. */
 struct kurgashel_name {
-    size_t length;
+    size_t length, labels, first_label;
     uint8_t bytes[255];
 };
 struct kurgashel_name kurgashel_name(const uint8_t *message, size_t message_bytes, size_t at);

@@ -45,8 +45,9 @@ int main(void) {
     uint8_t slot[1024] = { 0 }; memcpy(slot, NAME, LEN); memcpy(slot + 256, ip, 4);
     expect(!memcmp(st, slot, 1024) && st[1024] == 0, "its slot, unused bytes 0");
     struct kurgashel_looked l = find(1000, NAME, LEN, A, 0); expect(!l.refusal && l.found && l.slot == 0, "found");
-    l = find(120999, UPPER, LEN, A, 0); expect(l.found, "found until it expires, letters folded");
-    l = find(121000, NAME, LEN, A, 0); expect(!l.refusal && !l.found, "not at its expiry");
+    expect(l.name_labels == 2 && l.name_first_label == 4, "with the labels of its name");
+    l = find(120999, UPPER, LEN, A, 0); expect(l.found && l.name_labels == 2 && l.name_first_label == 4, "found until it expires, letters folded");
+    l = find(121000, NAME, LEN, A, 0); expect(!l.refusal && !l.found && !l.name_labels && !l.name_first_label, "not at its expiry");
     l = find(1000, NAME, LEN, A, 1); expect(!l.found, "not from the next slot on");
     l = find(1000, NAME, LEN, A, (size_t)-1); expect(!l.refusal && !l.found, "any slot may be asked from");
     l = find(1000, NAME, LEN, PTR, 0); expect(!l.found, "another type");

@@ -15,14 +15,18 @@ static const uint8_t message[] = "\0\0\x84\0\0\0\0\4\0\0\0\0"
     "\xc0\x35" "\0\x1c\x80\1\0\0\0\x78\0\x10" "\xfe\x80\0\0\0\0\0\0\0\0\0\0\0\0\0\7";
 enum { BYTES = sizeof message - 1, A = 1, TXT = 16, AAAA = 28, SRV = 33 };
 
-static int none(struct kurgashel_srv s) { return !s.found && !s.priority && !s.weight && !s.port && !s.target && !s.target_length; }
+static int none(struct kurgashel_srv s) {
+    return !s.found && !s.priority && !s.weight && !s.port && !s.target && !s.target_length && !s.target_labels && !s.target_first_label;
+}
 static struct kurgashel_srv srv(size_t at, size_t length) { return kurgashel_srv(message, BYTES, at, length); }
 
 static void walk(void) {
     static const struct { uint16_t rtype; size_t at, rdata, length, next; } records[] = { { SRV, 12, 47, 13, 60 }, { TXT, 60, 72, 16, 88 }, { A, 88, 100, 4, 104 }, { AAAA, 104, 116, 16, 132 } };
     expect(BYTES == 132 && !kurgashel_message(message, BYTES).refusal && kurgashel_message(message, BYTES).end == 132, "the announcement is well formed");
+    static const size_t labels[] = { 4, 4, 2, 2 }, first[] = { 5, 5, 4, 4 };
     for (size_t i = 0; i < 4; i++) {
         struct kurgashel_record r = kurgashel_record(message, BYTES, records[i].at);
+        expect(r.owner_labels == labels[i] && r.owner_first_label == first[i], "the labels of an owner, also behind a pointer");
         expect(r.found && r.rtype == records[i].rtype && r.rdata == records[i].rdata && r.rdata_length == records[i].length && r.next == records[i].next, "a record");
     }
 }
@@ -30,6 +34,7 @@ static void walk(void) {
 static void services(void) {
     struct kurgashel_srv s = srv(47, 13);
     expect(s.found && s.priority == 1 && s.weight == 2 && s.port == 4000 && s.target == 53 && s.target_length == 12, "the SRV");
+    expect(s.target_labels == 2 && s.target_first_label == 4, "the labels of its target");
     struct kurgashel_name name = kurgashel_name(message, BYTES, s.target);
     expect(name.length == 12 && !memcmp(name.bytes, "\4dock\5local", 12), "its target, uncompressed");
     expect(none(srv(47, 12)) && none(srv(47, 14)) && none(srv(48, 12)), "the target has to end where the part does");
@@ -40,6 +45,31 @@ static void services(void) {
     static const uint8_t cached[18] = "\xff\xff\0\0\1\2\4dock\5local";
     s = kurgashel_srv(cached, 18, 0, 18);
     expect(s.found && s.priority == 65535 && !s.weight && s.port == 258 && s.target == 6 && s.target_length == 12, "uncompressed rdata, as in the cache");
+}
+
+static int named(const void *bytes, size_t count, size_t at, size_t length, size_t labels, size_t first) {
+    struct kurgashel_name n = kurgashel_name(bytes, count, at);
+    return n.length == length && n.labels == labels && n.first_label == first;
+}
+
+static void names(void) {
+    // the root at 12, "ab.c" at 13, a pointer into its middle at 18, a label before a pointer to that pointer at 20
+    static const uint8_t packet[] = "\0\0\0\0\0\0\0\0\0\0\0\0" "\0" "\2ab\1c\0" "\xc0\x10" "\3def\xc0\x13";
+    enum { PACKET = sizeof packet - 1 };
+    expect(named(packet, PACKET, 12, 1, 0, 0), "the root has no label");
+    expect(named(packet, PACKET, 13, 6, 2, 2) && named(packet, PACKET, 16, 3, 1, 1), "two labels, and the second alone");
+    expect(named(packet, PACKET, 19, 3, 1, 1), "a name that begins with a pointer");
+    expect(named(packet, PACKET, 21, 7, 2, 3), "a label before two pointers");
+    expect(named(packet, PACKET, 22, 0, 0, 0) && named(packet, PACKET, 99, 0, 0, 0) && named(NULL, 0, 0, 0, 0, 0), "no name has no number");
+    uint8_t most[256] = { 0 };
+    for (size_t i = 0; i < 127; i++)
+        most[2 * i] = 1, most[2 * i + 1] = 'a';
+    expect(named(most, 255, 0, 255, 127, 1), "127 labels, as many as there can be");
+    static const uint8_t query[] = "\0\0\0\0\0\1\0\0\0\0\0\0" "\5booth\5local\0" "\0\xff\0\1";
+    struct kurgashel_question q = kurgashel_question(query, sizeof query - 1, 12);
+    expect(q.found && q.name_length == 13 && q.name_labels == 2 && q.name_first_label == 5, "the labels of a question's name");
+    q = kurgashel_question(query, sizeof query - 2, 12);
+    expect(!q.found && !q.name_labels && !q.name_first_label, "a question that is cut");
 }
 
 static int address(uint16_t rtype, size_t at, size_t length, const char *bytes, size_t count) {
@@ -74,6 +104,7 @@ static void strings(void) {
 int main(void) {
     walk();
     services();
+    names();
     addresses();
     strings();
     printf("reader: %d cases, %d failed\n", cases, failed);

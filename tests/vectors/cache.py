@@ -364,6 +364,26 @@ for owner in (filled(254), filled(255), filled(256), name(b"a" * 63), bytes([64]
     look(1000, owner)
 look(1000, b"\1" * 19000)
 
+show("labels of what is found, and the length of the first: the root, one label, 63 bytes of one, 127 labels, and names that came by pointers")
+clear()
+MANY = labels(*[b"a"] * 127) + b"\0"
+owners = [b"\0", name(b"desk"), name(b"d" * 63, b"local"), MANY, filled(255)]
+put(0, response(*(address(owner=owner) for owner in owners)))
+for owner in owners:
+    look(0, owner)
+    look(0, owner.upper())
+clear()
+first = 12 + len(BOOTH) + 4
+cut = (pointer(12), pointer(18), labels(b"x") + pointer(30), labels(b"yz") + pointer(first))
+put(0, header(qd=1, an=4) + question(BOOTH) + b"".join(address(i, owner=owner) for i, owner in enumerate(cut)))
+for owner in (BOOTH, SERVICE, name(b"X", b"Local"), labels(b"yz") + BOOTH):
+    look(0, owner)
+show("the rdata of what is found is as stored, with no labels behind it: PTR and SRV")
+clear()
+put(0, response(record(SERVICE, PTR, BOOTH), record(BOOTH, SRV, bytes(6) + HOST)))
+look(0, SERVICE, PTR)
+look(0, BOOTH, SRV)
+
 show("an entry of the root: found by the root alone")
 clear()
 put(0, response(address(owner=b"\0")))

@@ -125,6 +125,66 @@ for i in range(n):
 p = header(an=1, ar=1) + record(b"\0", 65280, chain) + record(pointer(base + 1 + 2 * (n - 1)), A, bytes([1, 2, 3, 4]))
 read(p)
 
+# --- labels -----------------------------------------------------------------------------------------------------------
+
+MANY = labels(*[b"a"] * 127) + b"\0"
+
+
+def everywhere(before, form):
+    """A name in each place that hands it on, behind questions for other names: a question, an owner, the targets of PTR and SRV."""
+    questions = b"".join(map(question, [*before, form]))
+    records = record(form, A, bytes(4)) + record(b"\0", PTR, form) + record(b"\0", SRV, bytes(6) + form)
+    read(header(len(before) + 1, 1, 1, 1) + questions + records)
+
+
+show("labels and the first one's length: the root, one label of 1, 2 and 63 bytes, four labels, 127")
+for form in (b"\0", name(b"a"), name(b"ab"), name(b"a" * 63), name(b"a", b"b" * 63), name(b"Booth 3", b"_voice", b"_tcp", b"local"), MANY, filled(255)):
+    everywhere([], form)
+
+show("a name that begins with a pointer has the labels of what it points to: the root, one label, four, 127, one of 63 bytes")
+for form in (b"\0", name(b"a"), name(b"Booth 3", b"_voice", b"_tcp", b"local"), MANY, name(b"a" * 63, b"b")):
+    everywhere([form], pointer(12))
+
+show("a pointer into the middle of a name: to its second label, its last, its zero byte; to the 126th and 127th of 127")
+booth = name(b"booth", b"_voice", b"_tcp", b"local")
+for target in (18, 25, 30, 36):
+    everywhere([booth], pointer(target))
+for target in (14, 12 + 250, 12 + 252, 12 + 254):
+    everywhere([MANY], pointer(target))
+
+show("a label and a pointer to the same places; a pointer into the middle of a label, where a shorter name reads")
+for target in (12, 18, 25, 30, 36):
+    everywhere([booth], labels(b"xyz") + pointer(target))
+everywhere([MANY], labels(b"x") + pointer(14))
+everywhere([MANY], labels(b"x") + pointer(12))
+everywhere([name(b"\1b\2cd\0")], labels(b"xyz") + pointer(13))
+
+show("labels behind two pointers: before both, between them and behind; between and behind; behind alone; and three")
+at = 12 + len(booth) + 4
+between = labels(b"yy") + pointer(25)
+for form in (labels(b"xyz") + pointer(at), pointer(at), pointer(at + 3), labels(b"xyz", b"w") + pointer(at + 3)):
+    everywhere([booth, between], form)
+everywhere([booth, between, labels(b"zzzz") + pointer(at)], labels(b"v") + pointer(at + len(between) + 4))
+everywhere([b"\0", pointer(12)], pointer(17))
+everywhere([b"\0", pointer(12)], labels(b"x") + pointer(17))
+
+show("126 and 127 labels by a pointer; 128 are more than 255 bytes")
+for more in (0, 1, 2):
+    everywhere([labels(*[b"a"] * 126) + b"\0"], labels(*[b"b"] * more) + pointer(12))
+
+show("a name of 127 labels, each behind a pointer of its own")
+at = 12
+chain = question(name(b"a"))
+for i in range(126):
+    start = 12 + len(chain)
+    chain += question(labels(b"b") + pointer(at))
+    at = start
+read(header(qd=127) + chain)
+
+show("records of other types, and of the five that have no target, show their owner's labels alone")
+for rtype, rdata in ((A, bytes(4)), (AAAA, bytes(16)), (TXT, HOST[:5]), (99, HOST), (5, HOST)):
+    read(header(an=1) + record(HOST, rtype, rdata))
+
 # --- sections ---------------------------------------------------------------------------------------------------------
 
 show("no questions, no records: ID and flags alone")

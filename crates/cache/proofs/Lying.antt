@@ -79,16 +79,16 @@ module _ (p : List ℕ) (f : RecordAt) (whole : Whole p f) where
     bytes-are : e .bytes ≡ shown .owner ++ replicate (255 - length (shown .owner)) 0
     bytes-are = ap (λ (y : Expanded). y .bytes) (is ∙ ap expanded (met .owner))
 
-    pub owner-is : take (f .span) (e .bytes) ≡ shown .owner
-    owner-is = ap (take (f .span)) bytes-are ∙ take-at (shown .owner) (replicate (255 - length (shown .owner)) 0) (f .span) (sym (met .span))
+    pub owner-is : take (f .span .len) (e .bytes) ≡ shown .owner
+    owner-is = ap (take (f .span .len)) bytes-are ∙ take-at (shown .owner) (replicate (255 - length (shown .owner)) 0) (f .span .len) (sym (met .span))
 
-    pub span-fits : f .span ≤ length (e .bytes)
+    pub span-fits : f .span .len ≤ length (e .bytes)
     span-fits = omega (arith, ap length bytes-are, length-append (shown .owner) (replicate (255 - length (shown .owner)) 0), met .span)
 
-    pub span-long : f .span ≡ length (take (f .span) (e .bytes))
+    pub span-long : f .span .len ≡ length (take (f .span .len) (e .bytes))
     span-long = met .span ∙ sym (ap length owner-is)
 
-    pub short : length (take (f .span) (e .bytes)) ≤ 255
+    pub short : length (take (f .span .len) (e .bytes)) ≤ 255
     short = omega (arith, at-most-255 p (f .owner) (shown .owner) (met .end) (met .owner), ap length owner-is)
 
   pub content-is : (o : Opened) → o ≡ openedAt p f → (seen : List ℕ) → seen ≡ viewOf p (o .bytes) (o .len) f → seen ≡ shown .rdata

@@ -287,7 +287,7 @@ fn take_record(k: Kept, store: &mut [u8], time: u64, p: &[u8], f: wire::message:
         return k;
     }
     let rtype = f.rtype;
-    let span = f.span;
+    let span = f.span.len;
     let expanded = wire::names::expand(p, f.owner);
     let name = expanded.bytes;
     let owner = &name[..span];

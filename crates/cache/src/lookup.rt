@@ -5,7 +5,7 @@ ghost use Rattle.wire.specs.Lists.{some};
 ghost use Rattle.cache.specs.entries.Entries.{matches, heardAhead, tooLong};
 ghost use Rattle.cache.specs.entries.Tables.{lowest};
 ghost use Rattle.cache.specs.entries.Cache.{entriesRefusal, lookRefusal};
-ghost use Rattle.cache.specs.lookup.Answers.{lookedRefusal, lookedNumber, lookedOf};
+ghost use Rattle.cache.specs.lookup.Answers.{metAt, lookedRefusal, lookedNumber, lookedOf};
 use crate::entries::Entry;
 use crate::entries::Slot;
 
@@ -15,10 +15,17 @@ pub const LATEST: u64 = 4611686018427387904;
 // The bytes of a store of 64 slots.
 pub const STORE: usize = 65536;
 
+// What a lookup found: a slot, and of the name how many labels it has and how long the first is; the same holds of the owner in the slot.
+pub struct Met {
+    pub slot: usize,
+    pub labels: usize,
+    pub first: usize,
+}
+
 // What a lookup answers. A refusal carries the specification's number.
 pub enum Looked {
     Refused(u8),
-    Found(usize),
+    Found(Met),
     Nothing,
 }
 
@@ -99,6 +106,18 @@ pub fn look_refusal(entries: u8, store: &[u8], name: &[u8]) -> u8
     0
 }
 
+// A slot that was found for a name.
+pub fn met_at(slot: usize, name: &[u8]) -> Met
+    ensures { λ r. ⌜ r ≡ metAt (now (name .entry)) slot ⌝ }
+{
+    let span = wire::names::plain_span(name);
+    Met {
+        slot,
+        labels: span.labels,
+        first: span.first,
+    }
+}
+
 // Looks a name and a type up: the lowest live match from a slot on.
 pub fn look_by_value(
     es: [Entry; 64],
@@ -116,7 +135,7 @@ pub fn look_by_value(
         return Looked::Refused(refusal);
     }
     match find(es, store, time, name, rtype, from) {
-        Slot::At(i) => Looked::Found(i),
+        Slot::At(i) => Looked::Found(met_at(i, name)),
         Slot::Nowhere => Looked::Nothing,
     }
 }

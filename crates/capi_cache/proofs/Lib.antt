@@ -8,3 +8,4 @@ mod Plain
 mod Looking
 mod Taking
 mod CallsBytes
+mod CallsFound

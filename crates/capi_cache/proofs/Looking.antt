@@ -38,18 +38,18 @@ module _ (now : ℕ) (es : List Entry) (store name : List ℕ) (rtype from : ℕ
 
   pub is-refused : (lookedRefusal (entriesRefusal now es) store name ≡ 0 → ⊥) → refusedLook (lookedRefusal (entriesRefusal now es) store name) ≡ lookedNumbers (lookedOf now es store name rtype from)
   unfolding lookedOf
-  is-refused z = go (lookedRefusal (entriesRefusal now es) store name) z (lookIn now es store name rtype from) ∙ ap (λ (n : ℕ). lookedNumbers (lookedWith n (lookIn now es store name rtype from))) number
+  is-refused z = go (lookedRefusal (entriesRefusal now es) store name) z (lookIn now es store name rtype from) ∙ ap (λ (n : ℕ). lookedNumbers (lookedWith name n (lookIn now es store name rtype from))) number
     where
-      go : (n : ℕ) → (n ≡ 0 → ⊥) → (s : Slot) → refusedLook n ≡ lookedNumbers (lookedWith n s)
+      go : (n : ℕ) → (n ≡ 0 → ⊥) → (s : Slot) → refusedLook n ≡ lookedNumbers (lookedWith name n s)
       go n z (At i) = sym (simp (ne-eqb n 0 z))
       go n z Nowhere = sym (simp (ne-eqb n 0 z))
 
   module _ (z : lookedRefusal (entriesRefusal now es) store name ≡ 0) where
-    answer : (s : Slot) → s ≡ lookIn now es store name rtype from → lookedNumbers (lookedWith 0 s) ≡ lookedNumbers (lookedOf now es store name rtype from)
+    answer : (s : Slot) → s ≡ lookIn now es store name rtype from → lookedNumbers (lookedWith name 0 s) ≡ lookedNumbers (lookedOf now es store name rtype from)
     unfolding lookedOf
-    answer s h = ap (λ (x : Slot). lookedNumbers (lookedWith 0 x)) h ∙ ap (λ (n : ℕ). lookedNumbers (lookedWith n (lookIn now es store name rtype from))) (sym z ∙ number)
+    answer s h = ap (λ (x : Slot). lookedNumbers (lookedWith name 0 x)) h ∙ ap (λ (n : ℕ). lookedNumbers (lookedWith name n (lookIn now es store name rtype from))) (sym z ∙ number)
 
-    pub is-found : (i : ℕ) → At i ≡ lookIn now es store name rtype from → foundLook i ≡ lookedNumbers (lookedOf now es store name rtype from)
+    pub is-found : (i : ℕ) → At i ≡ lookIn now es store name rtype from → foundLook name i ≡ lookedNumbers (lookedOf now es store name rtype from)
     is-found i h = answer (At i) h
 
     pub is-nothing : Nowhere ≡ lookIn now es store name rtype from → nothingLook ≡ lookedNumbers (lookedOf now es store name rtype from)

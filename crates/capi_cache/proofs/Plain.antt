@@ -30,7 +30,7 @@ use Rattle.cache.specs.declared.AfterTake.{AfterTake}
 use Rattle.cache.proofs.AfterTake as AT
 use Rattle.cache.proofs.AfterTake.Laws as AT′
 use Rattle.capi_cache.specs.Refusals.{lateness, worse, ended}
-use Rattle.capi_cache.specs.Numbers.{refusedLook, foundLook, nothingLook, refusedTake, takenNumbers}
+use Rattle.capi_cache.specs.Numbers.{refusedLook, nothingLook, refusedTake, takenNumbers}
 use Rattle.capi_cache.specs.declared.TakenNumbers.{TakenNumbers}
 use Rattle.capi_cache.proofs.TakenNumbers as TN
 use Rattle.capi_cache.proofs.Calls.{R}
@@ -39,7 +39,6 @@ use Rattle.capi_cache.proofs.late as late
 use Rattle.capi_cache.proofs.after_entry as after-entry
 use Rattle.capi_cache.proofs.at_end as at-end
 use Rattle.capi_cache.proofs.refused_look as refused-look
-use Rattle.capi_cache.proofs.found_look as found-look
 use Rattle.capi_cache.proofs.nothing_look as nothing-look
 use Rattle.capi_cache.proofs.refused_take as refused-take
 use Rattle.capi_cache.proofs.entries_of as entries-of
@@ -116,23 +115,6 @@ module _ {M : Type 1} (𝓤 : URA M) (H : Heap 𝓤) (A : Atoms 𝓤) (W : Given
         qed W (raw (RefusedLook .post to-refused-look w) ∷ []) ∵ updating ! $
         use1 W (later (some (λ (y : LookedNumbers). (‵ ftrue ⊛ ‵ (LN.the-row .own y (w ∷ []))) ⊛ raw (ensured 𝓤 H A refused-look.ended (refused-look.clauses 𝓤 H A at-mem run) tt (r, tt) tt y)))) (id⊢ 𝓤 _) $ await ! tt $ pick ! (λ y.
         split ! $ move ! (1 ∷ []) $ use1 W (raw (fact 𝓤 (y ≡ refusedLook r))) (exE 𝓤 _ (λ ws. snd∗ 𝓤 (sem 𝓤 H A (lasts refused-look.ended tt (r, tt) ws)) (fact 𝓤 (y ≡ refusedLook r)))) $ heard ! (y ≡ refusedLook r) (λ same.
-        split ! $ drop ! $ peeks ! LN.the-row (Is LN.the-row) (shows 𝓤 H A LN.the-row) y (w ∷ []) (λ is. at-once ! $ check ! (subst (λ (y : LookedNumbers). Is LN.the-row y (w ∷ [])) same is) $ drop ! $ done !)))
-
-  abbrev pub FoundLook : Contract 𝓤
-  FoundLook = tripleOf 𝓤 H A found-look.signature (found-look.spec 𝓤 H A at-mem run)
-
-  module _ (i : ℕ) where
-    abbrev pub to-found-look : FoundLook .Ghost
-    to-found-look = ((tt, tt, tt, (i, tt), (vint w64 i ∷ [], tt)), tt)
-
-    pub goes-found-look : i < 2 ^ 64 → ent 𝓤 (emp 𝓤) (FoundLook .pre to-found-look)
-    goes-found-look gi = qed W [] ∵ nothing ! $ nothing ! $ owned ! usize (Is usize) (uint-makes 𝓤 H A W w64) i _ (refl, gi) $ fjoin ! $ nothing ! $ join ! $ done !
-
-    pub gives-found-look : (w : Val) → ent 𝓤 (FoundLook .post to-found-look w) (H .⇛ (guard 𝓤 (Is LN.the-row (foundLook i) (w ∷ [])) (emp 𝓤)))
-    gives-found-look w =
-        qed W (raw (FoundLook .post to-found-look w) ∷ []) ∵ updating ! $
-        use1 W (later (some (λ (y : LookedNumbers). (‵ ftrue ⊛ ‵ (LN.the-row .own y (w ∷ []))) ⊛ raw (ensured 𝓤 H A found-look.ended (found-look.clauses 𝓤 H A at-mem run) tt (i, tt) tt y)))) (id⊢ 𝓤 _) $ await ! tt $ pick ! (λ y.
-        split ! $ move ! (1 ∷ []) $ use1 W (raw (fact 𝓤 (y ≡ foundLook i))) (exE 𝓤 _ (λ ws. snd∗ 𝓤 (sem 𝓤 H A (lasts found-look.ended tt (i, tt) ws)) (fact 𝓤 (y ≡ foundLook i)))) $ heard ! (y ≡ foundLook i) (λ same.
         split ! $ drop ! $ peeks ! LN.the-row (Is LN.the-row) (shows 𝓤 H A LN.the-row) y (w ∷ []) (λ is. at-once ! $ check ! (subst (λ (y : LookedNumbers). Is LN.the-row y (w ∷ [])) same is) $ drop ! $ done !)))
 
   abbrev pub NothingLook : Contract 𝓤

@@ -23,12 +23,15 @@ pub struct TakenNumbers {
     pub passed: u32,
 }
 
-// What a lookup answers in numbers.
+// What a lookup answers in numbers; with a slot that was found come those of the name, and of the owner there: how many labels it has, and how long the
+// first is.
 #[repr(C)]
 pub struct LookedNumbers {
     pub refusal: u8,
     pub found: bool,
     pub slot: usize,
+    pub name_labels: usize,
+    pub name_first_label: usize,
 }
 
 // How many entries the table has.
@@ -179,16 +182,21 @@ fn refused_look(refusal: u8) -> LookedNumbers
         refusal,
         found: false,
         slot: 0,
+        name_labels: 0,
+        name_first_label: 0,
     }
 }
 
-fn found_look(slot: usize) -> LookedNumbers
-    ensures { λ r. ⌜ r ≡ foundLook slot ⌝ }
+fn found_look(slot: usize, name: &[u8]) -> LookedNumbers
+    ensures { λ r. ⌜ r ≡ foundLook (now (name .entry)) slot ⌝ }
 {
+    let met = cache::lookup::met_at(slot, name);
     LookedNumbers {
         refusal: 0,
         found: true,
-        slot,
+        slot: met.slot,
+        name_labels: met.labels,
+        name_first_label: met.first,
     }
 }
 
@@ -199,6 +207,8 @@ fn nothing_look() -> LookedNumbers
         refusal: 0,
         found: false,
         slot: 0,
+        name_labels: 0,
+        name_first_label: 0,
     }
 }
 
@@ -264,7 +274,7 @@ pub extern "C" fn kurgashel_cache_look_up(
     let mut i = from;
     while i < n {
         if cache::entries::is_live_of(entry_at(table, i), i, store, time, name, rtype) {
-            return found_look(i);
+            return found_look(i, name);
         }
         i += 1;
     }

@@ -4,7 +4,7 @@ use mathlib.Core.List.{List}
 use Prim.Native.Nat.{ℕ}
 use native.Mathlib.Omega.{arith}
 use Rattle.wire.specs.names.Names.{Reading, name, malformed}
-use Rattle.wire.specs.names.Answers.{foundOf, expanded}
+use Rattle.wire.specs.names.Answers.{spanOf, foundOf, expanded}
 use Rattle.wire.specs.declared.names.Span.{Span}
 use Rattle.wire.specs.declared.names.Name.{Name}
 use Rattle.wire.specs.declared.names.Name.the-variants.{Found, Malformed}
@@ -30,17 +30,17 @@ module _ (x : Reading) (r : Name) (h : r ≡ foundOf x) where
   length-bad k = sym (ap lengthOf (as-malformed x r h k))
 
 module _ (x : Reading) (r : Expanded) (h : r ≡ expanded x) where
-  pub name-found : (s : Span) → r .name ≡ Found s → _≡_ {A = exported.Name} (record { length = s .len; bytes = r .bytes }) (nameOf x)
+  pub name-found : (s : Span) → r .name ≡ Found s → _≡_ {A = exported.Name} (record { length = s .len; labels = s .labels; «first_label» = s .first; bytes = r .bytes }) (nameOf x)
   name-found s k = go x h
     where
-      go : (y : Reading) → r ≡ expanded y → _≡_ {A = exported.Name} (record { length = s .len; bytes = r .bytes }) (nameOf y)
+      go : (y : Reading) → r ≡ expanded y → _≡_ {A = exported.Name} (record { length = s .len; labels = s .labels; «first_label» = s .first; bytes = r .bytes }) (nameOf y)
       go (name bs e) g =
-          let f : Found s ≡ Found (record { end = e; len = length bs }) = sym k ∙ ap (λ (z : Expanded). z .name) g in
-          let i : s ≡ record { end = e; len = length bs } = cc in
-          λ j. record { length = i j .len; bytes = g j .bytes }
+          let f : Found s ≡ Found (spanOf bs e) = sym k ∙ ap (λ (z : Expanded). z .name) g in
+          let i : s ≡ spanOf bs e = cc in
+          λ j. record { length = i j .len; labels = i j .labels; «first_label» = i j .first; bytes = g j .bytes }
       go malformed g =
           let f : Found s ≡ Malformed = sym k ∙ ap (λ (z : Expanded). z .name) g in
           let z : _≡_ {A = ℕ} 0 1 = cc in absurd (omega arith)
 
-  pub name-bad : r .name ≡ Malformed → _≡_ {A = exported.Name} (record { length = 0; bytes = replicate 255 0 }) (nameOf x)
+  pub name-bad : r .name ≡ Malformed → _≡_ {A = exported.Name} (record { length = 0; labels = 0; «first_label» = 0; bytes = replicate 255 0 }) (nameOf x)
   name-bad k = sym (ap nameOf (as-unexpanded x r (r .name) h refl k))

@@ -2,6 +2,7 @@
 use Prim.Native.Nat.{ℕ, _-_}
 use mathlib.Core.List.{_++_}
 use lib.ListN.{length, replicate}
+use Rattle.wire.specs.labels.Counted.{labelsIn, firstIn}
 use Rattle.wire.specs.names.Names.{Reading, name, malformed}
 use Rattle.wire.specs.declared.message.MessageRead.{MessageRead}
 use Rattle.wire.specs.declared.message.MessageRead.the-variants as m
@@ -19,8 +20,9 @@ lengthOf (name bs e) = length bs
 lengthOf malformed = 0
 
 abbrev pub nameOf : Reading → Name
-nameOf (name bs e) = record { length = length bs; bytes = bs ++ replicate (255 - length bs) 0 }
-nameOf malformed = record { length = 0; bytes = replicate 255 0 }
+nameOf (name bs e) =
+    record { length = length bs; labels = labelsIn bs; «first_label» = firstIn bs; bytes = bs ++ replicate (255 - length bs) 0 }
+nameOf malformed = record { length = 0; labels = 0; «first_label» = 0; bytes = replicate 255 0 }
 
 -- where the parts of a message lie; all is 0 but the refusal where there is one
 abbrev pub sectionsOf : MessageRead → Sections

@@ -5,10 +5,13 @@ ghost use Rattle.wire.specs.message.Layout.{messageAt, readOf, refusalOf};
 ghost use Rattle.wire.specs.names.Names.{nameAt};
 ghost use Rattle.capi_reader.specs.Reader.{endOf, lengthOf, nameOf, sectionsOf};
 
-// A name: its uncompressed length, 0 where it is malformed, and its bytes, with zeros behind them.
+// A name: its uncompressed length, 0 where it is malformed, how many labels it has and how long the first is, 0 and 0 of the root, and its bytes, with zeros
+// behind them.
 #[repr(C)]
 pub struct Name {
     pub length: usize,
+    pub labels: usize,
+    pub first_label: usize,
     pub bytes: [u8; 255],
 }
 
@@ -74,10 +77,14 @@ pub extern "C" fn kurgashel_name(message: &[u8], at: usize) -> Name
     match name {
         wire::names::Name::Found(span) => Name {
             length: span.len,
+            labels: span.labels,
+            first_label: span.first,
             bytes,
         },
         wire::names::Name::Malformed => Name {
             length: 0,
+            labels: 0,
+            first_label: 0,
             bytes: [0u8; 255],
         },
     }

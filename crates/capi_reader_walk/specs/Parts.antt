@@ -30,9 +30,18 @@ abbrev pub srvAt : List ℕ → ℕ → ℕ → SrvRead
 srvAt p at len = cond (eqb (length (partOf p at len)) len) (srvIn p at (partOf p at len)) srv.Malformed
 
 abbrev pub srvOf : SrvRead → Srv
-srvOf (srv.Found s) =
-    record { found = true; priority = s .priority; weight = s .weight; port = s .port; target = s .target; «target_length» = s .span }
-srvOf srv.Malformed = record { found = false; priority = 0; weight = 0; port = 0; target = 0; «target_length» = 0 }
+srvOf (srv.Found s) = record {
+  found = true;
+  priority = s .priority;
+  weight = s .weight;
+  port = s .port;
+  target = s .target;
+  «target_length» = s .span .len;
+  «target_labels» = s .span .labels;
+  «target_first_label» = s .span .first;
+}
+srvOf srv.Malformed =
+    record { found = false; priority = 0; weight = 0; port = 0; target = 0; «target_length» = 0; «target_labels» = 0; «target_first_label» = 0 }
 
 -- a string of a TXT, with the specification's number for each answer; all else is 0 where there is none
 abbrev pub stringOf : StringRead → Text

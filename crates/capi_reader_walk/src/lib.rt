@@ -7,7 +7,8 @@ ghost use Rattle.wire.specs.rdata.Readers.{stringAt};
 ghost use Rattle.capi_reader_walk.specs.Walked.{walkedQuestion, walkedRecord};
 ghost use Rattle.capi_reader_walk.specs.Parts.{addressOf, addressAt, srvOf, srvAt, stringOf};
 
-// A question: whether one is there, where its name starts and how long that is uncompressed, its type and class, and the offset past it.
+// A question: whether one is there, where its name starts, how long that is uncompressed, how many labels it has and how long the first is; its type and
+// class, and the offset past it.
 #[repr(C)]
 pub struct Question {
     pub found: bool,
@@ -15,11 +16,13 @@ pub struct Question {
     pub class: u16,
     pub name: usize,
     pub name_length: usize,
+    pub name_labels: usize,
+    pub name_first_label: usize,
     pub next: usize,
 }
 
-// A record: whether one is there, where its owner starts and how long that is uncompressed, its type, class and TTL, where its rdata starts and how long
-// it is, and the offset past it.
+// A record: whether one is there, where its owner starts, how long that is uncompressed, how many labels it has and how long the first is; its type, class
+// and TTL, where its rdata starts and how long it is, and the offset past it.
 #[repr(C)]
 pub struct Record {
     pub found: bool,
@@ -28,6 +31,8 @@ pub struct Record {
     pub ttl: u32,
     pub owner: usize,
     pub owner_length: usize,
+    pub owner_labels: usize,
+    pub owner_first_label: usize,
     pub rdata: usize,
     pub rdata_length: usize,
     pub next: usize,
@@ -40,7 +45,8 @@ pub struct Address {
     pub bytes: [u8; 16],
 }
 
-// An SRV: whether one is there, its priority, weight and port, and where its target starts and how long that is uncompressed.
+// An SRV: whether one is there, its priority, weight and port, and where its target starts, how long that is uncompressed, how many labels it has and how
+// long the first is.
 #[repr(C)]
 pub struct Srv {
     pub found: bool,
@@ -49,6 +55,8 @@ pub struct Srv {
     pub port: u16,
     pub target: usize,
     pub target_length: usize,
+    pub target_labels: usize,
+    pub target_first_label: usize,
 }
 
 // A string of a TXT: the refusal, whether one is there, where its text starts and how long that is, and where the next string starts.
@@ -72,7 +80,9 @@ pub extern "C" fn kurgashel_question(message: &[u8], at: usize) -> Question
             rtype: q.rtype,
             class: q.class,
             name: q.name,
-            name_length: q.span,
+            name_length: q.span.len,
+            name_labels: q.span.labels,
+            name_first_label: q.span.first,
             next: q.next,
         },
         wire::message::QuestionRead::Malformed => Question {
@@ -81,6 +91,8 @@ pub extern "C" fn kurgashel_question(message: &[u8], at: usize) -> Question
             class: 0,
             name: 0,
             name_length: 0,
+            name_labels: 0,
+            name_first_label: 0,
             next: 0,
         },
     }
@@ -98,7 +110,9 @@ pub extern "C" fn kurgashel_record(message: &[u8], at: usize) -> Record
             class: f.class,
             ttl: f.ttl,
             owner: f.owner,
-            owner_length: f.span,
+            owner_length: f.span.len,
+            owner_labels: f.span.labels,
+            owner_first_label: f.span.first,
             rdata: f.rdata,
             rdata_length: f.rdlength,
             next: f.next,
@@ -110,6 +124,8 @@ pub extern "C" fn kurgashel_record(message: &[u8], at: usize) -> Record
             ttl: 0,
             owner: 0,
             owner_length: 0,
+            owner_labels: 0,
+            owner_first_label: 0,
             rdata: 0,
             rdata_length: 0,
             next: 0,
@@ -149,6 +165,8 @@ pub extern "C" fn kurgashel_srv(message: &[u8], at: usize, len: usize) -> Srv
             port: 0,
             target: 0,
             target_length: 0,
+            target_labels: 0,
+            target_first_label: 0,
         };
     }
     match wire::rdata::srv_in(message, at, d) {
@@ -158,7 +176,9 @@ pub extern "C" fn kurgashel_srv(message: &[u8], at: usize, len: usize) -> Srv
             weight: s.weight,
             port: s.port,
             target: s.target,
-            target_length: s.span,
+            target_length: s.span.len,
+            target_labels: s.span.labels,
+            target_first_label: s.span.first,
         },
         wire::rdata::SrvRead::Malformed => Srv {
             found: false,
@@ -167,6 +187,8 @@ pub extern "C" fn kurgashel_srv(message: &[u8], at: usize, len: usize) -> Srv
             port: 0,
             target: 0,
             target_length: 0,
+            target_labels: 0,
+            target_first_label: 0,
         },
     }
 }

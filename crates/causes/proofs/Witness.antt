@@ -13,7 +13,8 @@ use Rattle.claims.specs.Refusals.{multicastsKept, kept, wrongTime}
 use Rattle.claims.specs.records.Sets.{everyOf}
 use Rattle.facts.specs.probe.Probe.{isProbe}
 use Rattle.facts.specs.Facts.{isAsked, isKnown}
-use Rattle.writer.specs.compression.Compression.{standsAt, placeOf, cutFrom, nameBytes, starts, namePlaces}
+use Rattle.writer.specs.compression.Compression.{standsAt, placeOf, cutFrom, nameBytes, namePlaces}
+use Rattle.wire.specs.labels.Counted.{starts}
 use Rattle.writer.specs.Items.{putName, dataBytes, dataPlaces, putFields}
 use Rattle.writer.specs.own_packets.Packets.{packetOf}
 use Rattle.responder.specs.Refusals.{wrongState, receiveRefusal}

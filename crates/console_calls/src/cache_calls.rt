@@ -14,6 +14,7 @@ use cache::Counts;
 use cache::Taken;
 use cache::entries::Entry;
 use cache::lookup::Looked;
+use cache::lookup::Met;
 use console_text::fields::are_bytes;
 use console_text::fields::has_arguments;
 use console_text::fields::is_number;
@@ -112,13 +113,15 @@ fn put(line: &[u8], es: [Entry; 64], store: &mut [u8], text: &mut [u8; 4096]) ->
     after.entries
 }
 
-// The answer `slot K RECEIVED EXPIRY OWNER RDATA`, of an entry and the bytes of its slot.
-fn found(k: usize, e: Entry, slot: &[u8], text: &mut [u8; 4096]) {
+// The answer `slot K RECEIVED EXPIRY OWNER LABELS FIRST RDATA`, of what was found, its entry and the bytes of its slot.
+fn found(met: Met, e: Entry, slot: &[u8], text: &mut [u8; 4096]) {
     let used = first(text, b"slot");
-    let used = crate::output::number(text, used, k as u64);
+    let used = crate::output::number(text, used, met.slot as u64);
     let used = crate::output::number(text, used, e.received);
     let used = crate::output::number(text, used, e.expiry);
     let used = bytes(text, used, wire::rdata::part(slot, 0, e.owner as usize));
+    let used = crate::output::number(text, used, met.labels as u64);
+    let used = crate::output::number(text, used, met.first as u64);
     let used = bytes(text, used, wire::rdata::part(slot, 256, e.rdata as usize));
     finish(text, used);
 }
@@ -127,7 +130,12 @@ fn found(k: usize, e: Entry, slot: &[u8], text: &mut [u8; 4096]) {
 fn looked(answer: Looked, es: [Entry; 64], store: &[u8], text: &mut [u8; 4096]) {
     match answer {
         Looked::Refused(n) => refused(text, n as u64),
-        Looked::Found(k) => found(k, entry_at(es, k), cache::entries::slot_of(store, k), text),
+        Looked::Found(met) => found(
+            met,
+            entry_at(es, met.slot),
+            cache::entries::slot_of(store, met.slot),
+            text,
+        ),
         Looked::Nothing => only(text, b"none"),
     }
 }

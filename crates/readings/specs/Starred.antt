@@ -33,7 +33,8 @@ use Rattle.facts.specs.Facts.{isAsked, isKnown, theirsLater, queryFacts, factsO
 use Rattle.cache.specs.entries.Tables.{each}
 use Rattle.cache.specs.entries.Entries.{isOf, liveOf, soon, flushed}
 use Rattle.cache.specs.entries.Cache.{rule1}
-use Rattle.writer.specs.compression.Compression.{standsAt, placeOf, cutFrom, nameBytes, starts, namePlaces}
+use Rattle.writer.specs.compression.Compression.{standsAt, placeOf, cutFrom, nameBytes, namePlaces}
+use Rattle.wire.specs.labels.Counted.{starts}
 use Rattle.writer.specs.Items.{putName, dataBytes, dataPlaces, putFields}
 use Rattle.writer.specs.own_packets.Packets.{packetOf}
 use Rattle.writer.specs.own_packets.Styles as styles

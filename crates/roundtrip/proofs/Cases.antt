@@ -4,7 +4,8 @@ use Rattle.wire.specs.name_pieces.Pieces.{pieceAt}
 use Rattle.wire.specs.names.Names.{nameAt, fromRun, readFrom}
 use Rattle.wire.specs.rdata.Rdata.{stringsFill}
 use Rattle.wire.specs.expansion.Equal.{sameBytes}
-use Rattle.writer.specs.compression.Compression.{standsAt, placeOf, cutFrom, nameBytes, starts, namePlaces}
+use Rattle.writer.specs.compression.Compression.{standsAt, placeOf, cutFrom, nameBytes, namePlaces}
+use Rattle.wire.specs.labels.Counted.{starts}
 use Rattle.own.specs.records.Setups.{labelFits, isLetter, isNameByte, allNameBytes, someLetter, hyphensApart, serviceRule, serviceFits, protocolFits}
 use Rattle.own.specs.records.Setups.{domainFits, txtFits, validSetup, serviceLabels, instanceLabels, hostLabels}
 use Rattle.own.specs.records.Records.{hasRecord, ownLabels, ownName, srvRdata, ownRdata}

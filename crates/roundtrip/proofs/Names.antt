@@ -12,6 +12,7 @@ use Rattle.wire.specs.octets.Octets.{word16}
 use Rattle.wire.specs.names.Names.{name, nameAt, isName}
 use Rattle.wire.specs.rdata.Rdata.{rdata, asItLies, stringsFill, formOf, withName, rdataIn, rdataAt}
 use Rattle.wire.proofs.rdata.Fits.{in-named}
+use Rattle.wire.specs.declared.names.Span.{Span}
 use Rattle.wire.specs.declared.message.RecordAt.{RecordAt}
 use Rattle.writer.specs.compression.Compression.{nameBytes}
 use Rattle.writer.specs.compression.Sentence.{Rising}
@@ -29,7 +30,7 @@ word-at P r e h i n a b =
     omega arith
 
 -- a record as it lies
-abbrev pub lying : (owner span rtype class ttl at len next : ℕ) → RecordAt
+abbrev pub lying : (owner : ℕ) (span : Span) (rtype class ttl at len next : ℕ) → RecordAt
 lying owner span rtype class ttl at len next = record {
   owner = owner;
   span = span;
@@ -76,10 +77,10 @@ module _ (p os : List ℕ) (n : ℕ) (small : length p ≤ 16384) (low : Rising 
     inside D = omega (arith, length-append p (F ++ (D ++ post)), length-append F (D ++ post), length-append D post)
 
     abbrev Back : ℕ → List ℕ → List ℕ → Type 0
-    Back k D d = (o s c t x : ℕ) → rdataAt (p ++ (F ++ (D ++ post))) (lying o s k c t (length p + 10) (length D) x) ≡ rdata d
+    Back k D d = (o : ℕ) (s : Span) (c t x : ℕ) → rdataAt (p ++ (F ++ (D ++ post))) (lying o s k c t (length p + 10) (length D) x) ≡ rdata d
 
     -- rdata in which no name stands
-    in-part : (k : ℕ) (D d : List ℕ) → ((o s c t x : ℕ) → rdataIn (p ++ (F ++ (D ++ post))) (lying o s k c t (length p + 10) (length D) x) D ≡ rdata d) → Back k
+    in-part : (k : ℕ) (D d : List ℕ) → ((o : ℕ) (s : Span) (c t x : ℕ) → rdataIn (p ++ (F ++ (D ++ post))) (lying o s k c t (length p + 10) (length D) x) D ≡ rdata d) → Back k
         D d
     unfolding rdataAt
     in-part k D d h o s c t x =

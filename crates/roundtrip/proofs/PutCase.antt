@@ -4,7 +4,8 @@ use mathlib.Core.Bool.{false}
 use native.Mathlib.Omega.{arith}
 use Rattle.wire.specs.name_pieces.Pieces.{pieceAt}
 use Rattle.wire.specs.names.Names.{labelsFill, readFrom, fromRun, nameAt}
-use Rattle.writer.specs.compression.Compression.{standsAt, placeOf, cutFrom, nameBytes, starts, namePlaces}
+use Rattle.writer.specs.compression.Compression.{standsAt, placeOf, cutFrom, nameBytes, namePlaces}
+use Rattle.wire.specs.labels.Counted.{starts}
 use Rattle.wire.specs.expansion.Equal.{sameBytes}
 use Rattle.writer.specs.Fit.{isShaped, fitRecord}
 use Rattle.writer.specs.Items.{putName, dataBytes, dataPlaces, putFields}

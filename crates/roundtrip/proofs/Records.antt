@@ -7,6 +7,8 @@ use native.Mathlib.Omega.{arith}
 use borrow.Author.Tests.{le-leb, lt-leb}
 use lib.ListN.{length, drop, length-append}
 use lib.Seq.{drop-at}
+use Rattle.wire.specs.declared.names.Span.{Span}
+use Rattle.wire.specs.names.Answers.{spanOf}
 use Rattle.wire.specs.octets.Octets.{word16, word32}
 use Rattle.wire.specs.names.Names.{Reading, name, nameAt, isName}
 use Rattle.wire.specs.rdata.Rdata.{rdata, rdataAt}
@@ -25,7 +27,7 @@ use Rattle.roundtrip.proofs.Sound.{Sound, searched-rising}
 
 -- a record from its parts
 assemble : (P o D : List ℕ) (at E k c t n : ℕ) → nameAt P at ≡ name o E → E + 10 + n ≤ length P → word16 P E ≡ k → word16 P (E + 2) ≡ c → word32 P (E + 4) ≡ t
-    → t < 2147483648 → word16 P (E + 8) ≡ n → ((o s c t x : ℕ) → rdataAt P (lying o s k c t (E + 10) n x) ≡ rdata D)
+    → t < 2147483648 → word16 P (E + 8) ≡ n → ((o : ℕ) (s : Span) (c t x : ℕ) → rdataAt P (lying o s k c t (E + 10) n x) ≡ rdata D)
     → recordAt P at ≡ item (record { owner = o; rtype = k; class = c; ttl = t; rdata = D }) (E + 10 + n)
 unfolding recordAt recordRead
 assemble P o D at E k c t n nm fits ek ec et st en ed =
@@ -35,9 +37,9 @@ assemble P o D at E k c t n nm fits ek ec et st en ed =
     ap (λ (x : Reading). recordMeant P (bytesOf x) (recordFrom P at x)) nm ∙ simp
     (le-leb (E + 10) (length P) some, le-leb (E + 10 + word16 P (E + 8)) (length P) long)
     (ap
-    (withRdata o (lying at (length o) (word16 P E) (word16 P (E + 2)) (ttlOf (word32 P (E + 4))) (E + 10) (word16 P (E + 8)) (E + 10 + word16 P (E + 8))))
-    (ap₂ (λ (x y : ℕ). rdataAt P (lying at (length o) x (word16 P (E + 2)) (ttlOf (word32 P (E + 4))) (E + 10) y (E + 10 + word16 P (E + 8)))) ek en
-    ∙ ed at (length o) (word16 P (E + 2)) (ttlOf (word32 P (E + 4))) (E + 10 + word16 P (E + 8)))
+    (withRdata o (lying at (spanOf o E) (word16 P E) (word16 P (E + 2)) (ttlOf (word32 P (E + 4))) (E + 10) (word16 P (E + 8)) (E + 10 + word16 P (E + 8))))
+    (ap₂ (λ (x y : ℕ). rdataAt P (lying at (spanOf o E) x (word16 P (E + 2)) (ttlOf (word32 P (E + 4))) (E + 10) y (E + 10 + word16 P (E + 8)))) ek en
+    ∙ ed at (spanOf o E) (word16 P (E + 2)) (ttlOf (word32 P (E + 4))) (E + 10 + word16 P (E + 8)))
     ∙ λ i. item (record { owner = o; rtype = ek i; class = ec i; ttl = et′ i; rdata = D }) (E + 10 + en i))
 
 -- what follows the owner's name

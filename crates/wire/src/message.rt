@@ -7,6 +7,7 @@ ghost use Rattle.wire.specs.message.Layout.{sectionsOf, plainHeader, mes
 ghost use Rattle.wire.specs.message.Places.{pastItem, pastList};
 ghost use Rattle.wire.specs.message.Readable.{wholeRead};
 ghost use Rattle.wire.specs.message.Refusals.{packetRefusal, messageFrom};
+use crate::names::Span;
 
 pub const LEAST_MESSAGE: usize = 12;
 
@@ -15,10 +16,10 @@ pub const MOST_MESSAGE: usize = 8972;
 // The port that messages come from.
 pub const MDNS_PORT: u16 = 5353;
 
-// A question as it lies: where its name starts and how long that is uncompressed, its type and class, and the offset past it.
+// A question as it lies: where its name starts and the span of that, its type and class, and the offset past it.
 pub struct QuestionAt {
     pub name: usize,
-    pub span: usize,
+    pub span: Span,
     pub rtype: u16,
     pub class: u16,
     pub next: usize,
@@ -29,11 +30,11 @@ pub enum QuestionRead {
     Malformed,
 }
 
-// A record as it lies: where its owner starts and how long that is uncompressed; its type; its class as on the wire; its TTL as it counts; where
-// its rdata starts and how long it is; and the offset past it.
+// A record as it lies: where its owner starts and the span of that; its type; its class as on the wire; its TTL as it counts; where its rdata starts and
+// how long it is; and the offset past it.
 pub struct RecordAt {
     pub owner: usize,
-    pub span: usize,
+    pub span: Span,
     pub rtype: u16,
     pub class: u16,
     pub ttl: u32,
@@ -91,7 +92,7 @@ pub fn question_at(p: &[u8], at: usize) -> QuestionRead
             }
             QuestionRead::Found(QuestionAt {
                 name: at,
-                span: span.len,
+                span,
                 rtype: crate::octets::be16(p, end),
                 class: crate::octets::be16(p, end + 2),
                 next: end + 4,
@@ -131,7 +132,7 @@ pub fn record_at(p: &[u8], at: usize) -> RecordRead
             }
             RecordRead::Found(RecordAt {
                 owner: at,
-                span: span.len,
+                span,
                 rtype: crate::octets::be16(p, end),
                 class: crate::octets::be16(p, end + 2),
                 ttl: counted_ttl(crate::octets::be32(p, end + 4)),

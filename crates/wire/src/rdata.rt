@@ -9,6 +9,7 @@ ghost use Rattle.wire.specs.rdata.Readers.{addressBytes, addressIn, stri
 ghost use Rattle.wire.specs.rdata.Answers.{fits, startIn};
 use crate::message::RecordAt;
 use crate::names::Name;
+use crate::names::Span;
 
 // The five types (RFC 1035, RFC 2782, RFC 3596).
 pub const A: u16 = 1;
@@ -41,13 +42,13 @@ pub enum StringRead {
     Malformed,
 }
 
-// An SRV as it lies: its numbers, and where in the packet its target starts and how long that is uncompressed.
+// An SRV as it lies: its numbers, and where in the packet its target starts and the span of that.
 pub struct SrvAt {
     pub priority: u16,
     pub weight: u16,
     pub port: u16,
     pub target: usize,
-    pub span: usize,
+    pub span: Span,
 }
 
 pub enum SrvRead {
@@ -152,7 +153,7 @@ pub fn srv_in(p: &[u8], at: usize, d: &[u8]) -> SrvRead
             weight: crate::octets::be16(d, 2),
             port: crate::octets::be16(d, 4),
             target: at + 6,
-            span: span.len,
+            span,
         }),
         Name::Malformed => SrvRead::Malformed,
     }

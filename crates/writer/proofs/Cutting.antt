@@ -11,7 +11,8 @@ use Rattle.wire.proofs.octets.Sets.{sets-append}
 use Rattle.writer.specs.declared.compression.Place.{Place}
 use Rattle.writer.specs.declared.compression.Place.the-variants.{At, Nowhere}
 use Rattle.writer.specs.declared.compression.Cut.{Cut}
-use Rattle.writer.specs.compression.Compression.{cutFrom, cutOf, pointerTo, endOf, nameBytes, starts, namePlaces, labelsIn}
+use Rattle.writer.specs.compression.Compression.{cutFrom, cutOf, pointerTo, endOf, nameBytes, namePlaces}
+use Rattle.wire.specs.labels.Counted.{starts, labelsIn}
 use Rattle.writer.proofs.compression.Written.{name-short, places-few, cut-within, kept-most}
 use Rattle.writer.specs.Items.{u16}
 use Rattle.writer.specs.Writer.{spotOf, Wrote, NameReady}

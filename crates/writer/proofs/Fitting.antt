@@ -12,7 +12,7 @@ use mathlib.Mathlib.Data.Bool.Basic.{and-eq-true-eq-eq-true-and-eq-true as both}
 use Rattle.wire.specs.names.Names.{isName}
 use Rattle.wire.specs.rdata.Rdata.{stringsFill, formOf}
 use Rattle.wire.specs.declared.rdata.Form.{Form}
-use Rattle.writer.specs.compression.Compression.{labelsIn, starts}
+use Rattle.wire.specs.labels.Counted.{labelsIn, starts}
 use Rattle.writer.specs.declared.Spot.{Spot}
 use Rattle.writer.specs.declared.Room.{Room}
 use Rattle.writer.specs.declared.Placed.{Placed}

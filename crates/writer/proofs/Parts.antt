@@ -11,7 +11,8 @@ use lib.Dec.{leb, eqb}
 use mathlib.Mathlib.Data.Bool.Basic.{and-eq-true-eq-eq-true-and-eq-true as both}
 use Rattle.wire.proofs.octets.Sets.{sets-append}
 use Rattle.wire.specs.names.Names.{isName}
-use Rattle.writer.specs.compression.Compression.{nameBytes, namePlaces, labelsIn}
+use Rattle.writer.specs.compression.Compression.{nameBytes, namePlaces}
+use Rattle.wire.specs.labels.Counted.{labelsIn}
 use Rattle.writer.proofs.compression.Written.{name-short, places-few}
 use Rattle.writer.specs.declared.Spot.{Spot}
 use Rattle.writer.specs.Items.{u16, fields, dataBytes, dataPlaces, searched, triedFor, putName, putFields, putRecord, putQuestion}

@@ -13,7 +13,8 @@ use Rattle.wire.proofs.octets.Sets.{sets-append}
 use Rattle.wire.specs.names.Names.{isName}
 use Rattle.wire.specs.rdata.Rdata.{formOf}
 use Rattle.wire.specs.declared.rdata.Form.{Form}
-use Rattle.writer.specs.compression.Compression.{nameBytes, namePlaces, labelsIn}
+use Rattle.writer.specs.compression.Compression.{nameBytes, namePlaces}
+use Rattle.wire.specs.labels.Counted.{labelsIn}
 use Rattle.writer.proofs.compression.Written.{name-short, places-few}
 use Rattle.writer.specs.declared.Spot.{Spot}
 use Rattle.writer.specs.Items.{dataBytes, dataPlaces}

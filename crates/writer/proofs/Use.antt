@@ -8,7 +8,8 @@ use native.Mathlib.Omega.{arith}
 use lib.ListN.{length, take, drop, length-append}
 use lib.Seq.{take-at}
 use Rattle.wire.specs.names.Names.{isName}
-use Rattle.writer.specs.compression.Compression.{nameBytes, namePlaces, labelsIn}
+use Rattle.writer.specs.compression.Compression.{nameBytes, namePlaces}
+use Rattle.wire.specs.labels.Counted.{labelsIn}
 use Rattle.writer.proofs.compression.Written.{name-short, places-few}
 use Rattle.wire.specs.message.Message.{Question, Record}
 use Rattle.writer.specs.declared.Spot.{Spot}

@@ -9,7 +9,7 @@ use lib.Seq.{sets}
 use lib.Dec.{leb}
 use Rattle.wire.specs.names.Names.{isName}
 use Rattle.wire.specs.rdata.Rdata.{formOf}
-use Rattle.writer.specs.compression.Compression.{labelsIn}
+use Rattle.wire.specs.labels.Counted.{labelsIn}
 use Rattle.wire.specs.message.Message.{Question}
 use Rattle.writer.specs.Items.{Writing}
 use Rattle.writer.specs.Fit.{isShaped, fitRecord}

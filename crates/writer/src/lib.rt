@@ -8,7 +8,8 @@ ghost use mathlib.Core.Path.{_≡_};
 ghost use Prim.Native.Nat.{_+_, _≤_, _<_};
 ghost use lib.ListN.{length, take};
 ghost use lib.Seq.{sets};
-ghost use Rattle.writer.specs.compression.Compression.{nameBytes, namePlaces, starts, labelsIn};
+ghost use Rattle.writer.specs.compression.Compression.{nameBytes, namePlaces};
+ghost use Rattle.wire.specs.labels.Counted.{starts, labelsIn};
 ghost use Rattle.writer.specs.Items.{u16, fields, dataBytes, dataPlaces, triedFor, putQuestion, putRecord};
 ghost use Rattle.wire.specs.message.Message.{Record, recordOf};
 ghost use Rattle.wire.specs.names.Names.{isName};
@@ -53,23 +54,6 @@ fn put_u16(out: &mut [u8], at: usize, v: usize)
 {
     out[at] = (v / 256) as u8;
     out[at + 1] = (v % 256) as u8;
-}
-
-// How many labels a name has.
-fn labels_in(name: &[u8]) -> usize
-    ensures { λ r. ⌜ r ≡ labelsIn (now (name .entry)) ⌝ }
-{
-    let mut count = 0;
-    let mut i = 0;
-    while i < name.len() {
-        let n = name[i] as usize;
-        if n == 0 {
-            return count;
-        }
-        count += 1;
-        i = i + 1 + n;
-    }
-    count
 }
 
 // Notes where the labels of `s`, written at `at`, start; answers how many places are noted then.
@@ -262,7 +246,7 @@ fn name_fits(room: Room, name: &[u8], more: usize, also: usize) -> bool
     if MOST_POINTED - at < name.len() {
         return false;
     }
-    let labels = labels_in(name);
+    let labels = wire::labels::labels_in(name);
     if slots < count {
         return false;
     }
@@ -284,7 +268,7 @@ fn labels_for(rtype: u16, d: &[u8]) -> usize
     if d.len() < head {
         return 0;
     }
-    labels_in(&d[head..])
+    wire::labels::labels_in(&d[head..])
 }
 
 // Whether there is room for a record.

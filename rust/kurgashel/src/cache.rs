@@ -29,6 +29,8 @@ struct LookedNumbers {
     refusal: u8,
     found: bool,
     slot: usize,
+    name_labels: usize,
+    name_first_label: usize,
 }
 
 extern "C" {
@@ -73,6 +75,10 @@ pub struct Found<'a> {
     pub slot: usize,
     /// The owner's name.
     pub owner: &'a [u8],
+    /// How many labels the owner has, as the name that was looked up.
+    pub labels: usize,
+    /// The owner's first label, such as the instance in the name of one.
+    pub first_label: &'a [u8],
     /// The rdata.
     pub rdata: &'a [u8],
     /// When it was received.
@@ -142,7 +148,7 @@ impl Cache {
                 from,
             )
         };
-        Refusal::check(looked.refusal).map(|()| looked.found.then(|| self.found(looked.slot)))
+        Refusal::check(looked.refusal).map(|()| looked.found.then(|| self.found(&looked)))
     }
 
     /// All live records of a name and a type.
@@ -156,13 +162,16 @@ impl Cache {
         Ok(records)
     }
 
-    fn found(&self, slot: usize) -> Found<'_> {
+    fn found(&self, looked: &LookedNumbers) -> Found<'_> {
+        let slot = looked.slot;
         let entry = self.table[slot];
         let (owner, rdata) =
             self.store[SLOT_BYTES * slot..SLOT_BYTES * (slot + 1)].split_at(OWNER_BYTES);
         Found {
             slot,
             owner: &owner[..usize::from(entry.owner)],
+            labels: looked.name_labels,
+            first_label: &owner[1..1 + looked.name_first_label],
             rdata: &rdata[..entry.rdata as usize],
             received: entry.received,
             expiry: entry.expiry,

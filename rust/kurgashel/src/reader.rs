@@ -22,6 +22,8 @@ struct QuestionAt {
     class: u16,
     name: usize,
     name_length: usize,
+    name_labels: usize,
+    name_first_label: usize,
     next: usize,
 }
 
@@ -33,6 +35,8 @@ struct RecordAt {
     ttl: u32,
     owner: usize,
     owner_length: usize,
+    owner_labels: usize,
+    owner_first_label: usize,
     rdata: usize,
     rdata_length: usize,
     next: usize,
@@ -52,6 +56,8 @@ struct SrvAt {
     port: u16,
     target: usize,
     target_length: usize,
+    target_labels: usize,
+    target_first_label: usize,
 }
 
 #[repr(C)]
@@ -68,6 +74,8 @@ struct StringAt {
 #[derive(Clone, Copy)]
 pub struct Name {
     length: usize,
+    labels: usize,
+    first_label: usize,
     bytes: [u8; 255],
 }
 
@@ -191,6 +199,16 @@ impl Name {
     /// Its bytes on the wire: each label behind its length byte, and a zero byte.
     pub fn as_bytes(&self) -> &[u8] {
         &self.bytes[..self.length]
+    }
+
+    /// How many labels it has: 0 to 127, and 0 for the root alone.
+    pub fn labels(&self) -> usize {
+        self.labels
+    }
+
+    /// Its first label, such as the instance in the name of one: 1 to 63 bytes, and none for the root.
+    pub fn first_label(&self) -> &[u8] {
+        &self.bytes[1..1 + self.first_label]
     }
 }
 

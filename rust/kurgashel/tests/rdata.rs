@@ -1,6 +1,6 @@
 //! What rdata says, of an announcement by hand and of parts that are not as their types ask.
 
-use kurgashel::{Data, Message, Section, Srv, Strings};
+use kurgashel::{Cache, Data, Message, Name, Section, Srv, Strings};
 
 /// SRV, TXT, A and AAAA of one instance: the SRV's rdata at 47 with its target at 53, the TXT's at 72, the A's at 100, the AAAA's at 116.
 const ANNOUNCEMENT: &[u8] = b"\0\0\x84\0\0\0\0\x04\0\0\0\0\
@@ -38,6 +38,16 @@ fn the_records_of_an_announcement() {
     assert!(matches!(a.data, Data::A(address) if address.octets() == [10, 0, 0, 7]));
     assert!(matches!(aaaa.data, Data::Aaaa(address) if address.to_string() == "fe80::7"));
     assert_eq!(a.owner.as_bytes(), HOST);
+    // the instance in the owner's name, and the host in a name that is a pointer to the SRV's target
+    assert_eq!(
+        (srv.owner.labels(), srv.owner.first_label()),
+        (4, &b"booth"[..])
+    );
+    assert_eq!((a.owner.labels(), a.owner.first_label()), (2, &b"dock"[..]));
+    assert_eq!(
+        (service.target.labels(), service.target.first_label()),
+        (2, &b"dock"[..])
+    );
 }
 
 #[test]
@@ -68,6 +78,33 @@ fn rdata_of_a_cache() {
     assert_eq!(srv.target.as_bytes(), HOST);
     assert!(Data::of(33, &rdata[..17]).is_none());
     assert!(Data::of(12, HOST).is_some());
+}
+
+#[test]
+fn labels_of_names() {
+    let numbers = |message: &[u8], at| {
+        Name::read(message, at).map(|name| (name.labels(), name.first_label().to_vec()))
+    };
+    assert_eq!(numbers(b"\0", 0), Some((0, vec![])));
+    assert_eq!(numbers(HOST, 0), Some((2, b"dock".to_vec())));
+    assert_eq!(numbers(HOST, 5), Some((1, b"local".to_vec())));
+    assert_eq!(
+        numbers(&[&[1, b'a'].repeat(127)[..], &[0]].concat(), 0),
+        Some((127, b"a".to_vec()))
+    );
+    assert_eq!(numbers(b"\x04dock", 0), None);
+}
+
+#[test]
+fn the_first_label_of_what_is_found() {
+    let mut cache = Cache::default();
+    cache.take(1000, 5353, ANNOUNCEMENT).expect("well formed");
+    let name = b"\x05BOOTH\x06_voice\x04_tcp\x05local\0";
+    let found = cache
+        .look_up(1000, name, 33, 0)
+        .expect("a name")
+        .expect("an SRV");
+    assert_eq!((found.labels, found.first_label), (4, &b"booth"[..]));
 }
 
 #[test]

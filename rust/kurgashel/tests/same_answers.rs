@@ -3,7 +3,7 @@
 use std::collections::BTreeMap;
 
 use kurgashel::{
-    txt_lookup, Cache, Data, Message, Pair, Refusal, Responder, Section, Setup, STATE_BYTES,
+    txt_lookup, Cache, Data, Message, Name, Pair, Refusal, Responder, Section, Setup, STATE_BYTES,
 };
 use reference::console::{hex, Console};
 use reference::script::script;
@@ -56,11 +56,21 @@ fn rdata(data: &Data) -> Vec<u8> {
     }
 }
 
+/// How many labels a name has and how long the first is, as the console shows them.
+fn numbers(name: &Name) -> String {
+    format!(" {} {}", name.labels(), name.first_label().len())
+}
+
+/// A name as the console shows it.
+fn name_words(name: &Name) -> String {
+    hex(name.as_bytes()) + &numbers(name)
+}
+
 /// A message as the console shows it, names in the rdata of PTR and SRV expanded.
 fn read_words(message: &Message) -> String {
     let mut words = format!("message {} {}", message.id(), message.flags());
     for q in message.questions() {
-        words += &format!(" q {} {} {}", hex(q.name.as_bytes()), q.rtype, q.class);
+        words += &format!(" q {} {} {}", name_words(&q.name), q.rtype, q.class);
     }
     for (word, section) in [
         ("an", Section::Answer),
@@ -71,12 +81,15 @@ fn read_words(message: &Message) -> String {
             let rdata = rdata(&r.data);
             words += &format!(
                 " r {word} {} {} {} {} {}",
-                hex(r.owner.as_bytes()),
+                name_words(&r.owner),
                 r.rtype,
                 r.class,
                 r.ttl,
                 hex(&rdata)
             );
+            if let Some(target) = r.data.target() {
+                words += &numbers(target);
+            }
         }
     }
     words
@@ -156,11 +169,13 @@ impl Exported {
                 found.map(|found| match found {
                     None => "none".into(),
                     Some(f) => format!(
-                        "slot {} {} {} {} {}",
+                        "slot {} {} {} {} {} {} {}",
                         f.slot,
                         f.received,
                         f.expiry,
                         hex(f.owner),
+                        f.labels,
+                        f.first_label.len(),
                         hex(f.rdata)
                     ),
                 })

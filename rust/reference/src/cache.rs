@@ -1,7 +1,7 @@
 //! "The cache": 64 entries with what their slots hold.
 
 use crate::message::{Message, Record, Section};
-use crate::name::Name;
+use crate::name::{Labels, Name};
 use crate::refusal::Refusal;
 use crate::{class, rtype, MOST_TIME};
 
@@ -34,6 +34,15 @@ pub struct Cache {
 pub struct Counts {
     pub turned_away: u64,
     pub passed_over: u64,
+}
+
+/// What a lookup found.
+#[derive(Clone, Copy, Debug, PartialEq, Eq)]
+pub struct Found<'a> {
+    pub slot: usize,
+    pub entry: &'a Entry,
+    /// The labels of the owner as stored.
+    pub labels: Labels,
 }
 
 impl Entry {
@@ -160,13 +169,21 @@ impl Cache {
         name: &[u8],
         rtype: u64,
         from: u64,
-    ) -> Result<Option<(usize, &Entry)>, Refusal> {
+    ) -> Result<Option<Found<'_>>, Refusal> {
         self.check_time(now)?;
         let name = Name::from_wire(name)?;
         let matching = self.entries.iter().enumerate().find(|(slot, entry)| {
             *slot as u64 >= from && entry.is_live(now) && entry.has(&name, rtype)
         });
-        Ok(matching)
+        let Some((slot, entry)) = matching else {
+            return Ok(None);
+        };
+        let labels = Name::from_wire(&entry.owner)?.labels();
+        Ok(Some(Found {
+            slot,
+            entry,
+            labels,
+        }))
     }
 }
 
@@ -273,7 +290,11 @@ mod tests {
         assert_eq!(put(&mut cache, 1999, &records[64..]), (2, 0));
         assert_eq!(put(&mut cache, 2000, &records[64..]), (0, 0));
         let found = cache.look(2000, OTHER_CASE, 1, 1).unwrap();
-        assert_eq!(found.map(|(slot, _)| slot), Some(1));
+        assert_eq!(found.map(|found| found.slot), Some(1));
+        assert_eq!(
+            found.map(|found| found.labels),
+            Some(Labels { count: 2, first: 4 })
+        );
         assert!(cache.look(2000, OWNER, 1, 2).unwrap().is_none());
     }
 

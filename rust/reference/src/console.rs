@@ -2,8 +2,9 @@
 
 use std::fmt::Write;
 
-use crate::cache::Cache;
+use crate::cache::{Cache, Found};
 use crate::message::{Message, Section};
+use crate::name::Labels;
 use crate::refusal::Refusal;
 use crate::responder::{Claim, Responder, LEAST_OUT};
 use crate::setup::Setup;
@@ -120,6 +121,11 @@ fn state_word(claim: Claim) -> &'static str {
 
 fn due_word(due: Option<u64>) -> String {
     due.map_or("-".to_string(), |due| due.to_string())
+}
+
+/// `LABELS FIRST`
+fn labels_words(labels: Labels) -> String {
+    format!("{} {}", labels.count, labels.first)
 }
 
 fn section_word(section: Section) -> &'static str {
@@ -280,11 +286,16 @@ impl Console {
         fields.end()?;
         Ok(match self.cache.look(now, &name, rtype, from)? {
             None => "none".to_string(),
-            Some((slot, entry)) => format!(
-                "slot {slot} {} {} {} {}",
+            Some(Found {
+                slot,
+                entry,
+                labels,
+            }) => format!(
+                "slot {slot} {} {} {} {} {}",
                 entry.received,
                 entry.expiry,
                 hex(&entry.owner),
+                labels_words(labels),
                 hex(&entry.rdata)
             ),
         })
@@ -341,16 +352,24 @@ fn read(mut fields: Fields) -> Result<String, Trouble> {
     let mut answer = format!("message {} {}", message.id, message.flags);
     for question in &message.questions {
         let name = hex(question.name.wire());
+        let labels = labels_words(question.name.labels());
         let (rtype, class) = (question.rtype, question.wire_class);
-        write!(answer, " q {name} {rtype} {class}").expect("writing to a string");
+        write!(answer, " q {name} {labels} {rtype} {class}").expect("writing to a string");
     }
     for record in &message.records {
         let section = section_word(record.section);
         let owner = hex(record.owner.wire());
+        let labels = labels_words(record.owner.labels());
         let (rtype, class, ttl) = (record.rtype, record.wire_class, record.ttl);
         let rdata = hex(&record.rdata);
-        write!(answer, " r {section} {owner} {rtype} {class} {ttl} {rdata}")
-            .expect("writing to a string");
+        write!(
+            answer,
+            " r {section} {owner} {labels} {rtype} {class} {ttl} {rdata}"
+        )
+        .expect("writing to a string");
+        if let Some(target) = record.target {
+            write!(answer, " {}", labels_words(target)).expect("writing to a string");
+        }
     }
     Ok(answer)
 }
@@ -466,6 +485,19 @@ mod tests {
             ("out 4096 0", "out -"),
             ("read 00", "refused 4"),
             ("read H", "message 0 33792"),
+            (
+                "read 0000000000010000000000000161016200000c0001",
+                "message 0 0 q 0161016200 2 1 12 1",
+            ),
+            (
+                "read 00008400000000020000000004646f636b00000c0001000000090002c00c000010000100000009000100",
+                "message 0 33792 r an 04646f636b00 1 4 12 1 9 04646f636b00 1 4 r an 00 0 0 16 1 9 00",
+            ),
+            (
+                "put 0 5353 000084000000000100000000016100000100010000000900040a000007",
+                "cached 0 0",
+            ),
+            ("look 0 014100 1 0", "slot 0 0 9000 016100 1 1 0a000007"),
             ("txt - 01 -", "refused 9"),
             ("txt 41 04613d3d31 -", "value received 3 3d31"),
         ] {

@@ -1,7 +1,7 @@
 //! "Reading a message": the whole message is checked, refusals 4, 5 and 6 in
 //! that order. `check` only validates; `Message::read` gives owned structures.
 
-use crate::name::{name_end, Name};
+use crate::name::{name_end, Labels, Name};
 use crate::refusal::Refusal;
 use crate::{class, rtype, txt, MDNS_PORT};
 
@@ -41,6 +41,8 @@ pub struct Record {
     pub ttl: u32,
     /// The names in PTR and SRV expanded.
     pub rdata: Vec<u8>,
+    /// The labels of the target of PTR and SRV.
+    pub target: Option<Labels>,
 }
 
 #[derive(Clone, Debug)]
@@ -136,23 +138,25 @@ fn check_rdata(message: &[u8], place: &Place) -> Result<(), Refusal> {
     })
 }
 
-/// The same, with the names in PTR and SRV expanded.
-fn read_rdata(message: &[u8], place: &Place) -> Result<Vec<u8>, Refusal> {
+/// The same, with the names in PTR and SRV expanded, and their labels.
+fn read_rdata(message: &[u8], place: &Place) -> Result<(Vec<u8>, Option<Labels>), Refusal> {
     let Place { start, end, .. } = *place;
     match place.rtype {
         rtype::PTR => {
-            let (name, name_end) = Name::read(message, start)?;
+            let (target, name_end) = Name::read(message, start)?;
             well_formed(name_end == end)?;
-            Ok(name.into_wire())
+            let labels = target.labels();
+            Ok((target.into_wire(), Some(labels)))
         }
         rtype::SRV => {
             let (target, name_end) = Name::read(message, start + SRV_NUMBERS)?;
             well_formed(name_end == end)?;
-            Ok([&message[start..start + SRV_NUMBERS], target.wire()].concat())
+            let rdata = [&message[start..start + SRV_NUMBERS], target.wire()].concat();
+            Ok((rdata, Some(target.labels())))
         }
         _ => {
             check_rdata(message, place)?;
-            Ok(message[start..end].to_vec())
+            Ok((message[start..end].to_vec(), None))
         }
     }
 }
@@ -213,13 +217,15 @@ impl Message {
             for _ in 0..u16_at(message, count_at) {
                 let (owner, fixed) = Name::read(message, at)?;
                 let place = place(message, fixed)?;
+                let (rdata, target) = read_rdata(message, &place)?;
                 records.push(Record {
                     section,
                     owner,
                     rtype: place.rtype,
                     wire_class: place.wire_class,
                     ttl: place.ttl,
-                    rdata: read_rdata(message, &place)?,
+                    rdata,
+                    target,
                 });
                 at = place.end;
             }
@@ -357,5 +363,7 @@ mod tests {
             record.rdata,
             b"\x00\x00\x00\x00\x0f\xa0\x04dock\x05local\x00"
         );
+        assert_eq!(record.owner.labels(), Labels { count: 2, first: 4 });
+        assert_eq!(record.target, Some(record.owner.labels()));
     }
 }

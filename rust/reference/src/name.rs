@@ -9,9 +9,30 @@ const POINTER: u8 = 0xC0;
 /// "its target must be at least 12"
 const LEAST_TARGET: usize = 12;
 
-/// An uncompressed name, length bytes and zero byte included.
+/// An uncompressed name, length bytes and zero byte included, and its labels.
 #[derive(Clone, Debug)]
-pub struct Name(Vec<u8>);
+pub struct Name {
+    wire: Vec<u8>,
+    labels: Labels,
+}
+
+/// How many labels a name has and how long its first one is; the zero byte is
+/// no label, so both are 0 for the root.
+#[derive(Clone, Copy, Debug, Default, PartialEq, Eq)]
+pub struct Labels {
+    pub count: usize,
+    pub first: usize,
+}
+
+impl Labels {
+    /// Counts one more label behind those counted.
+    fn add(&mut self, length: usize) {
+        if self.count == 0 {
+            self.first = length;
+        }
+        self.count += 1;
+    }
+}
 
 /// One step of a walk over a name.
 enum Piece {
@@ -69,25 +90,32 @@ pub fn name_end(message: &[u8], start: usize) -> Result<usize, Refusal> {
 impl Name {
     pub fn from_labels(labels: &[&[u8]]) -> Name {
         let mut wire = Vec::with_capacity(MOST_NAME);
+        let mut counted = Labels::default();
         for label in labels {
             wire.push(label.len() as u8);
             wire.extend_from_slice(label);
+            counted.add(label.len());
         }
         wire.push(0);
-        Name(wire)
+        Name {
+            wire,
+            labels: counted,
+        }
     }
 
-    /// Reads and expands the name at `start`; also gives its end in place.
+    /// Reads and expands the name at `start` and counts its labels, those that
+    /// pointers lead to like the others; also gives its end in place.
     pub fn read(message: &[u8], start: usize) -> Result<(Name, usize), Refusal> {
         let mut wire = [0; MOST_NAME];
         let (mut run, mut at) = (start, start);
         let mut end = None;
         let mut length = 0;
+        let mut labels = Labels::default();
         loop {
             match piece(message, run, at)? {
                 Piece::Root => {
-                    let name = Name(wire[..=length].to_vec());
-                    return Ok((name, end.unwrap_or(at + 1)));
+                    let wire = wire[..=length].to_vec();
+                    return Ok((Name { wire, labels }, end.unwrap_or(at + 1)));
                 }
                 Piece::Label(label) => {
                     let next = length + 1 + label;
@@ -96,6 +124,7 @@ impl Name {
                     }
                     let bytes = message.get(at..=at + label).ok_or(Refusal::Malformed)?;
                     wire[length..next].copy_from_slice(bytes);
+                    labels.add(label);
                     length = next;
                     at += 1 + label;
                 }
@@ -112,32 +141,41 @@ impl Name {
     /// is malformed."
     pub fn from_wire(wire: &[u8]) -> Result<Name, Refusal> {
         let mut at = 0;
+        let mut labels = Labels::default();
         loop {
             match *wire.get(at).ok_or(Refusal::Malformed)? {
                 0 => break,
-                length @ 1..=MOST_LABEL => at += 1 + usize::from(length),
+                length @ 1..=MOST_LABEL => {
+                    labels.add(usize::from(length));
+                    at += 1 + usize::from(length);
+                }
                 _ => return Err(Refusal::Malformed),
             }
         }
         if at + 1 == wire.len() && wire.len() <= MOST_NAME {
-            Ok(Name(wire.to_vec()))
+            let wire = wire.to_vec();
+            Ok(Name { wire, labels })
         } else {
             Err(Refusal::Malformed)
         }
     }
 
     pub fn wire(&self) -> &[u8] {
-        &self.0
+        &self.wire
+    }
+
+    pub fn labels(&self) -> Labels {
+        self.labels
     }
 
     pub fn into_wire(self) -> Vec<u8> {
-        self.0
+        self.wire
     }
 
     /// "Names are equal with ASCII letters folded and nothing else." Length
     /// bytes are at most 63, below any letter, so they may be folded along.
     pub fn equals(&self, other: &Name) -> bool {
-        self.0.eq_ignore_ascii_case(&other.0)
+        self.wire.eq_ignore_ascii_case(&other.wire)
     }
 
     /// The suffixes of whole labels, longest first, each with its offset in
@@ -146,9 +184,9 @@ impl Name {
         let mut at = 0;
         std::iter::from_fn(move || {
             let start = at;
-            let length = self.0[start];
+            let length = self.wire[start];
             at += 1 + usize::from(length);
-            (length != 0).then(|| (start, &self.0[start..]))
+            (length != 0).then(|| (start, &self.wire[start..]))
         })
     }
 }
@@ -228,6 +266,37 @@ mod tests {
         assert_eq!(read(&[0, 0xc0], 13), None);
         // after a jump the run starts at the target
         assert_eq!(read(&[1, 0x61, 0xc0, 12, 0xc0, 12], 16), None);
+    }
+
+    /// The labels of the name at `at`, the same of its expanded bytes.
+    fn labels(bytes: &[u8], at: usize) -> (usize, usize) {
+        let name = Name::read(&after_header(bytes), at).unwrap().0;
+        let plain = Name::from_wire(name.wire()).unwrap();
+        assert_eq!(name.labels(), plain.labels());
+        (name.labels().count, name.labels().first)
+    }
+
+    #[test]
+    fn labels_are_counted_and_the_first_one_measured() {
+        assert_eq!(labels(&[0], 12), (0, 0));
+        assert_eq!(labels(b"\x04dock\x00", 12), (1, 4));
+        assert_eq!(
+            labels(&[[1, b'a'].repeat(127), vec![0]].concat(), 12),
+            (127, 1)
+        );
+        let bytes =
+            b"\x05booth\x03tea\x00\xc0\x0c\xc0\x12\xc0\x16\x02xy\xc0\x12\x01z\xc0\x1d\xc0\x1d";
+        // a name that begins with a pointer has the first label of what it points to
+        assert_eq!(labels(bytes, 23), (2, 5));
+        // into the middle of a name, and to its zero byte
+        assert_eq!(labels(bytes, 25), (1, 3));
+        assert_eq!(labels(bytes, 27), (0, 0));
+        // labels before and behind one pointer and two, and behind two alone
+        assert_eq!(labels(bytes, 29), (2, 2));
+        assert_eq!(labels(bytes, 34), (3, 1));
+        assert_eq!(labels(bytes, 38), (2, 2));
+        let name = Name::from_labels(&[b"dock", b"local"]).labels();
+        assert_eq!((name.count, name.first), (2, 4));
     }
 
     #[test]

@@ -1,7 +1,7 @@
 //! Counts how often each kind of answer came, so that a script of nothing but
 //! refusals shows.
 
-use std::collections::BTreeMap;
+use std::collections::{BTreeMap, BTreeSet};
 use std::fmt;
 
 #[derive(Default)]
@@ -55,16 +55,59 @@ fn kinds(call: &str, answer: &str) -> Vec<String> {
             let use_of = if *rtype == "0" { "unused" } else { "used" };
             vec![format!("slot {use_of}")]
         }
-        ("read", ["message", ..]) => {
-            let records = if fields.len() > 3 {
-                "something"
-            } else {
+        ("read", ["message", _, _, shown @ ..]) => {
+            let records = if shown.is_empty() {
                 "nothing"
+            } else {
+                "something"
             };
-            vec![format!("read message with {records}")]
+            let mut kinds = vec![format!("read message with {records}")];
+            kinds.extend(names_read(shown));
+            kinds
         }
+        ("look", ["slot", _, _, _, _, labels, ..]) => vec![
+            "look slot".to_string(),
+            format!("look owner of {}", labels_kind(labels)),
+        ],
         (_, [first, ..]) => vec![format!("{call} {first}")],
         (_, []) => vec![],
+    }
+}
+
+/// The kinds of the names in an answer to `read`, each once.
+fn names_read(mut fields: &[&str]) -> BTreeSet<String> {
+    let mut kinds = BTreeSet::new();
+    let mut add = |place: &str, labels: &str| {
+        kinds.insert(format!("read {place} of {}", labels_kind(labels)));
+    };
+    loop {
+        fields = match fields {
+            ["q", _, labels, _, _, _, rest @ ..] => {
+                add("question", labels);
+                rest
+            }
+            ["r", _, _, owner, _, rtype @ ("12" | "33"), _, _, _, target, _, rest @ ..] => {
+                add("owner", owner);
+                let rtype = if *rtype == "12" { "PTR" } else { "SRV" };
+                add(&format!("{rtype} target"), target);
+                rest
+            }
+            ["r", _, _, owner, _, _, _, _, _, rest @ ..] => {
+                add("owner", owner);
+                rest
+            }
+            _ => return kinds,
+        };
+    }
+}
+
+/// No label, one, the most there can be, or others.
+fn labels_kind(labels: &str) -> &'static str {
+    match labels {
+        "0" => "no label",
+        "1" => "1 label",
+        "127" => "127 labels",
+        _ => "2 to 126 labels",
     }
 }
 

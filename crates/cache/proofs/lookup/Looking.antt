@@ -39,19 +39,19 @@ module _ (now : ℕ) (es : List Entry) (store name : List ℕ) (rtype from m : �
 
   pub look-refused : (n ≡ 0 → ⊥) → l.Refused n ≡ lookedOf now es store name rtype from
   unfolding lookedOf
-  look-refused z = go (lookIn now es store name rtype from) ∙ ap (λ (k : ℕ). lookedWith k (lookIn now es store name rtype from)) number
+  look-refused z = go (lookIn now es store name rtype from) ∙ ap (λ (k : ℕ). lookedWith name k (lookIn now es store name rtype from)) number
     where
-      go : (x : Slot) → l.Refused n ≡ lookedWith n x
+      go : (x : Slot) → l.Refused n ≡ lookedWith name n x
       go (s.At i) = sym (simp (ne-eqb n 0 z))
       go s.Nowhere = sym (simp (ne-eqb n 0 z))
 
-  pub look-slot : n ≡ 0 → (x : Slot) → x ≡ lookIn now es store name rtype from → (r : Looked) → r ≡ lookedWith 0 x → r ≡ lookedOf now es store name rtype from
+  pub look-slot : n ≡ 0 → (x : Slot) → x ≡ lookIn now es store name rtype from → (r : Looked) → r ≡ lookedWith name 0 x → r ≡ lookedOf now es store name rtype from
   unfolding lookedOf
-  look-slot z x h r k = k ∙ ap (λ (m : ℕ). lookedWith m x) (sym z ∙ number) ∙ ap (lookedWith (lookRefusal now es store name)) h
+  look-slot z x h r k = k ∙ ap (λ (m : ℕ). lookedWith name m x) (sym z ∙ number) ∙ ap (lookedWith name (lookRefusal now es store name)) h
 
 -- with the specification's number for the answer
 module _ (now : ℕ) (es : List Entry) (store name : List ℕ) (rtype from : ℕ) where
-  looked-number : (n : ℕ) (x : Slot) → lookedNumber (lookedWith n x) ≡ n
+  looked-number : (n : ℕ) (x : Slot) → lookedNumber (lookedWith name n x) ≡ n
   looked-number zero (s.At i) = refl
   looked-number zero s.Nowhere = refl
   looked-number (suc n) (s.At i) = simp (ne-eqb (suc n) 0 (λ e. omega arith))

@@ -57,7 +57,8 @@ use Rattle.capi_cache.proofs.Scan.{entries-fits}
 use Rattle.capi_cache.proofs.Looking.{refusal-fits, is-refused, is-found, is-nothing, Searched, search-start, search-here, search-on, search-end}
 use Rattle.capi_cache.proofs.Calls.{R, at, EntryCount, EntryAt, asks-entry-count, asks-entry-at, calls-plain}
 use Rattle.capi_cache.proofs.CallsBytes.{bytes-at, Bytes, TableRefusal, LookRefusal, IsLiveOf, asks-table-refusal, asks-look-refusal, asks-live-of}
-use Rattle.capi_cache.proofs.Plain.{RefusedLook, to-refused-look, goes-refused-look, gives-refused-look, FoundLook, to-found-look, goes-found-look, gives-found-look, NothingLook, to-nothing-look, goes-nothing-look, gives-nothing-look}
+use Rattle.capi_cache.proofs.CallsFound.{FoundLook, asks-found-look}
+use Rattle.capi_cache.proofs.Plain.{RefusedLook, to-refused-look, goes-refused-look, gives-refused-look, NothingLook, to-nothing-look, goes-nothing-look, gives-nothing-look}
 use Rattle.capi_cache.proofs.entry_count.Symbol as entry-count-def
 use Rattle.capi_cache.proofs.entry_count.Symbol.{name as #entry-count}
 use Rattle.capi_cache.proofs.entry_count.Met as entry-count-thm
@@ -193,7 +194,7 @@ module _ {M : Type 1} (𝓤 : URA M) (H : Heap 𝓤) (A : Atoms 𝓤) (W : Given
   Nearer-wf : WellFounded Nearer
   Nearer-wf = InvImage·wf (λ (i : Slot). n - i .0) (Nat·lt-wfRel .wf)
 
-  module _ (𝓣 : Tables 𝓤 H) (fm : FmC 𝓤 H (W .laws) (𝓣 .C)) (known-count : Triple 𝓤 (𝓣 .C #entry-count) (EntryCount 𝓤 H A at-mem run)) (known-at : Triple 𝓤 (𝓣 .C #entry-at) (EntryAt 𝓤 H A at-mem run)) (known-refusal : Triple 𝓤 (𝓣 .C #table-refusal) (TableRefusal 𝓤 H A at-mem run)) (known-look : Triple 𝓤 (𝓣 .C #look-refusal) (LookRefusal 𝓤 H A at-mem run)) (known-live : Triple 𝓤 (𝓣 .C #is-live-of) (IsLiveOf 𝓤 H A at-mem run)) (known-refused : Triple 𝓤 (𝓣 .C #refused-look) (RefusedLook 𝓤 H A W at-mem run)) (known-found : Triple 𝓤 (𝓣 .C #found-look) (FoundLook 𝓤 H A W at-mem run)) (known-nothing : Triple 𝓤 (𝓣 .C #nothing-look) (NothingLook 𝓤 H A W at-mem run)) where
+  module _ (𝓣 : Tables 𝓤 H) (fm : FmC 𝓤 H (W .laws) (𝓣 .C)) (known-count : Triple 𝓤 (𝓣 .C #entry-count) (EntryCount 𝓤 H A at-mem run)) (known-at : Triple 𝓤 (𝓣 .C #entry-at) (EntryAt 𝓤 H A at-mem run)) (known-refusal : Triple 𝓤 (𝓣 .C #table-refusal) (TableRefusal 𝓤 H A at-mem run)) (known-look : Triple 𝓤 (𝓣 .C #look-refusal) (LookRefusal 𝓤 H A at-mem run)) (known-live : Triple 𝓤 (𝓣 .C #is-live-of) (IsLiveOf 𝓤 H A at-mem run)) (known-refused : Triple 𝓤 (𝓣 .C #refused-look) (RefusedLook 𝓤 H A W at-mem run)) (known-found : Triple 𝓤 (𝓣 .C #found-look) (FoundLook 𝓤 H A at-mem run)) (known-nothing : Triple 𝓤 (𝓣 .C #nothing-look) (NothingLook 𝓤 H A W at-mem run)) where
     abbrev C : Calls 𝓤 H
     C = 𝓣 .C
 
@@ -247,9 +248,9 @@ module _ {M : Type 1} (𝓤 : URA M) (H : Heap 𝓤) (A : Atoms 𝓤) (W : Given
             land ! (from ! (stop !)) (init ! 6 refl (LL.lawful E.the-type E′.the-laws 𝓤 H A W .typed e _ is .0)) $ move ! (2 ∷ 3 ∷ 4 ∷ 5 ∷ []) $
             asks-live-of κ₁ κ₂ q₁ q₂ b₁ o₁ γ₁ bs b₂ o₂ γ₂ ns ! fm at-mem run known-live e v is (i .0) time rtype (i .1 .0) gt gr (and-then ! (load ! (from ! (stop !)) (look ! 5 refl)) (and-then ! (load ! (from ! (stop !)) (look ! 15 refl)) (and-then ! (load ! (from ! (stop !)) (look ! 29 refl)) (and-then ! (load ! (from ! (stop !)) (look ! 27 refl)) (and-then ! (load ! (from ! (stop !)) (look ! 25 refl)) (and-then ! (load ! (from ! (stop !)) (look ! 23 refl)) (no-more !))))))) $ move ! (4 ∷ 5 ∷ []) $
             land ! (from ! (stop !)) (init ! 8 refl (tt, tt)) $
-            first ! $ branches ! (load ! (from ! (stop !)) (look ! 8 refl)) (λ yes. calls-plain ! fm (FoundLook 𝓤 H A W at-mem run) known-found (to-found-look 𝓤 H A W at-mem run (i .0)) (goes-found-look 𝓤 H A W at-mem run (i .0) (i .1 .0)) (λ u. Is LN.the-row (foundLook (i .0)) (u ∷ [])) (gives-found-look 𝓤 H A W at-mem run (i .0))
-            (and-then ! (load ! (from ! (stop !)) (look ! 17 refl)) (no-more !)) (λ u u-is.
-            land ! (from ! (stop !)) (init ! 34 refl (LL.lawful LN.the-type LN′.the-laws 𝓤 H A W .typed (foundLook (i .0)) _ u-is .0)) $ forget ! 6 refl $ forget ! 8 refl $ forget ! 10 refl $ forget ! 16 refl $ forget ! 18 refl $
+            first ! $ branches ! (load ! (from ! (stop !)) (look ! 8 refl)) (λ yes. move ! (4 ∷ 5 ∷ []) $ asks-found-look ! fm at-mem run known-found κ₂ q₂ b₂ o₂ γ₂ ns (i .0) (i .1 .0)
+            (and-then ! (load ! (from ! (stop !)) (look ! 16 refl)) (and-then ! (load ! (from ! (stop !)) (look ! 26 refl)) (no-more !))) (λ u u-is. move ! (2 ∷ 3 ∷ 4 ∷ 5 ∷ []) $
+            land ! (from ! (stop !)) (init ! 34 refl (LL.lawful LN.the-type LN′.the-laws 𝓤 H A W .typed (foundLook ns (i .0)) _ u-is .0)) $ forget ! 6 refl $ forget ! 8 refl $ forget ! 10 refl $ forget ! 16 refl $ forget ! 18 refl $
             leaves _ refl u (subst (λ (y : LookedNumbers). Is LN.the-row y (u ∷ [])) (found yes) u-is)))
             (λ no. skips ! $ exec ! C Λ En onward (anyQ (Turned i)) $
             assigns-last ! (bin ! (load ! (from ! (stop !)) (look ! 16 refl)) (lit ! tt) (record { fits = next-fits })) (from ! (stop !)) (store ! 16 refl (tt, record { fits = next-fits })) $ forget ! 6 refl $ forget ! 8 refl $ forget ! 10 refl $
@@ -261,7 +262,7 @@ module _ {M : Type 1} (𝓤 : URA M) (H : Heap 𝓤) (A : Atoms 𝓤) (W : Given
             next-fits : i .0 + 1 < 2 ^ 64
             next-fits = omega (arith, less, room .0)
 
-            found : T (liveOf time bs ns rtype (i .0) e) → foundLook (i .0) ≡ answer
+            found : T (liveOf time bs ns rtype (i .0) e) → foundLook ns (i .0) ≡ answer
             found yes = is-found time xs bs ns rtype start passed (i .0) (search-here time xs bs ns rtype start (i .0) (i .1 .1) less (is-true (liveOf time bs ns rtype (i .0) e) yes))
 
         -- the turn that leaves the loop, and the rest of the body
@@ -310,7 +311,7 @@ module _ {M : Type 1} (𝓤 : URA M) (H : Heap 𝓤) (A : Atoms 𝓤) (W : Given
         -- [what the name, the store and the table own; the locals; the tokens]
         move ! (33 ∷ []) $ split ! $ move ! (1 ∷ []) $ split ! $ move ! (1 ∷ []) $ split ! $ move ! (1 ∷ []) $ drop ! $ move ! (2 ∷ 5 ∷ 1 ∷ 4 ∷ 0 ∷ 3 ∷ []) $ begins l₀ l₁ l₂ l₃ l₄ l₅ l₆ l₇ l₈ l₉ l₁₀ l₁₁ l₁₂ l₁₃ l₁₄)))))))))))))))
 
-module _ {M : Type 1} (𝓤 : URA M) (H : Heap 𝓤) (A : Atoms 𝓤) (W : Given 𝓤 H A) (at-mem : Memory → SProp 𝓤) (run : Routine → Fun 𝓤) (𝓣 : Tables 𝓤 H) (known-count : Triple 𝓤 (𝓣 .C #entry-count) (EntryCount 𝓤 H A at-mem run)) (known-at : Triple 𝓤 (𝓣 .C #entry-at) (EntryAt 𝓤 H A at-mem run)) (known-refusal : Triple 𝓤 (𝓣 .C #table-refusal) (TableRefusal 𝓤 H A at-mem run)) (known-look : Triple 𝓤 (𝓣 .C #look-refusal) (LookRefusal 𝓤 H A at-mem run)) (known-live : Triple 𝓤 (𝓣 .C #is-live-of) (IsLiveOf 𝓤 H A at-mem run)) (known-refused : Triple 𝓤 (𝓣 .C #refused-look) (RefusedLook 𝓤 H A W at-mem run)) (known-found : Triple 𝓤 (𝓣 .C #found-look) (FoundLook 𝓤 H A W at-mem run)) (known-nothing : Triple 𝓤 (𝓣 .C #nothing-look) (NothingLook 𝓤 H A W at-mem run)) where
+module _ {M : Type 1} (𝓤 : URA M) (H : Heap 𝓤) (A : Atoms 𝓤) (W : Given 𝓤 H A) (at-mem : Memory → SProp 𝓤) (run : Routine → Fun 𝓤) (𝓣 : Tables 𝓤 H) (known-count : Triple 𝓤 (𝓣 .C #entry-count) (EntryCount 𝓤 H A at-mem run)) (known-at : Triple 𝓤 (𝓣 .C #entry-at) (EntryAt 𝓤 H A at-mem run)) (known-refusal : Triple 𝓤 (𝓣 .C #table-refusal) (TableRefusal 𝓤 H A at-mem run)) (known-look : Triple 𝓤 (𝓣 .C #look-refusal) (LookRefusal 𝓤 H A at-mem run)) (known-live : Triple 𝓤 (𝓣 .C #is-live-of) (IsLiveOf 𝓤 H A at-mem run)) (known-refused : Triple 𝓤 (𝓣 .C #refused-look) (RefusedLook 𝓤 H A W at-mem run)) (known-found : Triple 𝓤 (𝓣 .C #found-look) (FoundLook 𝓤 H A at-mem run)) (known-nothing : Triple 𝓤 (𝓣 .C #nothing-look) (NothingLook 𝓤 H A W at-mem run)) where
   walks : Walks 𝓤 H A f.ended stayed (WpFn 𝓤 H (𝓣 .C) (𝓣 .Λ) code.function) (f.clauses 𝓤 H A at-mem run)
   walks = walked 𝓤 H A f.ended stayed (f.clauses 𝓤 H A at-mem run) (WpFn 𝓤 H (𝓣 .C) (𝓣 .Λ) code.function) (λ κs. (slice-vals, (slice-vals, (uint-vals w64, (slice-vals, (uint-vals w16, (uint-vals w64, tt)))))))
       (λ κs. (shr-slice-tells (named 0) (κs .0) R, (shr-slice-tells (named 1) (κs .1 .0) u8, (uint-tells w64, (shr-slice-tells (named 2) (κs .1 .1 .0) u8, (uint-tells w16, (uint-tells w64, tt)))))))
@@ -334,5 +335,5 @@ kurgashel-cache-look-up-spec 𝓤 H 𝓜 𝓖 𝓡 =
     (cited 𝓤 H (LookRefusal 𝓤 H (𝓖 .A) (𝓜 .mem) (𝓡 .run)) 𝓜 𝓡 code.env #look-refusal look-refusal-def.routine code.calls-cache·lookup·look-refusal (look-refusal-thm.met 𝓤 H 𝓜 𝓖 𝓡))
     (cited 𝓤 H (IsLiveOf 𝓤 H (𝓖 .A) (𝓜 .mem) (𝓡 .run)) 𝓜 𝓡 code.env #is-live-of is-live-of-def.routine code.calls-cache·entries·is-live-of (is-live-of-thm.met 𝓤 H 𝓜 𝓖 𝓡))
     (cited 𝓤 H (RefusedLook 𝓤 H (𝓖 .A) (givenOf 𝓤 H 𝓜 𝓖) (𝓜 .mem) (𝓡 .run)) 𝓜 𝓡 code.env #refused-look refused-look-def.routine code.calls-capi-cache·refused-look (refused-look-thm.met 𝓤 H 𝓜 𝓖 𝓡))
-    (cited 𝓤 H (FoundLook 𝓤 H (𝓖 .A) (givenOf 𝓤 H 𝓜 𝓖) (𝓜 .mem) (𝓡 .run)) 𝓜 𝓡 code.env #found-look found-look-def.routine code.calls-capi-cache·found-look (found-look-thm.met 𝓤 H 𝓜 𝓖 𝓡))
+    (cited 𝓤 H (FoundLook 𝓤 H (𝓖 .A) (𝓜 .mem) (𝓡 .run)) 𝓜 𝓡 code.env #found-look found-look-def.routine code.calls-capi-cache·found-look (found-look-thm.met 𝓤 H 𝓜 𝓖 𝓡))
     (cited 𝓤 H (NothingLook 𝓤 H (𝓖 .A) (givenOf 𝓤 H 𝓜 𝓖) (𝓜 .mem) (𝓡 .run)) 𝓜 𝓡 code.env #nothing-look nothing-look-def.routine code.calls-capi-cache·nothing-look (nothing-look-thm.met 𝓤 H 𝓜 𝓖 𝓡)))

@@ -22,10 +22,17 @@ fn name(p: &[u8], at: usize, text: &mut [u8; 4096], used: usize) -> usize {
     }
 }
 
-// Adds a question: ` q NAME TYPE CLASS`.
+// Adds the two numbers of a name: how many labels it has, and how long the first is.
+fn numbers(span: wire::names::Span, text: &mut [u8; 4096], used: usize) -> usize {
+    let used = number(text, used, span.labels as u64);
+    number(text, used, span.first as u64)
+}
+
+// Adds a question: ` q NAME LABELS FIRST TYPE CLASS`.
 fn question(p: &[u8], q: wire::message::QuestionAt, text: &mut [u8; 4096], used: usize) -> usize {
     let used = word(text, used, b"q");
     let used = name(p, q.name, text, used);
+    let used = numbers(q.span, text, used);
     let used = number(text, used, q.rtype as u64);
     number(text, used, q.class as u64)
 }
@@ -38,7 +45,20 @@ fn rdata(p: &[u8], r: wire::message::RecordAt, text: &mut [u8; 4096], used: usiz
     bytes(text, used, wire::expansion::view(p, &b, n, r))
 }
 
-// Adds a record: ` r SECTION NAME TYPE CLASS TTL RDATA`.
+// Adds the two numbers of the name in rdata that holds one, as that of PTR and SRV does.
+fn target(p: &[u8], r: wire::message::RecordAt, text: &mut [u8; 4096], used: usize) -> usize {
+    let held = wire::rdata::form_of(r.rtype);
+    if !held.named {
+        return used;
+    }
+    let d = wire::rdata::part(p, r.rdata, r.rdlength);
+    match wire::rdata::name_in(p, r.rdata, d, held.before) {
+        wire::names::Name::Found(span) => numbers(span, text, used),
+        wire::names::Name::Malformed => used,
+    }
+}
+
+// Adds a record: ` r SECTION NAME LABELS FIRST TYPE CLASS TTL RDATA`, and behind the rdata of PTR and SRV ` LABELS FIRST` of its target.
 fn record(
     p: &[u8],
     r: wire::message::RecordAt,
@@ -49,10 +69,12 @@ fn record(
     let used = word(text, used, b"r");
     let used = word(text, used, section);
     let used = name(p, r.owner, text, used);
+    let used = numbers(r.span, text, used);
     let used = number(text, used, r.rtype as u64);
     let used = number(text, used, r.class as u64);
     let used = number(text, used, r.ttl as u64);
-    rdata(p, r, text, used)
+    let used = rdata(p, r, text, used);
+    target(p, r, text, used)
 }
 
 // Adds the questions of a message.

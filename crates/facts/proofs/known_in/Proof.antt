@@ -13,6 +13,13 @@ use Rattle.facts.proofs.Known.{suppressesOwn, knows, suppresses-own, ow
 use borrow.Author.Needs.{needs}
 use Rattle.facts.proofs.known_in.Statement.{statement}
 use Rattle.facts.proofs.known_in.Tie as tie
+use Rattle.facts.proofs.known_in.Lts as lts
+use Rattle.own.specs.declared.records.OwnBytes.{OwnBytes}
+use lib.ListN.{length}
+
+-- the bytes of an own name or of own rdata are an array of 400; by itself, since `search` does not get as far back as the calls that gave them
+own-long : (o : OwnBytes) → lts.r·1 .is .Ok tt o → length (o .bytes) ≡ 400
+own-long o h = search needs
 
 abbrev Inv-loop : tie.InvT-loop
 Inv-loop p setup s known₀ i₀ namebytes namelen databytes datalen rtype ttl here₀ left₀ known i here left =
@@ -57,13 +64,17 @@ enum-known-f : tie.Need-enum-known-f Inv-loop μ-loop Inv-own μ-own
 enum-known-f c = search needs
 
 slice-aggregate-part : tie.Need-slice-aggregate-part Inv-loop μ-loop Inv-own μ-own
-slice-aggregate-part c = search needs
+slice-aggregate-part c =
+    let n = c .before .before .before .before .before .before .before .before .before .before .before .before in
+    sym (own-long (n .own-name .result) (n .own-name .ok))
 
 part-requires : tie.Need-part-requires Inv-loop μ-loop Inv-own μ-own
 part-requires c κs = search needs
 
 slice-aggregate-part-2 : tie.Need-slice-aggregate-part-2 Inv-loop μ-loop Inv-own μ-own
-slice-aggregate-part-2 c = search needs
+slice-aggregate-part-2 c =
+    let d = c .before .before .before .before .before .before .before .before .before .before .before .before in
+    sym (own-long (d .own-rdata .result) (d .own-rdata .ok))
 
 part-requires-2 : tie.Need-part-requires-2 Inv-loop μ-loop Inv-own μ-own
 part-requires-2 c κs = search needs

@@ -9,6 +9,9 @@ use lib.Dec.{leb, ltb}
 use borrow.Author.Tests.{leb-true}
 use Rattle.wire.specs.octets.Octets.{word16, word32}
 use Rattle.wire.specs.names.Names.{Reading, name, malformed, nameAt}
+use Rattle.wire.specs.names.Answers.{spanOf}
+use Rattle.wire.specs.labels.Counted.{labelsIn, firstIn}
+use Rattle.wire.specs.declared.names.Span.{Span}
 use Rattle.wire.specs.rdata.Rdata.{Rdata, rdata, unfit, rdataAt}
 use Rattle.wire.specs.message.Message.{Question, Record, recordOf, Message, ttlOf}
 use Rattle.wire.specs.message.Layout.{questionFrom, questionRead, recordFrom, recordRead, Item, item, broken, bytesOf, questionMeant, questionAt, withRdata, recordMeant, recordAt, Listing, listing, cut, first, andOn, listFrom, Reads, read, refused, andThen, sectionsOf, wrongLength, wrongHeader, messageAt, readOf}
@@ -59,7 +62,9 @@ pub record QuestionHere (p : List ℕ) (at : ℕ) (x : Question) (next : ℕ) : 
   pub fields : QuestionAt
   pub found : questionRead p at ≡ q.Found fields
   pub place : fields .name ≡ at
-  pub span : fields .span ≡ length (x .name)
+  pub span : fields .span .len ≡ length (x .name)
+  pub labels : fields .span .labels ≡ labelsIn (x .name)
+  pub first-label : fields .span .first ≡ firstIn (x .name)
   pub rtype : fields .rtype ≡ x .rtype
   pub class : fields .class ≡ x .class
   pub past : fields .next ≡ next
@@ -71,7 +76,9 @@ pub record RecordHere (p : List ℕ) (at : ℕ) (x : Record) (next : ℕ) : Type
   pub fields : RecordAt
   pub found : recordRead p at ≡ r.Found fields
   pub place : fields .owner ≡ at
-  pub span : fields .span ≡ length (x .owner)
+  pub span : fields .span .len ≡ length (x .owner)
+  pub labels : fields .span .labels ≡ labelsIn (x .owner)
+  pub first-label : fields .span .first ≡ firstIn (x .owner)
   pub rtype : fields .rtype ≡ x .rtype
   pub class : fields .class ≡ x .class
   pub ttl : fields .ttl ≡ x .ttl
@@ -83,12 +90,12 @@ pub record RecordHere (p : List ℕ) (at : ℕ) (x : Record) (next : ℕ) : Type
 
 -- the fields of a question and of a record whose name ends at `e`
 abbrev questionMade : List ℕ → ℕ → List ℕ → ℕ → QuestionAt
-questionMade p at bs e = record { name = at; span = length bs; rtype = word16 p e; class = word16 p (e + 2); next = e + 4 }
+questionMade p at bs e = record { name = at; span = spanOf bs e; rtype = word16 p e; class = word16 p (e + 2); next = e + 4 }
 
 abbrev recordMade : List ℕ → ℕ → List ℕ → ℕ → RecordAt
 recordMade p at bs e = record {
   owner = at;
-  span = length bs;
+  span = spanOf bs e;
   rtype = word16 p e;
   class = word16 p (e + 2);
   ttl = ttlOf (word32 p (e + 4));
@@ -98,13 +105,13 @@ recordMade p at bs e = record {
 }
 
 -- the fields of a question are its own: the name starts where it was read
-pub question-fields : (p : List ℕ) (at : ℕ) (y : Reading) (f : QuestionAt) → questionFrom p at y ≡ q.Found f → (f .name ≡ at) × (f .span ≡ length (bytesOf y)) × ((e : ℕ) × (y ≡ name (bytesOf y) e))
+pub question-fields : (p : List ℕ) (at : ℕ) (y : Reading) (f : QuestionAt) → questionFrom p at y ≡ q.Found f → (f .name ≡ at) × ((d : ℕ) × (f .span ≡ spanOf (bytesOf y) d)) × ((e : ℕ) × (y ≡ name (bytesOf y) e))
 question-fields p at (name bs e) f h = go (leb (e + 4) (length p)) h
   where
-    go : (b : Bool) → cond b (q.Found (questionMade p at bs e)) q.Malformed ≡ q.Found f → (f .name ≡ at) × (f .span ≡ length bs) × ((d : ℕ) × (name bs e ≡ name bs d))
+    go : (b : Bool) → cond b (q.Found (questionMade p at bs e)) q.Malformed ≡ q.Found f → (f .name ≡ at) × ((d : ℕ) × (f .span ≡ spanOf bs d)) × ((d : ℕ) × (name bs e ≡ name bs d))
     go true g =
         let k : questionMade p at bs e ≡ f = cc in
-        (ap (λ (y : QuestionAt). y .name) (sym k), ap (λ (y : QuestionAt). y .span) (sym k), (e, refl))
+        (ap (λ (y : QuestionAt). y .name) (sym k), (e, ap (λ (y : QuestionAt). y .span) (sym k)), (e, refl))
     go false g = let z : _≡_ {A = ℕ} 0 1 = cc in absurd (omega arith)
 question-fields p at malformed f h = let z : _≡_ {A = ℕ} 0 1 = cc in absurd (omega arith)
 
@@ -121,7 +128,9 @@ question-here p at x next h = go (questionRead p at) refl h
           fields = f;
           found = e;
           place = k .0;
-          span = k .1 ∙ ap length bytes;
+          span = ap (λ (s : Span). s .len) (k .1 .1) ∙ ap length bytes;
+          labels = ap (λ (s : Span). s .labels) (k .1 .1) ∙ ap labelsIn bytes;
+          first-label = ap (λ (s : Span). s .first) (k .1 .1) ∙ ap firstIn bytes;
           rtype = ap (λ (y : Question). y .rtype) same;
           class = ap (λ (y : Question). y .class) same;
           past = cc;
@@ -131,17 +140,17 @@ question-here p at x next h = go (questionRead p at) refl h
     go q.Malformed e g = let z : _≡_ {A = ℕ} 0 1 = cc in absurd (omega arith)
 
 pub record-fields : (p : List ℕ) (at : ℕ) (y : Reading) (f : RecordAt) → recordFrom p at y ≡ r.Found f
-    → (f .owner ≡ at) × (f .span ≡ length (bytesOf y)) × ((e : ℕ) × (y ≡ name (bytesOf y) e)) × (f .rdata + f .rdlength ≤ length p)
+    → (f .owner ≡ at) × ((d : ℕ) × (f .span ≡ spanOf (bytesOf y) d)) × ((e : ℕ) × (y ≡ name (bytesOf y) e)) × (f .rdata + f .rdlength ≤ length p)
 record-fields p at (name bs e) f h = go (leb (e + 10) (length p)) (leb (e + 10 + word16 p (e + 8)) (length p)) refl h
   where
     go : (a b : Bool) → leb (e + 10 + word16 p (e + 8)) (length p) ≡ b → cond (a && b) (r.Found (recordMade p at bs e)) r.Malformed ≡ r.Found f
-        → (f .owner ≡ at) × (f .span ≡ length bs) × ((d : ℕ) × (name bs e ≡ name bs d)) × (f .rdata + f .rdlength ≤ length p)
+        → (f .owner ≡ at) × ((d : ℕ) × (f .span ≡ spanOf bs d)) × ((d : ℕ) × (name bs e ≡ name bs d)) × (f .rdata + f .rdlength ≤ length p)
     go true true l g =
         let k : recordMade p at bs e ≡ f = cc in
         let data-at : e + 10 ≡ f .rdata = ap (λ (y : RecordAt). y .rdata) k in
         let data-len : word16 p (e + 8) ≡ f .rdlength = ap (λ (y : RecordAt). y .rdlength) k in (
           ap (λ (y : RecordAt). y .owner) (sym k),
-          ap (λ (y : RecordAt). y .span) (sym k),
+          (e, ap (λ (y : RecordAt). y .span) (sym k)),
           (e, refl),
           omega (arith, leb-true (e + 10 + word16 p (e + 8)) (length p) l),
         )
@@ -162,7 +171,9 @@ record-here p at x next h = go (recordRead p at) refl h
           fields = f;
           found = e;
           place = k .0;
-          span = k .1 ∙ ap length bytes;
+          span = ap (λ (s : Span). s .len) (k .1 .1) ∙ ap length bytes;
+          labels = ap (λ (s : Span). s .labels) (k .1 .1) ∙ ap labelsIn bytes;
+          first-label = ap (λ (s : Span). s .first) (k .1 .1) ∙ ap firstIn bytes;
           rtype = ap (λ (y : Record). y .rtype) same;
           class = ap (λ (y : Record). y .class) same;
           ttl = ap (λ (y : Record). y .ttl) same;

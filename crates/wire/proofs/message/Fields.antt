@@ -8,7 +8,7 @@ use borrow.Author.Tests.{le-leb, lt-leb}
 use lib.ListN.{length}
 use Rattle.wire.specs.octets.Octets.{word16, word32}
 use Rattle.wire.specs.names.Names.{Reading, name, malformed, nameAt}
-use Rattle.wire.specs.names.Answers.{foundOf}
+use Rattle.wire.specs.names.Answers.{spanOf, foundOf}
 use Rattle.wire.specs.declared.names.Span.{Span}
 use Rattle.wire.specs.declared.names.Name.{Name}
 use Rattle.wire.specs.declared.names.Name.the-variants as nam
@@ -41,19 +41,19 @@ module _ (p : List ℕ) (at : ℕ) (n : Name) (h : n ≡ foundOf (nameAt p at)) 
     is : nameAt p at ≡ name (as-name (nameAt p at) n s h k .0) (s .end)
     is = as-name (nameAt p at) n s h k .1
 
-    long : length (as-name (nameAt p at) n s h k .0) ≡ s .len
-    long = as-name (nameAt p at) n s h k .2
+    whole : spanOf (as-name (nameAt p at) n s h k .0) (s .end) ≡ s
+    whole = sym (as-name (nameAt p at) n s h k .3)
 
     pub question-short : length p < s .end + 4 → q.Malformed ≡ questionRead p at
     unfolding questionRead
     question-short l = simp (is, lt-leb _ _ l)
 
     pub question-found : (t c : ℕ) → t ≡ word16 p (s .end) → c ≡ word16 p (s .end + 2) → s .end + 4 ≤ length p
-        → q.Found (record { name = at; span = s .len; rtype = t; class = c; next = s .end + 4 }) ≡ questionRead p at
+        → q.Found (record { name = at; span = s; rtype = t; class = c; next = s .end + 4 }) ≡ questionRead p at
     unfolding questionRead
     question-found t c et ec l =
         simp (is, le-leb _ _ l)
-        (λ i. q.Found (record { name = at; span = sym long i; rtype = et i; class = ec i; next = s .end + 4 }))
+        (λ i. q.Found (record { name = at; span = sym whole i; rtype = et i; class = ec i; next = s .end + 4 }))
 
     pub record-short : length p < s .end + 10 → r.Malformed ≡ recordRead p at
     unfolding recordRead
@@ -65,13 +65,13 @@ module _ (p : List ℕ) (at : ℕ) (n : Name) (h : n ≡ foundOf (nameAt p at)) 
 
     pub record-found : (w t c v u : ℕ) → w ≡ word16 p (s .end + 8) → t ≡ word16 p (s .end) → c ≡ word16 p (s .end + 2) → v ≡ word32 p (s .end + 4) → u ≡ ttlOf v
         → s .end + 10 ≤ length p → s .end + 10 + w ≤ length p
-        → r.Found (record { owner = at; span = s .len; rtype = t; class = c; ttl = u; rdata = s .end + 10; rdlength = w; next = s .end + 10 + w }) ≡ recordRead p at
+        → r.Found (record { owner = at; span = s; rtype = t; class = c; ttl = u; rdata = s .end + 10; rdlength = w; next = s .end + 10 + w }) ≡ recordRead p at
     unfolding recordRead
     record-found w t c v u ew et ec ev eu l o =
         let o′ : s .end + 10 + word16 p (s .end + 8) ≤ length p = omega arith in
         let ttl : u ≡ ttlOf (word32 p (s .end + 4)) = eu ∙ ap ttlOf ev in
         simp (is, le-leb _ _ l, le-leb _ _ o′)
-        (λ i. r.Found (record { owner = at; span = sym long i; rtype = et i; class = ec i; ttl = ttl i; rdata = s .end + 10; rdlength = ew i; next = s .end + 10 + ew i }))
+        (λ i. r.Found (record { owner = at; span = sym whole i; rtype = et i; class = ec i; ttl = ttl i; rdata = s .end + 10; rdlength = ew i; next = s .end + 10 + ew i }))
 
 -- past a question, and past a record whose rdata fits
 module _ (p : List ℕ) (at : ℕ) where

@@ -10,6 +10,8 @@ use Rattle.wire.specs.Lists.{some}
 use Rattle.wire.specs.case_folding.Fold.{sameName}
 use Rattle.wire.specs.names.Names.{name, nameAt}
 use Rattle.wire.specs.names.Answers.{sameAs, nameIs}
+use Rattle.wire.specs.labels.Counted.{labelsIn, firstIn}
+use Rattle.wire.specs.declared.names.Span.{Span}
 use Rattle.wire.specs.rdata.Rdata.{Rdata, rdata, unfit, rdataAt}
 use Rattle.wire.specs.rdata.Answers.{fits, dataOf}
 use Rattle.wire.specs.message.Message.{Question, Record, recordOf, Message}
@@ -143,7 +145,9 @@ pub record RecordMet (p : List ℕ) (at : ℕ) (f : RecordAt) : Type 0 where
   pub end : ℕ
   pub owner : nameAt p (f .owner) ≡ name (recordShown p f .owner) end
   pub named : (other : List ℕ) → nameIs p (f .owner) other ≡ sameName (recordShown p f .owner) other
-  pub span : f .span ≡ length (recordShown p f .owner)
+  pub span : f .span .len ≡ length (recordShown p f .owner)
+  pub labels : f .span .labels ≡ labelsIn (recordShown p f .owner)
+  pub first-label : f .span .first ≡ firstIn (recordShown p f .owner)
   pub content : rdataAt p f ≡ rdata (recordShown p f .rdata)
 
 -- rdata as its type asks has bytes
@@ -201,7 +205,9 @@ module _ (p : List ℕ) (at : ℕ) (a : RecordRead) (is : a ≡ wholeRead p at) 
             end = k .2 .0;
             owner = read-there;
             named = λ other. name-read p (f .owner) (bytesOf (nameAt p (f .owner))) (k .2 .0) other read-there;
-            span = k .1 ∙ ap length bytes;
+            span = ap (λ (s : Span). s .len) (k .1 .1) ∙ ap length bytes;
+            labels = ap (λ (s : Span). s .labels) (k .1 .1) ∙ ap labelsIn bytes;
+            first-label = ap (λ (s : Span). s .first) (k .1 .1) ∙ ap firstIn bytes;
             content = content;
           }
 

@@ -13,11 +13,12 @@ use Rattle.wire.specs.declared.names.Name.the-variants.{Found, Malformed
 use Rattle.wire.specs.declared.names.Expanded.{Expanded}
 use Rattle.wire.proofs.names.Whole.{Short, short}
 
-pub as-name : (x : Reading) (r : Name) (s : Span) → r ≡ foundOf x → r ≡ Found s → (bs : List ℕ) × (x ≡ name bs (s .end)) × (length bs ≡ s .len)
+pub as-name : (x : Reading) (r : Name) (s : Span) → r ≡ foundOf x → r ≡ Found s → (bs : List ℕ) × (x ≡ name bs (s .end)) × (length bs ≡ s .len) × (s ≡ spanOf bs (s .end))
 as-name (name bs d) r s h k =
-    let g : Found s ≡ Found (spanOf d (length bs)) = sym k ∙ h in
-    let i : s ≡ spanOf d (length bs) = cc in
-    (bs, ap (name bs) (sym (ap (λ (y : Span). y .end) i)), sym (ap (λ (y : Span). y .len) i))
+    let g : Found s ≡ Found (spanOf bs d) = sym k ∙ h in
+    let i : s ≡ spanOf bs d = cc in
+    let e : d ≡ s .end = sym (ap (λ (y : Span). y .end) i) in
+    (bs, ap (name bs) e, sym (ap (λ (y : Span). y .len) i), i ∙ ap (spanOf bs) e)
 as-name malformed r s h k = let z : _≡_ {A = ℕ} 0 1 = cc in absurd (omega arith)
 
 pub as-malformed : (x : Reading) (r : Name) → r ≡ foundOf x → r ≡ Malformed → x ≡ malformed
@@ -33,8 +34,8 @@ at-most-255 p at bs e h = let s : Short 0 (name bs e) = rw h at (short (at + 256
 pub as-expanded : (x : Reading) (r : Expanded) (n : Name) (s : Span) → r ≡ expanded x → n ≡ r .name → n ≡ Found s
     → (bs : List ℕ) × (x ≡ name bs (s .end)) × (length bs ≡ s .len) × (take (s .len) (r .bytes) ≡ bs)
 as-expanded (name bs d) r n s h m k =
-    let g : Found s ≡ Found (spanOf d (length bs)) = sym k ∙ m ∙ ap (λ (y : Expanded). y .name) h in
-    let i : s ≡ spanOf d (length bs) = cc in
+    let g : Found s ≡ Found (spanOf bs d) = sym k ∙ m ∙ ap (λ (y : Expanded). y .name) h in
+    let i : s ≡ spanOf bs d = cc in
     let l : length bs ≡ s .len = sym (ap (λ (y : Span). y .len) i) in (
       bs,
       ap (name bs) (sym (ap (λ (y : Span). y .end) i)),
@@ -47,6 +48,6 @@ as-expanded malformed r n s h m k =
 
 pub as-unexpanded : (x : Reading) (r : Expanded) (n : Name) → r ≡ expanded x → n ≡ r .name → n ≡ Malformed → x ≡ malformed
 as-unexpanded (name bs d) r n h m k =
-    let g : Malformed ≡ Found (spanOf d (length bs)) = sym k ∙ m ∙ ap (λ (y : Expanded). y .name) h in
+    let g : Malformed ≡ Found (spanOf bs d) = sym k ∙ m ∙ ap (λ (y : Expanded). y .name) h in
     let z : _≡_ {A = ℕ} 0 1 = cc in absurd (omega arith)
 as-unexpanded malformed r n h m k = refl

@@ -6,12 +6,15 @@ use Prim.Native.Nat.{ℕ, zero, suc, _+_, _-_, _<_, _≤_}
 use native.Mathlib.Nat.{zero-add}
 use native.Mathlib.Omega.{arith}
 use lib.ListN.{length, take, drop, replicate, length-append, length-take}
-use lib.Seq.{sets}
+use lib.Seq.{sets, take-at, length-take-le}
 use Rattle.wire.specs.declared.name_pieces.Piece.{Piece}
 use Rattle.wire.specs.declared.name_pieces.Piece.the-variants.{Root, Label, Pointer, Bad}
 use Rattle.wire.specs.name_pieces.Pieces.{pieceAt}
 use Rattle.wire.specs.names.Names.{Reading, name, malformed, before, ending, readPiece, readFrom, fromRun, nameAt}
-use Rattle.wire.specs.names.Answers.{spanOf, answerOf, Filled, Wrote, expanded, foundOf}
+use Rattle.wire.specs.names.Answers.{spanOf, reachOf, answerOf, Filled, Wrote, expanded, foundOf}
+use Rattle.wire.specs.declared.names.Reach.{Reach}
+use Rattle.wire.specs.declared.names.Copied.{Copied}
+use Rattle.wire.specs.declared.names.Copied.the-variants as copied
 use Rattle.wire.specs.declared.names.Span.{Span}
 use Rattle.wire.specs.declared.names.Name.{Name}
 use Rattle.wire.specs.declared.names.Name.the-variants.{Found, Malformed}
@@ -45,22 +48,47 @@ unfolding readFrom
 short zero p start at used h = tt
 short (suc f) p start at used h = short-piece (readFrom f p) (short f p) p start at used h (pieceAt p start at used) refl
 
-module _ (p : List ℕ) (at : ℕ) (r : Name) (o′ : List ℕ) (w : Wrote (fromRun p at at 0) 0 (replicate 255 0) r o′) where
-  pub whole-found : (s : Span) → r ≡ Found s → _≡_ {A = Expanded} (record { name = Found s; bytes = o′ }) (expanded (nameAt p at))
-  unfolding nameAt fromRun
-  whole-found s is = go (fromRun p at at 0) w (short (at + 256) p at at 0 (omega arith))
-    where
-      go : (x : Reading) → Wrote x 0 (replicate 255 0) r o′ → Short 0 x → _≡_ {A = Expanded} (record { name = Found s; bytes = o′ }) (expanded x)
-      go (name bs e) g b =
-          let head : Found s ≡ Found (spanOf e (length bs)) = sym is ∙ g .answer ∙ ap (λ (k : ℕ). Found (spanOf e k)) (zero-add (length bs)) in
-          let body : o′ ≡ bs ++ replicate (255 - length bs) 0 = g .bytes ∙ filled 255 bs (omega arith) in
-          λ i. record { name = head i; bytes = body i }
-      go malformed g b = let h : r ≡ Malformed = g .answer in let z : _≡_ {A = ℕ} 0 1 = cc in absurd (omega arith)
+module _ (p : List ℕ) (at : ℕ) (r : Copied) (o′ : List ℕ) (w : Wrote (fromRun p at at 0) 0 (replicate 255 0) r o′) where
+  module _ (s : Reach) (is : r ≡ copied.Found s) where
+    -- the name that was copied stands in front of zeros
+    copied-name : (bs : List ℕ) × (nameAt p at ≡ name bs (s .end)) × (length bs ≡ s .len) × (o′ ≡ bs ++ replicate (255 - length bs) 0)
+    unfolding nameAt fromRun
+    copied-name = go (fromRun p at at 0) w (short (at + 256) p at at 0 (omega arith))
+      where
+        go : (x : Reading) → Wrote x 0 (replicate 255 0) r o′ → Short 0 x
+            → (bs : List ℕ) × (x ≡ name bs (s .end)) × (length bs ≡ s .len) × (o′ ≡ bs ++ replicate (255 - length bs) 0)
+        go (name bs e) g b =
+            let h : copied.Found s ≡ copied.Found (reachOf e (0 + length bs)) = sym is ∙ g .answer in
+            let k : s ≡ reachOf e (0 + length bs) = cc in (
+              bs,
+              ap (name bs) (sym (ap (λ (y : Reach). y .end) k)),
+              sym (ap (λ (y : Reach). y .len) k ∙ zero-add (length bs)),
+              g .bytes ∙ filled 255 bs (omega arith),
+            )
+        go malformed g b = let h : r ≡ copied.Malformed = g .answer in let z : _≡_ {A = ℕ} 0 1 = cc in absurd (omega arith)
 
-  pub whole-bad : r ≡ Malformed → _≡_ {A = Expanded} (record { name = Malformed; bytes = replicate 255 0 }) (expanded (nameAt p at))
+    pub copied-fits : s .len ≤ length o′
+    copied-fits =
+        let f = copied-name in
+        omega (arith, ap length (f .3), length-append (f .0) (replicate (255 - length (f .0)) 0), f .2)
+
+    pub copied-long : s .len ≡ length (take (s .len) o′)
+    copied-long = sym (length-take-le (s .len) o′ copied-fits)
+
+    -- its labels are counted, and the first is measured, in front of the zeros
+    pub whole-found : (x : Span) (e : ℕ) → x ≡ spanOf (take (s .len) o′) e
+        → _≡_ {A = Expanded} (record { name = Found (record { end = s .end; len = s .len; labels = x .labels; first = x .first }); bytes = o′ }) (expanded (nameAt p at))
+    whole-found x e counted =
+        let f = copied-name in
+        let front : take (s .len) o′ ≡ f .0 = ap (take (s .len)) (f .3) ∙ take-at (f .0) (replicate (255 - length (f .0)) 0) (s .len) (f .2) in
+        let is : x ≡ spanOf (f .0) e = counted ∙ ap (λ (l : List ℕ). spanOf l e) front in
+        (λ i. record { name = Found (record { end = s .end; len = sym (f .2) i; labels = is i .labels; first = is i .first }); bytes = f .3 i })
+        ∙ ap expanded (sym (f .1))
+
+  pub whole-bad : r ≡ copied.Malformed → _≡_ {A = Expanded} (record { name = Malformed; bytes = replicate 255 0 }) (expanded (nameAt p at))
   unfolding nameAt fromRun
   whole-bad is = go (fromRun p at at 0) w
     where
       go : (x : Reading) → Wrote x 0 (replicate 255 0) r o′ → _≡_ {A = Expanded} (record { name = Malformed; bytes = replicate 255 0 }) (expanded x)
-      go (name bs e) g = let h : r ≡ Found (spanOf e (0 + length bs)) = g .answer in let z : _≡_ {A = ℕ} 0 1 = cc in absurd (omega arith)
+      go (name bs e) g = let h : r ≡ copied.Found (reachOf e (0 + length bs)) = g .answer in let z : _≡_ {A = ℕ} 0 1 = cc in absurd (omega arith)
       go malformed g = refl

@@ -9,7 +9,7 @@ use lib.ListN.{length, getD, take}
 use lib.Dec.{eqb, ltb, leb}
 use Rattle.wire.specs.octets.Octets.{word16}
 use Rattle.wire.specs.names.Names.{Reading, name, malformed, nameAt}
-use Rattle.wire.specs.names.Answers.{foundOf}
+use Rattle.wire.specs.names.Answers.{spanOf, foundOf}
 use Rattle.wire.specs.declared.names.Span.{Span}
 use Rattle.wire.specs.declared.names.Name.{Name}
 use Rattle.wire.specs.declared.names.Name.the-variants as nam
@@ -145,7 +145,7 @@ module _ (p : List ℕ) (at : ℕ) (d : List ℕ) (before : ℕ) where
           found =
               let f = as-name (nameAt p (at + before)) r s is k in
               read-there ∙ ap (nameEnding (at + length d)) (f .1)
-              ∙ ap (λ (n : ℕ). cond (eqb (s .end) (at + length d)) (nam.Found (record { end = s .end; len = n })) nam.Malformed) (f .2)
+              ∙ ap (λ (x : Span). cond (eqb (s .end) (at + length d)) (nam.Found x) nam.Malformed) (sym (f .3))
 
           pub name-ends : s .end ≡ at + length d → nam.Found s ≡ nameIn p at d before
           name-ends e = sym (found ∙ ap (λ (b : Bool). cond b (nam.Found s) nam.Malformed) (eq-eqb _ _ e))
@@ -169,7 +169,7 @@ module _ (p : List ℕ) (at : ℕ) (d : List ℕ) (before : ℕ) where
   unfolding nameIn
   name-fits inside = ap (λ (b : Bool). isFound (cond b (cond (leb before (length d)) (nameEnding (at + length d) (nameAt p (at + before))) nam.Malformed) nam.Malformed)) (le-leb _ _ inside) ∙ go (leb before (length d)) (nameAt p (at + before))
     where
-      end : (bs : List ℕ) (e : ℕ) (b : Bool) → isFound (cond b (nam.Found (record { end = e; len = length bs })) nam.Malformed) ≡ fits (cond b (rdata (take before d ++ bs)) unfit)
+      end : (bs : List ℕ) (e : ℕ) (b : Bool) → isFound (cond b (nam.Found (spanOf bs e)) nam.Malformed) ≡ fits (cond b (rdata (take before d ++ bs)) unfit)
       end bs e true = refl
       end bs e false = refl
 
@@ -189,10 +189,10 @@ module _ (p : List ℕ) (at : ℕ) (d : List ℕ) (before : ℕ) where
 module _ (p : List ℕ) (at : ℕ) (d : List ℕ) where
   module _ (r : Name) (is : r ≡ nameIn p at d 6) where
     pub srv-there : (s : Span) → r ≡ nam.Found s → (priority weight port : ℕ) → priority ≡ word16 d 0 → weight ≡ word16 d 2 → port ≡ word16 d 4
-        → srv.Found (record { priority = priority; weight = weight; port = port; target = at + 6; span = s .len }) ≡ srvIn p at d
+        → srv.Found (record { priority = priority; weight = weight; port = port; target = at + 6; span = s }) ≡ srvIn p at d
     unfolding srvIn
     srv-there s k priority weight port a b c =
-        (λ i. srv.Found (record { priority = a i; weight = b i; port = c i; target = at + 6; span = s .len })) ∙ ap (srvWith d (at + 6)) (sym k ∙ is)
+        (λ i. srv.Found (record { priority = a i; weight = b i; port = c i; target = at + 6; span = s })) ∙ ap (srvWith d (at + 6)) (sym k ∙ is)
 
     pub srv-bad : r ≡ nam.Malformed → srv.Malformed ≡ srvIn p at d
     unfolding srvIn

@@ -8,6 +8,7 @@ use lib.Dec.{leb, ltb, eqb}
 use Rattle.wire.specs.refusals.Numbers.{LENGTH, HEADER, MALFORMED}
 use Rattle.wire.specs.octets.Octets.{word16, word32}
 use Rattle.wire.specs.names.Names.{Reading, name, malformed, nameAt}
+use Rattle.wire.specs.names.Answers.{spanOf}
 use Rattle.wire.specs.rdata.Rdata.{Rdata, rdata, unfit, rdataAt}
 use Rattle.wire.specs.message.Message.{Question, Record, recordOf, Message, ttlOf}
 use Rattle.wire.specs.declared.message.QuestionAt.{QuestionAt}
@@ -25,7 +26,7 @@ use Rattle.wire.specs.declared.message.MessageRead.the-variants as m
 abbrev pub questionFrom : List ℕ → ℕ → Reading → QuestionRead
 questionFrom p at (name bs e) =
     cond (leb (e + 4) (length p))
-    (q.Found (record { name = at; span = length bs; rtype = word16 p e; class = word16 p (e + 2); next = e + 4 }))
+    (q.Found (record { name = at; span = spanOf bs e; rtype = word16 p e; class = word16 p (e + 2); next = e + 4 }))
     q.Malformed
 questionFrom p at malformed = q.Malformed
 
@@ -38,7 +39,7 @@ recordFrom p at (name bs e) =
     cond (leb (e + 10) (length p) && leb (e + 10 + word16 p (e + 8)) (length p))
     (r.Found (record {
       owner = at;
-      span = length bs;
+      span = spanOf bs e;
       rtype = word16 p e;
       class = word16 p (e + 2);
       ttl = ttlOf (word32 p (e + 4));

@@ -33,7 +33,7 @@ stringAt d at =
 
 -- a name "ending exactly at the rdata's end"
 abbrev pub nameEnding : ℕ → Reading → Name
-nameEnding end (name bs e) = cond (eqb e end) (nam.Found (spanOf e (length bs))) nam.Malformed
+nameEnding end (name bs e) = cond (eqb e end) (nam.Found (spanOf bs e)) nam.Malformed
 nameEnding end malformed = nam.Malformed
 
 -- the name behind so many bytes of a part that lies in the packet
@@ -45,7 +45,7 @@ nameIn p at d before =
 
 -- "SRV is 6 bytes and one name": priority, weight and port, each of two bytes, and the target (RFC 2782)
 abbrev pub srvWith : List ℕ → ℕ → Name → SrvRead
-srvWith d target (nam.Found s) = srv.Found (record { priority = word16 d 0; weight = word16 d 2; port = word16 d 4; target = target; span = s .len })
+srvWith d target (nam.Found s) = srv.Found (record { priority = word16 d 0; weight = word16 d 2; port = word16 d 4; target = target; span = s })
 srvWith d target nam.Malformed = srv.Malformed
 
 unfoldable pub srvIn : List ℕ → ℕ → List ℕ → SrvRead

@@ -8,7 +8,8 @@ use Rattle.wire.specs.labels.Labels.{encode, Labels, none, one}
 use Rattle.writer.specs.declared.compression.Place.{Place}
 use Rattle.writer.specs.declared.compression.Place.the-variants.{At, Nowhere}
 use Rattle.writer.specs.declared.compression.Cut.{Cut}
-use Rattle.writer.specs.compression.Compression.{placeOf, onward, cutHere, cutFrom, cutOf, pointerTo, endOf, nameBytes, starts, namePlaces}
+use Rattle.writer.specs.compression.Compression.{placeOf, onward, cutHere, cutFrom, cutOf, pointerTo, endOf, nameBytes, namePlaces}
+use Rattle.wire.specs.labels.Counted.{starts}
 
 -- a pointer where the suffix stands earlier, else its first label and what follows
 abbrev pub cutAt : Place → List ℕ → List ℕ

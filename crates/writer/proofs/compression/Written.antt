@@ -12,7 +12,8 @@ use Rattle.wire.specs.labels.Labels.{encode, Labels, none, one, IsName}
 use Rattle.wire.proofs.labels.Encoded.{encode-pos, made-of}
 use Rattle.writer.specs.declared.compression.Place.{Place}
 use Rattle.writer.specs.declared.compression.Place.the-variants.{At, Nowhere}
-use Rattle.writer.specs.compression.Compression.{standsAt, placeOf, onward, cutHere, cutFrom, cutOf, endOf, nameBytes, starts, namePlaces, labelsIn}
+use Rattle.writer.specs.compression.Compression.{standsAt, placeOf, onward, cutHere, cutFrom, cutOf, endOf, nameBytes, namePlaces}
+use Rattle.wire.specs.labels.Counted.{starts, labelsIn}
 use Rattle.writer.specs.compression.Sentence.{Rising, empty, next}
 use Rattle.writer.proofs.compression.ByLabels.{starts-on, cutAt, byLabels, placesBy, by-labels, places-by}
 use Rattle.writer.proofs.compression.Places.{name-rising}

@@ -6,7 +6,7 @@ use Rattle.writer.proofs.labels_for.Tie as tie
 use Rattle.writer.proofs.labels_for.Reads as reads
 use Rattle.writer.proofs.labels_for.Lts as lts
 use Rattle.wire.proofs.rdata.form_of.Reads as form-of-reads
-use Rattle.writer.proofs.labels_in.Reads as labels-in-reads
+use Rattle.wire.proofs.labels.labels_in.Reads as labels-in-reads
 
 form-of-requires : tie.Need-form-of-requires
 form-of-requires c κs = search needs

@@ -5,7 +5,7 @@ use Rattle.writer.proofs.name_fits.Statement.{statement}
 use Rattle.writer.proofs.name_fits.Tie as tie
 use Rattle.writer.proofs.name_fits.Reads as reads
 use Rattle.writer.proofs.name_fits.Lts as lts
-use Rattle.writer.proofs.labels_in.Reads as labels-in-reads
+use Rattle.wire.proofs.labels.labels_in.Reads as labels-in-reads
 
 returns : tie.Need-returns
 returns c = no-room _ _ _ _ (omega arith)

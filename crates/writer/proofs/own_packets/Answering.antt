@@ -10,7 +10,7 @@ use lib.Seq.{sets, sets-eq, length-sets, length-take-le, drop-at, drop-drop}
 use lib.Dec.{eqb}
 use Rattle.wire.specs.names.Names.{isName}
 use Rattle.wire.specs.message.Message.{Question, Record}
-use Rattle.writer.specs.compression.Compression.{labelsIn}
+use Rattle.wire.specs.labels.Counted.{labelsIn}
 use Rattle.own.specs.declared.records.Setup.{Setup}
 use Rattle.claims.specs.records.Own.{records, recordAt, firstOf}
 use Rattle.claims.specs.declared.records.Claim.{Claim}

@@ -10,7 +10,7 @@ use lib.ListN.{length, getD, take, drop, replicate, length-take, take-append-dro
 use lib.Seq.{sets, getD-take, take-at, drop-at, drop-cons, length-take-le, drop-drop}
 use Rattle.wire.specs.labels.Labels.{encode}
 use Rattle.wire.proofs.labels.Encoded.{is-name}
-use Rattle.writer.specs.compression.Compression.{labelsIn}
+use Rattle.wire.specs.labels.Counted.{labelsIn}
 use Rattle.wire.specs.message.Message.{Record}
 use Rattle.own.specs.declared.records.Setup.{Setup}
 use Rattle.claims.specs.records.Own.{recordAt, ownType}

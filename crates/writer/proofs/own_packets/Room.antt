@@ -6,7 +6,7 @@ use Prim.Native.Nat.{ℕ, _+_, _-_, _≤_}
 use native.Mathlib.Omega.{arith}
 use lib.ListN.{length}
 use Rattle.wire.specs.labels.Labels.{encode}
-use Rattle.writer.specs.compression.Compression.{labelsIn}
+use Rattle.wire.specs.labels.Counted.{labelsIn}
 use Rattle.writer.proofs.compression.Written.{labels-in}
 use Rattle.claims.specs.records.Own.{all, ownType, firstOf, claimed, has}
 use Rattle.claims.specs.records.Sets.{picked}

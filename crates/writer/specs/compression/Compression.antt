@@ -5,6 +5,7 @@ use Prim.Native.Nat.{ℕ, zero, suc, _+_, _/_, _%_}
 use mathlib.Core.List.{List, [], _∷_, _++_}
 use mathlib.Core.Bool.{Bool, true, false, cond}
 use lib.ListN.{length, take}
+use Rattle.wire.specs.labels.Counted.{starts}
 use Rattle.wire.specs.names.Names.{Reading, name, malformed, nameAt}
 use Rattle.wire.specs.expansion.Equal.{sameBytes}
 use Rattle.writer.specs.declared.compression.Place.{Place}
@@ -59,17 +60,6 @@ endOf Nowhere = 0 ∷ []
 unfoldable pub nameBytes : List ℕ → List ℕ → List ℕ → List ℕ
 nameBytes p os bs = take (cutOf p os bs .kept) bs ++ endOf (cutOf p os bs .place)
 
--- the offsets at which labels start, of bytes that stand at `at`, `k` bytes of a label still to come
-unfoldable pub starts : ℕ → ℕ → List ℕ → List ℕ
-starts at k [] = []
-starts at (suc k) (b ∷ bs) = starts (suc at) k bs
-starts at zero (zero ∷ bs) = []
-starts at zero (suc n ∷ bs) = at ∷ starts (suc at) (suc n) bs
-
 -- the offsets at which its own labels start, where the name is written at `at`
 unfoldable pub namePlaces : List ℕ → List ℕ → ℕ → List ℕ → List ℕ
 namePlaces p os at bs = starts at 0 (take (cutOf p os bs .kept) bs)
-
--- how many labels a name has
-abbrev pub labelsIn : List ℕ → ℕ
-labelsIn bs = length (starts 0 0 bs)

@@ -5,7 +5,7 @@ use mathlib.Core.List.{List, [], _∷_, map}
 use mathlib.Core.Bool.{true, cond}
 use Rattle.wire.specs.names.Names.{isName}
 use lib.ListN.{length, take}
-use Rattle.writer.specs.compression.Compression.{labelsIn}
+use Rattle.wire.specs.labels.Counted.{labelsIn}
 use Rattle.claims.specs.records.Own.{records, recordAt, ownType}
 use Rattle.claims.specs.declared.records.Own.{Own}
 use Rattle.own.specs.declared.records.Setup.{Setup}

@@ -254,6 +254,23 @@ pub fn long_name(random: &mut Random, length: usize) -> Vec<u8> {
     wire
 }
 
+/// A name of `count` labels, at most 127: of one byte each where more would not
+/// fit, else the first one often longer.
+pub fn labelled_name(random: &mut Random, count: usize) -> Vec<u8> {
+    let mut wire = Vec::new();
+    let room = 254 - 2 * count;
+    for label in 0..count {
+        let length = match label {
+            0 => 1 + random.below(room.min(62) + 1),
+            _ => 1,
+        };
+        wire.push(length as u8);
+        wire.extend((0..length).map(|_| random.pick(b"abXY09")));
+    }
+    wire.push(0);
+    wire
+}
+
 /// Well-formed TXT rdata of exactly `length` bytes.
 pub fn txt_of(random: &mut Random, length: usize) -> Vec<u8> {
     let mut txt = Vec::with_capacity(length);
@@ -285,6 +302,10 @@ pub fn some_rdata(random: &mut Random, rtype: u16) -> Vec<u8> {
 }
 
 pub fn some_name(random: &mut Random) -> Vec<u8> {
+    if random.chance(4) {
+        let count = random.pick(&[1, 2, 5, 63, 64, 65, 126, 127]);
+        return labelled_name(random, count);
+    }
     let name: &[u8] = random.pick(&[
         &b"\x00"[..],
         b"\x05local\x00",
@@ -332,9 +353,18 @@ fn rooted(rtype: u16, rdata: &[u8]) -> Vec<u8> {
     bytes
 }
 
+/// Whether a label, or the zero byte, starts at `at` of an uncompressed name.
+fn name_starts_at(name: &[u8], at: usize) -> bool {
+    let mut start = 0;
+    while start < at {
+        start += 1 + usize::from(name[start]);
+    }
+    start == at
+}
+
 /// A message at a corner of the reading rules.
 pub fn corner(random: &mut Random) -> Vec<u8> {
-    match random.below(18) {
+    match random.below(19) {
         0 => {
             let length = random.pick(&[0, 1, 11, 12, 13, 8971, 8972, 8973, 9000]);
             let mut bytes = vec![0; length];
@@ -469,6 +499,36 @@ pub fn corner(random: &mut Random) -> Vec<u8> {
             bytes
         }
         16 => {
+            // names that begin with a pointer, or with a label and one, into another
+            // name; the last one follows two pointers
+            let count = random.pick(&[0, 1, 2, 3, 64, 126, 127, 127]);
+            let first = labelled_name(random, count);
+            let whole = random.chance(50);
+            let starts = (0..first.len()).filter(|at| name_starts_at(&first, *at));
+            let starts: Vec<usize> = starts.map(|at| HEADER + at).collect();
+            let target = if whole { HEADER } else { random.pick(&starts) };
+            let mut second = Vec::new();
+            if !whole && random.chance(60) {
+                second.extend(b"\x02st");
+            }
+            second.extend((0xC000 | target as u16).to_be_bytes());
+            let second_at = HEADER + first.len() + 4;
+            let rtype = random.pick(&[rtype::PTR, rtype::SRV]);
+            let mut rdata = vec![0; if rtype == rtype::SRV { 6 } else { 0 }];
+            if !whole && random.chance(60) {
+                rdata.extend(b"\x05third");
+            }
+            rdata.extend((0xC000 | second_at as u16).to_be_bytes());
+            let mut bytes = named(&first, &second);
+            bytes[7] = 1;
+            let owner = random.pick(&[HEADER, second_at]);
+            bytes.extend((0xC000 | owner as u16).to_be_bytes());
+            bytes.extend(rtype.to_be_bytes());
+            bytes.extend([0, 1, 0, 0, 0, 9, 0, rdata.len() as u8]);
+            bytes.extend(rdata);
+            bytes
+        }
+        17 => {
             // class and TTL of any kind, all five types, any section
             let mut draft = Draft {
                 flags: random.pick(&[0, 0x8000, 0x8400]),

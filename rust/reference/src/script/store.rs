@@ -1,6 +1,6 @@
 //! Lives of the cache: full tables, flushes, goodbyes, times at the boundaries.
 
-use super::packet::{corner, long_name, some_rdata, some_record, some_ttl, txt_of};
+use super::packet::{corner, labelled_name, long_name, some_rdata, some_record, some_ttl, txt_of};
 use super::packet::{Draft, DraftRecord};
 use super::Script;
 use crate::cache::ENTRIES;
@@ -101,6 +101,10 @@ impl Script {
     }
 
     fn owner(&mut self) -> Vec<u8> {
+        if self.random.chance(5) {
+            let count = self.random.pick(&[1, 3, 64, 127]);
+            return labelled_name(&mut self.random, count);
+        }
         let owner = self.random.pick(&OWNERS);
         if self.random.chance(30) {
             self.random.recase(owner)

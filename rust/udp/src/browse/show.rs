@@ -1,6 +1,6 @@
 //! Instances on the screen.
 
-use kurgashel::{txt_lookup, Pair};
+use kurgashel::{txt_lookup, Name, Pair};
 
 use super::view::Instance;
 use crate::{name, refusal, strings};
@@ -52,10 +52,8 @@ impl Screen {
 
 /// The instance's own label.
 fn label(instance: &Instance) -> String {
-    let labels = name::labels(&instance.name);
-    labels
-        .first()
-        .map_or(String::new(), |label| name::shown(label))
+    let name = Name::read(&instance.name, 0);
+    name.map_or(String::new(), |name| name::shown(name.first_label()))
 }
 
 fn block(what: &str, instance: &Instance, factory: &[u8]) -> Vec<String> {

@@ -50,8 +50,8 @@ follow-chase-requires t c κs = omega arith
 follow-walk-requires : (t : ℕ) → follow-lts.Need-walk-requires (follow-claims t) (follow-at t) follow.Post
 follow-walk-requires t c κs = (omega (arith, c .before .chase .ensures .0 .back), omega arith)
 
-follow-enum-known-span : (t : ℕ) → follow-lts.Need-enum-known-span (follow-claims t) (follow-at t) follow.Post
-follow-enum-known-span t c = search needs
+follow-enum-known-reach : (t : ℕ) → follow-lts.Need-enum-known-reach (follow-claims t) (follow-at t) follow.Post
+follow-enum-known-reach t c = search needs
 
 follow-add-t11 : (t : ℕ) → follow-lts.Need-add-t11 (follow-claims t) (follow-at t) follow.Post
 follow-add-t11 t c = omega arith
@@ -60,7 +60,7 @@ follow-enum-told : (t : ℕ) → follow-lts.Need-enum-told (follow-claims t) (fo
 follow-enum-told t c = search needs
 
 follow-returns : (t : ℕ) → follow-lts.Need-returns (follow-claims t) (follow-at t) follow.Post
-follow-returns t c = followed _ _ _ _ _ (c .before .before .before .before .before .chase .ensures .0) _ _ _ (c .before .before .before .walk .ensures) _ (c .before .span .given .1)
+follow-returns t c = followed _ _ _ _ _ (c .before .before .before .before .before .chase .ensures .0) _ _ _ (c .before .before .before .walk .ensures) _ (c .before .reach .given .1)
 
 follow-returns-2 : (t : ℕ) → follow-lts.Need-returns-2 (follow-claims t) (follow-at t) follow.Post
 follow-returns-2 t c = followed-bad _ _ _ _ _ (c .before .before .before .before .chase .ensures .0) _ _ _ (c .before .before .walk .ensures) (c .enum-told .given .1)
@@ -137,7 +137,7 @@ pub +follow+walk-spec : {M : Type 1} → statement M
     follow.Post
     (follow-chase-requires t)
     (follow-walk-requires t)
-    (follow-enum-known-span t)
+    (follow-enum-known-reach t)
     (follow-add-t11 t)
     (follow-enum-told t)
     (follow-returns t)

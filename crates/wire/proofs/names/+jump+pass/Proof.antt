@@ -14,6 +14,7 @@ use Rattle.wire.proofs.names.pass.Kinds as pass-kinds
 use Rattle.wire.proofs.names.+jump+pass.Lts-pass as pass-lts
 use Rattle.wire.proofs.names.chase.Reads as chase-reads
 use Rattle.wire.proofs.name_pieces.piece_at.Reads as piece-at-reads
+use Rattle.wire.proofs.names.first_label.Reads as first-label-reads
 use Rattle.wire.proofs.names.+jump+pass.{statement}
 use Rattle.wire.proofs.names.+jump+pass.Tie.{close}
 
@@ -40,7 +41,7 @@ abbrev jump-claims : ℕ → jump-lts.Claims
 jump-claims t = (chase-reads.Asked, chase-reads.Learnt, pass-below t, pass.Post)
 
 abbrev pass-claims : ℕ → pass-lts.Claims
-pass-claims t = (piece-at-reads.Asked, piece-at-reads.Learnt, pass-below t, pass.Post, jump-below t, jump.Post)
+pass-claims t = (piece-at-reads.Asked, piece-at-reads.Learnt, first-label-reads.Asked, first-label-reads.Learnt, pass-below t, pass.Post, jump-below t, jump.Post)
 
 jump-chase-requires : (t : ℕ) → jump-lts.Need-chase-requires (jump-claims t) (jump-at t) jump.Post
 jump-chase-requires t c κs = omega arith
@@ -50,17 +51,17 @@ jump-add-pass t c = omega arith
 
 jump-pass-requires :
     (t : ℕ) → jump-lts.Need-pass-requires (jump-claims t) (jump-at t) jump.Post
-jump-pass-requires t c κs = (omega (arith, c .before .chase .ensures .0 .back), omega arith)
+jump-pass-requires t c κs = (omega (arith, c .before .chase .ensures .0 .back), (omega arith, omega arith))
 
 jump-returns : (t : ℕ) → jump-lts.Need-returns (jump-claims t) (jump-at t) jump.Post
-jump-returns t c = c .pass .ensures ∙ passed-first _ _ _ _ _ (c .before .if1 .taken) ∙ passed-chain _ _ _ _ _ _ (c .before .before .chase .ensures .0)
+jump-returns t c = c .pass .ensures ∙ passed-first _ _ _ _ _ _ _ (c .before .if1 .taken) ∙ passed-chain _ _ _ _ _ _ _ _ (c .before .before .chase .ensures .0)
 
 jump-pass-requires-2 :
     (t : ℕ) → jump-lts.Need-pass-requires-2 (jump-claims t) (jump-at t) jump.Post
-jump-pass-requires-2 t c κs = (omega (arith, c .before .chase .ensures .0 .back), omega arith)
+jump-pass-requires-2 t c κs = (omega (arith, c .before .chase .ensures .0 .back), (omega arith, omega arith))
 
 jump-returns-2 : (t : ℕ) → jump-lts.Need-returns-2 (jump-claims t) (jump-at t) jump.Post
-jump-returns-2 t c = c .pass2 .ensures ∙ passed-later _ _ _ _ _ (c .before .if1 .left) ∙ passed-chain _ _ _ _ _ _ (c .before .before .chase .ensures .0)
+jump-returns-2 t c = c .pass2 .ensures ∙ passed-later _ _ _ _ _ _ _ (c .before .if1 .left) ∙ passed-chain _ _ _ _ _ _ _ _ (c .before .before .chase .ensures .0)
 
 pass-piece-at-requires : (t : ℕ) → pass-lts.Need-piece-at-requires (pass-claims t) (pass-at t) pass.Post
 pass-piece-at-requires t c κs = omega arith
@@ -68,56 +69,63 @@ pass-piece-at-requires t c κs = omega arith
 pass-enum-told : (t : ℕ) → pass-lts.Need-enum-told (pass-claims t) (pass-at t) pass.Post
 pass-enum-told t c = search needs
 
-pass-add-t11 : (t : ℕ) → pass-lts.Need-add-t11 (pass-claims t) (pass-at t) pass.Post
-pass-add-t11 t c = omega (arith, is-root _ _ _ _ (sym (c .before .before .before .piece-at .ensures) ∙ c .before .enum-told .given .1))
+pass-add-t14 : (t : ℕ) → pass-lts.Need-add-t14 (pass-claims t) (pass-at t) pass.Post
+pass-add-t14 t c = omega (arith, is-root _ _ _ _ (sym (c .before .before .before .piece-at .ensures) ∙ c .before .enum-told .given .1))
 
-pass-add-t12 : (t : ℕ) → pass-lts.Need-add-t12 (pass-claims t) (pass-at t) pass.Post
-pass-add-t12 t c = omega arith
+pass-add-t15 : (t : ℕ) → pass-lts.Need-add-t15 (pass-claims t) (pass-at t) pass.Post
+pass-add-t15 t c = omega arith
 
 pass-returns : (t : ℕ) → pass-lts.Need-returns (pass-claims t) (pass-at t) pass.Post
-pass-returns t c = seen-root _ _ _ _ _ _ (c .before .before .before .piece-at .ensures) (c .before .enum-told .given .1) (c .if1 .taken)
+pass-returns t c = seen-root _ _ _ _ _ _ _ _ (c .before .before .before .piece-at .ensures) (c .before .enum-told .given .1) (c .if1 .taken)
 
-pass-add-t14 : (t : ℕ) → pass-lts.Need-add-t14 (pass-claims t) (pass-at t) pass.Post
-pass-add-t14 t c = omega arith
+pass-add-t17 : (t : ℕ) → pass-lts.Need-add-t17 (pass-claims t) (pass-at t) pass.Post
+pass-add-t17 t c = omega arith
 
 pass-enum-known-n : (t : ℕ) → pass-lts.Need-enum-known-n (pass-claims t) (pass-at t) pass.Post
 pass-enum-known-n t c = search needs
 
+pass-first-label-requires : (t : ℕ) → pass-lts.Need-first-label-requires (pass-claims t) (pass-at t) pass.Post
+pass-first-label-requires t c κs = search needs
+
 pass-add-pass : (t : ℕ) → pass-lts.Need-add-pass (pass-claims t) (pass-at t) pass.Post
-pass-add-pass t c = omega (arith, label-in _ _ _ _ _ (sym (c .before .before .before .piece-at .ensures) ∙ c .before .n .given .1))
+pass-add-pass t c = omega (arith, label-in _ _ _ _ _ (sym (c .before .before .before .before .piece-at .ensures) ∙ c .before .before .n .given .1))
 
 pass-add-pass-2 : (t : ℕ) → pass-lts.Need-add-pass-2 (pass-claims t) (pass-at t) pass.Post
-pass-add-pass-2 t c = omega (arith, label-in _ _ _ _ _ (sym (c .before .before .before .piece-at .ensures) ∙ c .before .n .given .1))
+pass-add-pass-2 t c = omega (arith, label-in _ _ _ _ _ (sym (c .before .before .before .before .piece-at .ensures) ∙ c .before .before .n .given .1))
 
 pass-add-pass-3 : (t : ℕ) → pass-lts.Need-add-pass-3 (pass-claims t) (pass-at t) pass.Post
 pass-add-pass-3 t c = omega arith
 
 pass-add-pass-4 : (t : ℕ) → pass-lts.Need-add-pass-4 (pass-claims t) (pass-at t) pass.Post
-pass-add-pass-4 t c = omega (arith, label-room _ _ _ _ _ (sym (c .before .before .before .piece-at .ensures) ∙ c .before .n .given .1))
+pass-add-pass-4 t c = omega (arith, label-room _ _ _ _ _ (sym (c .before .before .before .before .piece-at .ensures) ∙ c .before .before .n .given .1))
+
+pass-add-pass-5 : (t : ℕ) → pass-lts.Need-add-pass-5 (pass-claims t) (pass-at t) pass.Post
+pass-add-pass-5 t c = omega arith
 
 pass-pass-requires : (t : ℕ) → pass-lts.Need-pass-requires (pass-claims t) (pass-at t) pass.Post
-pass-pass-requires t c κs = (omega (arith, label-room _ _ _ _ _ (sym (c .before .before .before .piece-at .ensures) ∙ c .before .n .given .1)), label-room _ _ _ _ _ (sym (c .before .before .before .piece-at .ensures) ∙ c .before .n .given .1))
+pass-pass-requires t c κs =
+    let room = label-room _ _ _ _ _ (sym (c .before .before .before .before .piece-at .ensures) ∙ c .before .before .n .given .1) in (omega (arith, room), (room, omega arith))
 
 pass-enum-known-target : (t : ℕ) → pass-lts.Need-enum-known-target (pass-claims t) (pass-at t) pass.Post
 pass-enum-known-target t c = search needs
 
 pass-jump-requires : (t : ℕ) → pass-lts.Need-jump-requires (pass-claims t) (pass-at t) pass.Post
-pass-jump-requires t c κs = (omega (arith, pointer-back _ _ _ _ _ (sym (c .before .before .before .piece-at .ensures) ∙ c .before .target .given .1)), (omega arith, pointer-in _ _ _ _ _ (sym (c .before .before .before .piece-at .ensures) ∙ c .before .target .given .1)))
+pass-jump-requires t c κs = (omega (arith, pointer-back _ _ _ _ _ (sym (c .before .before .before .piece-at .ensures) ∙ c .before .target .given .1)), (omega arith, (omega arith, pointer-in _ _ _ _ _ (sym (c .before .before .before .piece-at .ensures) ∙ c .before .target .given .1))))
 
 pass-enum-told-2 : (t : ℕ) → pass-lts.Need-enum-told-2 (pass-claims t) (pass-at t) pass.Post
 pass-enum-told-2 t c = search needs
 
 pass-returns-2 : (t : ℕ) → pass-lts.Need-returns-2 (pass-claims t) (pass-at t) pass.Post
-pass-returns-2 t c = seen-root-after _ _ _ _ _ _ (c .before .before .before .piece-at .ensures) (c .before .enum-told .given .1) (c .if1 .left)
+pass-returns-2 t c = seen-root-after _ _ _ _ _ _ _ _ (c .before .before .before .piece-at .ensures) (c .before .enum-told .given .1) (c .if1 .left)
 
 pass-returns-3 : (t : ℕ) → pass-lts.Need-returns-3 (pass-claims t) (pass-at t) pass.Post
-pass-returns-3 t c = c .pass .ensures ∙ sym (seen-label _ _ _ _ _ _ (c .before .before .before .before .piece-at .ensures) _ (c .before .before .n .given .1))
+pass-returns-3 t c = c .pass .ensures ∙ sym (seen-label _ _ _ _ _ _ _ _ (c .before .before .before .before .before .piece-at .ensures) _ (c .before .before .before .n .given .1) _ (c .before .first-label .ensures))
 
 pass-returns-4 : (t : ℕ) → pass-lts.Need-returns-4 (pass-claims t) (pass-at t) pass.Post
-pass-returns-4 t c = c .jump .ensures ∙ sym (seen-pointer _ _ _ _ _ _ (c .before .before .before .before .piece-at .ensures) _ (c .before .before .target .given .1))
+pass-returns-4 t c = c .jump .ensures ∙ sym (seen-pointer _ _ _ _ _ _ _ _ (c .before .before .before .before .piece-at .ensures) _ (c .before .before .target .given .1))
 
 pass-returns-5 : (t : ℕ) → pass-lts.Need-returns-5 (pass-claims t) (pass-at t) pass.Post
-pass-returns-5 t c = seen-bad _ _ _ _ _ _ (c .before .before .piece-at .ensures) (c .enum-told2 .given .1)
+pass-returns-5 t c = seen-bad _ _ _ _ _ _ _ _ (c .before .before .piece-at .ensures) (c .enum-told2 .given .1)
 
 pub +jump+pass-spec : {M : Type 1} → statement M
 +jump+pass-spec =
@@ -139,15 +147,17 @@ pub +jump+pass-spec : {M : Type 1} → statement M
     pass.Post
     (pass-piece-at-requires t)
     (pass-enum-told t)
-    (pass-add-t11 t)
-    (pass-add-t12 t)
-    (pass-returns t)
     (pass-add-t14 t)
+    (pass-add-t15 t)
+    (pass-returns t)
+    (pass-add-t17 t)
     (pass-enum-known-n t)
+    (pass-first-label-requires t)
     (pass-add-pass t)
     (pass-add-pass-2 t)
     (pass-add-pass-3 t)
     (pass-add-pass-4 t)
+    (pass-add-pass-5 t)
     (pass-pass-requires t)
     (pass-enum-known-target t)
     (pass-jump-requires t)

@@ -5,12 +5,12 @@ use native.Mathlib.Nat.{zero-add}
 use mathlib.Core.Path.{sym}
 use lib.ListN.{length, drop}
 use native.Mathlib.Omega.{arith}
-use Rattle.writer.specs.compression.Compression.{starts, labelsIn}
-use Rattle.writer.proofs.Starts.{count-end, count-root, count-on}
-use Rattle.writer.proofs.labels_in.Statement.{statement}
-use Rattle.writer.proofs.labels_in.Tie as tie
-use Rattle.writer.proofs.labels_in.Reads as reads
-use Rattle.writer.proofs.labels_in.Lts as lts
+use Rattle.wire.specs.labels.Counted.{starts, labelsIn}
+use Rattle.wire.proofs.labels.Counted.{count-end, count-root, count-on}
+use Rattle.wire.proofs.labels.labels_in.Statement.{statement}
+use Rattle.wire.proofs.labels.labels_in.Tie as tie
+use Rattle.wire.proofs.labels.labels_in.Reads as reads
+use Rattle.wire.proofs.labels.labels_in.Lts as lts
 
 abbrev Inv-loop : tie.InvT-loop
 Inv-loop name count₀ i₀ count i = (count ≤ i) × (i ≤ length name + 256) × (labelsIn name ≡ count + length (starts i 0 (drop i name)))
