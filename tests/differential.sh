@@ -43,14 +43,29 @@ claims instance lost
 claims host lost
 claims reply set
 out out
-put cached
-put cached with turned away
+table table
+put cached in a table of 1
+put cached in a table of 2 to 63
+put cached in a table of 64
+put cached in a table of 65 to 511
+put cached in a table of 512
+put turned away by a table of 1
+put turned away by a table of 2 to 63
+put turned away by a table of 64
+put turned away by a table of 65 to 511
+put turned away by a table of 512
 put cached with passed over
 put refused 1
 put refused 4
 put refused 5
 put refused 6
-look slot
+put refused 8
+look slot in a table of 1
+look slot in a table of 2 to 63
+look slot in a table of 64
+look slot in a table of 65 to 511
+look slot in a table of 512
+look slot past 99
 look owner of no label
 look owner of 1 label
 look owner of 2 to 126 labels
@@ -58,6 +73,7 @@ look owner of 127 labels
 look none
 look refused 1
 look refused 6
+look refused 8
 slot used
 slot unused
 clear cleared

@@ -30,7 +30,7 @@ enum {
     KURGASHEL_HEADER = 5,    /* opcode or RCODE not zero, or source port not 5353 */
     KURGASHEL_MALFORMED = 6, /* malformed message, TXT or looked-up name */
     KURGASHEL_SETUP = 7,     /* names or data of a set-up or a state break the rules, or a buffer of one has another size */
-    KURGASHEL_CACHE = 8,     /* not 64 entries, not 65,536 bytes of store, or an entry with a length too great */
+    KURGASHEL_CACHE = 8,     /* not 1 to 512 entries, not 1,024 bytes of store for each, or an entry with a length too great */
     KURGASHEL_KEY = 9        /* TXT key empty, or with a byte that no key has */
 };
 
@@ -38,8 +38,8 @@ enum {
 #define KURGASHEL_STATE_BYTES 667    /* a responder's state */
 #define KURGASHEL_SETUP_BYTES 579    /* sizeof (struct kurgashel_setup) */
 #define KURGASHEL_OUT_BYTES 1452     /* the least out buffer; no packet is longer */
-#define KURGASHEL_ENTRIES 64         /* entries of a cache */
-#define KURGASHEL_STORE_BYTES 65536  /* the store of a cache: 1,024 bytes for each entry */
+#define KURGASHEL_MOST_ENTRIES 512   /* the most entries of a cache; the least is 1 */
+#define KURGASHEL_SLOT_BYTES 1024    /* the store of a cache has so many bytes for each entry, no more and no less */
 
 /* ---- the responder */
 
@@ -90,7 +90,8 @@ struct kurgashel_due {
 };
 struct kurgashel_due kurgashel_due(const uint8_t *state, size_t state_bytes);
 
-/* ---- the cache: 64 entries and a store, lent; zeros are an empty cache */
+/* ---- the cache: a table of 1 to 512 entries and a store of 1,024 bytes for each, lent and worked on in place; zeros are an empty cache. A call reads no
+ * more than the entries, bytes and message that it is given, and keeps nothing of them. */
 
 /* An entry; slot i of the store, at 1,024 times i, has 256 bytes for the owner's name and then 768 for the rdata, names uncompressed. It is live while now
  * is before its expiry. */

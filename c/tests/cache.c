@@ -6,8 +6,10 @@
 #define A 1
 #define PTR 12
 #define TXT 16
-static struct kurgashel_entry e[65], kept[65];
-static uint8_t st[65537], old[65537];
+#define MOST KURGASHEL_MOST_ENTRIES
+#define SLOT KURGASHEL_SLOT_BYTES
+static struct kurgashel_entry e[MOST + 1], kept[MOST + 1];
+static uint8_t st[SLOT * (MOST + 1) + 1], old[SLOT * (MOST + 1) + 1];
 static int failed, cases;
 static void expect(int ok, const char *what) { cases++; if (!ok) { failed++; printf("FAILED: %s\n", what); } }
 static void reset(void) { memset(e, 0, sizeof e); memset(st, 0, sizeof st); }
@@ -31,11 +33,56 @@ static struct kurgashel_looked find(uint64_t now, const char *name, size_t len, 
 #define OTHER "\4mask\5local"
 #define LEN 12
 static const uint8_t ip[4] = { 10, 0, 0, 7 }, ip2[4] = { 10, 0, 0, 8 };
-static void put(int i, const char *owner, uint16_t type, const void *rd, size_t len, uint64_t received, uint64_t expiry) {
+static void put(size_t i, const char *owner, uint16_t type, const void *rd, size_t len, uint64_t received, uint64_t expiry) {
     memset(st + 1024 * i, 0, 1024); memcpy(st + 1024 * i, owner, LEN); memcpy(st + 1024 * i + 256, rd, len);
     e[i] = (struct kurgashel_entry){ type, LEN, len, received, expiry };
 }
 static int is(struct kurgashel_taken t, uint8_t refusal, uint32_t turned, uint32_t passed) { return t.refusal == refusal && t.turned_away == turned && t.passed_over == passed; }
+
+// Tables of every kind of size: which are refused, and that the others work to their last slot and no further.
+static void sizes(void) {
+    static const size_t tables[] = { 0, 1, 2, 63, 64, 65, 511, 512, 513 };
+    char what[80];
+#define EACH(ok, said) (snprintf(what, sizeof what, "a table of %zu: %s", k, said), expect(ok, what))
+    for (size_t i = 0; i < sizeof tables / sizeof *tables; i++) {
+        size_t k = tables[i], bytes = SLOT * k;
+        int fits = k >= 1 && k <= MOST;
+        reset(); begin(0x8400); record(1, NAME, LEN, A, 1, 9, ip, 4); keep();
+        struct kurgashel_taken t = kurgashel_cache_take(e, k, st, bytes, 1000, 5353, m, n);
+        struct kurgashel_looked l = kurgashel_cache_look_up(e, k, st, bytes, 1000, (uint8_t *)NAME, LEN, A, 0);
+        if (!fits) { EACH(is(t, 8, 0, 0) && l.refusal == 8 && !l.found && !l.slot && same(), "8, and nothing changes"); continue; }
+        EACH(is(t, 0, 0, 0) && e[0].expiry == 10000 && !l.refusal && l.found && l.slot == 0, "taken and found"); keep();
+        EACH(is(kurgashel_cache_take(e, k, st, bytes - 1, 1000, 5353, m, n), 8, 0, 0) && same(), "a store short by one: 8");
+        EACH(is(kurgashel_cache_take(e, k, st, bytes + 1, 1000, 5353, m, n), 8, 0, 0) && same(), "a store long by one: 8");
+        EACH(kurgashel_cache_look_up(e, k, st, bytes + 1, 1000, (uint8_t *)NAME, LEN, A, 0).refusal == 8, "a lookup in a store long by one: 8");
+        EACH(kurgashel_cache_take(e, k, st, bytes - 1, 999, 5353, m, n).refusal == 1, "a store short by one and an older clock: 1");
+        // all live but the last: it takes the record, and the next is turned away
+        for (size_t j = 0; j < k; j++) put(j, OTHER, A, ip, 4, 900, j + 1 < k ? 99000 : 0);
+        put(k, OTHER, A, ip2, 4, 900, 0);
+        begin(0x8400); record(1, NAME, LEN, A, 1, 9, ip, 4); record(3, NAME, LEN, A, 1, 9, ip2, 4); record(1, NAME, LEN, A, 1, 9, "\3\3\3\3", 4);
+        memcpy(kept, e, sizeof e); memcpy(old, st, sizeof st);
+        EACH(is(kurgashel_cache_take(e, k, st, bytes, 1000, 5353, m, n), 0, 2, 0) && e[k - 1].expiry == 10000 && e[k - 1].rtype == A, "its last entry takes a record, two are turned away");
+        EACH(!memcmp(e, kept, (k - 1) * sizeof *e) && !memcmp(e + k, kept + k, (MOST - k + 1) * sizeof *e), "no other entry changes, nor one past its end");
+        EACH(!memcmp(st, old, SLOT * (k - 1)) && !memcmp(st + bytes, old + bytes, sizeof st - bytes), "no other slot, nor a byte past the store's end");
+        l = kurgashel_cache_look_up(e, k, st, bytes, 1000, (uint8_t *)NAME, LEN, A, k - 1); EACH(!l.refusal && l.found && l.slot == k - 1, "found from the last slot on");
+        l = kurgashel_cache_look_up(e, k, st, bytes, 1000, (uint8_t *)NAME, LEN, A, k); EACH(!l.refusal && !l.found && !l.slot, "from the slot past it on: none");
+        l = kurgashel_cache_look_up(e, k, st, bytes, 1000, (uint8_t *)OTHER, LEN, A, 0); EACH(!l.refusal && l.found == (k > 1) && !l.slot, "the lowest of many");
+        // rule 1 reaches every entry
+        begin(0x8400); record(1, OTHER, LEN, A, 0x8001, 0, ip, 4); int all = 1;
+        for (size_t j = 0; j < k; j++) put(j, OTHER, A, ip, 4, 900, 99000);
+        EACH(is(kurgashel_cache_take(e, k, st, bytes, 2000, 5353, m, n), 0, 0, 0), "a flush is accepted");
+        for (size_t j = 0; j < k; j++) all &= e[j].expiry == 3000 && e[j].received == 900;
+        EACH(all && e[k].expiry == 0, "a flush reaches every entry, and none past the end");
+        e[k - 1].owner = 256; EACH(kurgashel_cache_take(e, k, st, bytes, 2000, 5353, m, n).refusal == 8, "its last entry with a length too great: 8"); e[k - 1].owner = LEN;
+        e[k - 1].received = 2001; EACH(kurgashel_cache_take(e, k, st, bytes, 2000, 5353, m, n).refusal == 1, "its last entry received later: 1");
+    }
+    // refusal 1 looks at every entry of a table of a wrong size too
+    reset(); e[MOST].received = 5; begin(0x8400); record(1, NAME, LEN, A, 1, 9, ip, 4);
+    expect(kurgashel_cache_take(e, MOST + 1, st, SLOT * (MOST + 1), 4, 5353, m, n).refusal == 1, "513 entries, the last received later: 1");
+    expect(kurgashel_cache_take(e, MOST + 1, st, SLOT * (MOST + 1), 5, 5353, m, n).refusal == 8, "513 entries: 8");
+    expect(kurgashel_cache_take(e, 0, st, 0, (1ull << 62) + 1, 5353, m, n).refusal == 1, "no entries and a time above 2^62: 1");
+#undef EACH
+}
 
 int main(void) {
     // the 38 bytes of paper 01's announcement
@@ -105,8 +152,8 @@ int main(void) {
     expect(go(9, 0).refusal == 1 && same(), "before an entry's receive time: 1, before 5");
     e[3].received = 50; keep(); expect(go(49, 5353).refusal == 1 && same(), "of a dead entry too"); e[3].received = 0; keep();
     expect(kurgashel_cache_take(e, 3, st, 65536, 9, 5353, m, n).refusal == 1, "a table of 3 with a later receive time: 1, not 8");
-    expect(kurgashel_cache_take(e, 63, st, 65536, 10, 5353, m, 11).refusal == 8, "63 entries: 8, before 4");
-    expect(kurgashel_cache_take(e, 65, st, 65536, 10, 5353, m, n).refusal == 8, "65 entries: 8");
+    expect(kurgashel_cache_take(e, 63, st, 65536, 10, 5353, m, 11).refusal == 8, "63 entries with the store of 64: 8, before 4");
+    expect(kurgashel_cache_take(e, 65, st, 65536, 10, 5353, m, n).refusal == 8, "65 entries with the store of 64: 8");
     expect(kurgashel_cache_take(e, 0, st, 65536, 10, 5353, m, n).refusal == 8, "no entries: 8");
     expect(kurgashel_cache_take(e, 64, st, 65535, 10, 5353, m, n).refusal == 8, "a store of 65,535 bytes: 8");
     expect(kurgashel_cache_take(e, 64, st, 65537, 10, 5353, m, n).refusal == 8 && same(), "of 65,537: 8");
@@ -117,6 +164,7 @@ int main(void) {
     m[2] |= 8; expect(go(10, 5353).refusal == 5, "an opcode: 5"); m[2] &= ~8; m[3] = 3; expect(go(10, 5353).refusal == 5, "an RCODE: 5"); m[3] = 0;
     n = 13; expect(go(10, 1).refusal == 5, "malformed and another port: 5"); expect(go(10, 5353).refusal == 6, "malformed: 6");
     begin(0x8400); record(1, NAME, LEN, A, 0x8001, 9, ip2, 4); record(3, NAME, LEN, A, 1, 9, ip, 3); expect(go(5000, 5353).refusal == 6 && same(), "a late malformed record: 6, and nothing has changed");
+    sizes();
     printf("%d cases, %d failed\n", cases, failed);
     return failed != 0;
 }

@@ -1,6 +1,7 @@
 #!/usr/bin/env python3
-# Writes the console script of the cache's vectors: `put`, `look`, `slot` and `clear`, each case under a comment that says what it shows (specification,
-# 'The cache', refusals 1, 4, 5, 6 and 8, 'Corner readings'; RFC 6762, 10). Run by make.sh; the expected answers come from the reference program.
+# Writes the console script of the cache's vectors: `put`, `look`, `slot`, `clear` and `table`, each case under a comment that says what it shows
+# (specification, 'The cache', refusals 1, 4, 5, 6 and 8, 'Corner readings'; RFC 6762, 10). Run by make.sh; the expected answers come from the reference
+# program.
 import sys
 
 sys.dont_write_bytecode = True
@@ -38,6 +39,10 @@ def clear():
     print("clear")
 
 
+def table(*sizes):
+    print("table", *sizes)
+
+
 def four(n):
     return bytes([10, 0, n >> 8, n & 255])
 
@@ -66,7 +71,7 @@ def full(now, ttl=120):
 
 # --- form ---------------------------------------------------------------------------------------------------------------
 
-show("before the first put the table and the store are zeros; slots are 0 to 63")
+show("before the first put the table has 64 entries, and it and the store are zeros; slots are 0 to 63")
 slot(0, 63, 64, 65, 18446744073709551615)
 look(0, DESK)
 for line in ("slot", "slot x", "slot 0 0", "clear 0", "clear ", "look", "look 0 00 1", "look 0 00 1 0 0", "look x 00 1 0", "look 0 0 1 0", "look 0 00 x 0", "look 0 00 1 x", "put", "put 0 5353", "put 0 5353 00 0", "put x 5353 -", "put 0 x -", "put 0 5353 0"):
@@ -403,3 +408,170 @@ clear()
 slot(0, 63)
 put(0, response(address()))
 slot(0)
+
+# --- sizes --------------------------------------------------------------------------------------------------------------
+
+SIZES = (1, 2, 63, 64, 65, 511, 512)
+END = 18446744073709551615
+
+
+def many(n, first=0, cls=1, ttl=120):
+    """So many addresses of one owner in one message, with the numbers from `first` on."""
+    owners = [DESK] + [pointer(12)] * (n - 1)
+    return response(*(address(first + i, owner=owner, cls=cls, ttl=ttl) for i, owner in enumerate(owners[:n])))
+
+
+show("tables of 0, 1, 2, 63, 64, 65, 511, 512 and 513 entries: each is filled and turns one away, none and 513 are refused as 8")
+for n in (0, *SIZES, 513):
+    table(n)
+    put(0, many(n))
+    put(0, response(address(1000)))
+    slot(max(n, 1) - 1, n)
+    for start in (max(n, 1) - 1, n, n + 1, END):
+        look(0, DESK, A, start)
+
+show("stores that are a byte too short or too long, a slot too short or too long, empty, or of 64 slots: refused as 8")
+for n in (0, *SIZES, 513):
+    for store in sorted({max(1024 * n - 1, 0), 1024 * n + 1, 1024 * max(n - 1, 0), 1024 * (n + 1), 0, 65536} - {1024 * n}):
+        if store <= 525312:
+            table(n, store)
+            put(0, ANNOUNCED)
+            look(0, HOST)
+
+show("the sizes written out are those that are meant where STORE is missing")
+for n in SIZES:
+    table(n, 1024 * n)
+    put(0, ANNOUNCED)
+    look(0, HOST)
+
+show("the order of refusals: 1 before 8 before 4, 5 and 6; of 1 only the time above 2^62 is left where the table is empty")
+for sizes in ((0,), (513,), (1, 1023), (64, 65537)):
+    table(*sizes)
+    for now in (0, LATEST, LATEST + 1):
+        put(now, b"\0", 1)
+        put(now, response(b"\xc0\x0c"), 1)
+        put(now, response(b"\xc0\x0c", flags=0x8C00))
+        put(now, response(b"\xc0\x0c"))
+        look(now, b"")
+        look(now, DESK)
+
+show("a full table of 512 entries, all live: new ones are turned away and counted, the last entry is refreshed, a goodbye reaches it")
+table(512)
+put(0, many(512))
+slot(0, 64, 511)
+put(10, many(3, first=511))
+slot(511)
+put(20, response(address(511, ttl=0), address(512)))
+slot(511)
+for start in (0, 64, 65, 510, 511, 512, 513, 575, END):
+    look(20, DESK, A, start)
+put(1020, response(address(512), address(513)))
+slot(511)
+show("a flush of all 512, but for the one that was received within a second; then the lowest that is not live takes a record")
+put(1500, response(address(600, cls=FLUSH)))
+slot(0, 510, 511)
+put(2500, response(address(600)))
+slot(0, 1)
+look(2500, DESK, A, 1)
+look(2500, DESK, A, 512)
+
+show("513 records in one message, in tables of 512 and of 511 entries")
+for n in (512, 511):
+    table(n)
+    put(0, many(513))
+    slot(n - 1)
+
+show("the lowest entry that is not live in a table of 512: below and above 64 and 256, then none")
+table(512)
+put(0, many(512))
+for k in (3, 64, 300, 511):
+    put(5, response(address(k, ttl=0)))
+put(1005, many(5, first=600))
+slot(3, 64, 300, 511)
+
+show("an equal entry that is the last of the table is refreshed, not taken again; the flush reaches it, and with it the first")
+for n in (2, 65, 512):
+    table(n)
+    put(0, many(n))
+    put(500, response(address(n - 1, ttl=9)))
+    slot(n - 1)
+    put(1501, response(address(1000, cls=FLUSH)))
+    slot(0, n - 1)
+
+show("times: before the receive time of the last entry alone")
+for n in SIZES:
+    table(n)
+    if n > 1:
+        put(0, many(n - 1))
+    put(10, response(address(n - 1)))
+    for now in (9, 10):
+        put(now, response())
+        look(now, DESK)
+    put(9, b"\0")
+    look(9, b"")
+
+show("lookups of the last slot and past it, for a name and a type that only the last entry has")
+for n in SIZES:
+    table(n)
+    if n > 1:
+        put(0, many(n - 1))
+    put(0, response(record(HOST, TXT, b"\1a")))
+    for start in (0, n - 1, n, n + 1, 64, 512, 4294967296, END):
+        look(0, HOST, TXT, start)
+
+show("clear keeps the sizes: two entries, of which a third is turned away; sizes that are refused stay refused")
+table(2)
+put(7, many(2))
+clear()
+slot(0, 1, 2)
+put(0, many(3))
+for sizes in ((2, 100), (0,), (513,)):
+    table(*sizes)
+    clear()
+    put(0, response())
+    look(0, DESK)
+    slot(0)
+
+show("table makes zeros, of the same sizes too: a time before the last is accepted; an entry of a larger table is not there again")
+table(3)
+put(LATEST, many(3))
+table(3)
+slot(0, 2)
+put(5, many(3))
+table(1)
+slot(0)
+table(3)
+slot(0, 1, 2)
+put(0, response())
+
+show("slots at and past the table's length, and where the store ends before the slot does")
+for sizes in ((3, 3071), (3, 3072), (3, 3073), (3, 2048), (3, 2047), (3, 1024), (3, 1023), (3, 0), (3, 525312), (1, 525312), (0, 525312), (513, 525311)):
+    table(*sizes)
+    slot(0, 1, 2, 3, 511, 512, 513)
+table(513)
+slot(0, 512, 513, 1024, END)
+table(512)
+slot(511, 512)
+
+show("numbers of table: 0 to 513 and 0 to 525,312, leading zeros or not; any others are bad lines, and change nothing")
+table(2)
+put(0, many(2))
+for line in ("table", "table ", "table  1", "table -", "table -1", "table +1", "table x", "table 1x", "table 1.", "table 0x1", "table 514", "table 0514",
+             "table 1 525313", "table 0 525313", "table 514 0", "table 1 ", "table 1 -", "table 1 x", "table 1 1024 ", "table 1 1024 0", "table 65600",
+             "table 4294967360", "table 64 4295032832", "table 18446744073709551615", "table 18446744073709551616", "table 64 18446744073709551616",
+             "table 1 18446744073709551615", "TABLE 1", "Table 1", "tables 1", "tabl 1", "table\t1", "table 1\r"):
+    print(line)
+    slot(1)
+for line in ("table 000000000000000000000000064", "table 0064 0065536", "table 513", "table 513 525312", "table 0 0", "table 0 525312", "table 00"):
+    print(line)
+    put(0, response())
+    slot(0)
+
+show("the calls on the responder, the reader and the TXT pairs leave the sizes as they are")
+table(1)
+print("start 0 0 626f6f7468 5f766f696365 5f746370 646f636b 6c6f63616c 4000 00 0a000007 -")
+print("recv 0 5353 20", text(many(2)))
+print("read", text(many(2)))
+put(0, many(2))
+slot(0, 1)
+table(64)

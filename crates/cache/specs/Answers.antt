@@ -1,4 +1,4 @@
--- What `take` answers (specification, 'The cache'), and the table after it. Assumes nothing: these are definitions.
+-- What `take` answers (specification, 'The cache'). Assumes nothing: these are definitions.
 use Prim.Native.Nat.{ℕ}
 use mathlib.Core.List.{List}
 use mathlib.Core.Bool.{cond}
@@ -7,7 +7,6 @@ use Rattle.cache.specs.declared.entries.Entry.{Entry}
 use Rattle.cache.specs.entries.Cache.{Cache, takeRefusal, takeIn}
 use Rattle.cache.specs.declared.Taken.{Taken}
 use Rattle.cache.specs.declared.Taken.the-variants as t
-use Rattle.cache.specs.declared.AfterTake.{AfterTake}
 
 -- how many were turned away and how many passed over; or "A refusal returns the number alone"
 abbrev pub takenWith : ℕ → Cache → Taken
@@ -20,11 +19,3 @@ takenNumber (t.Accepted c) = 0
 
 unfoldable pub takenOf : ℕ → List Entry → List ℕ → ℕ → List ℕ → Taken
 takenOf now es store port p = takenWith (takeRefusal now es store port p) (takeIn now es store port p)
-
--- what a refused call gives: the number alone, and the table as it was
-abbrev pub refusedWith : ℕ → List Entry → AfterTake
-refusedWith number es = record { answer = t.Refused number; entries = es }
-
--- what `take` gives: its answer, and the table after it
-unfoldable pub afterTake : ℕ → List Entry → List ℕ → ℕ → List ℕ → AfterTake
-afterTake now es store port p = record { answer = takenOf now es store port p; entries = takeIn now es store port p .entries }

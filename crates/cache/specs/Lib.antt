@@ -1,5 +1,5 @@
-pub mod Kept
 pub mod Answers
 pub mod entries
+pub mod records
 pub mod lookup
 pub mod laws

@@ -4,7 +4,7 @@ ghost use mathlib.Core.Path.{_≡_};
 ghost use denote.Ref.{ptr};
 ghost use Prim.Native.Nat.{_*_};
 ghost use Rattle.wire.specs.rdata.Answers.{startIn};
-ghost use Rattle.cache.specs.entries.Entries.{isLive, slotOf, isOf, liveOf, holds, soon, flushed, heardAhead, tooLong};
+ghost use Rattle.cache.specs.entries.Entries.{isLive, slotOf, isOf, liveOf, soon, heardAhead, tooLong};
 
 // "type, lengths, received, expiry"; the times are in milliseconds. The length of rdata has four bytes, so that the entry has no padding and its values are
 // all its bytes.
@@ -70,28 +70,6 @@ pub fn is_live_of(e: Entry, i: usize, store: &[u8], time: u64, name: &[u8], rtyp
     is_of(e, i, store, name, rtype)
 }
 
-// Whether the entry in slot i is live and holds a record: of its name and type, and with equal rdata.
-pub fn is_holding(
-    e: Entry,
-    i: usize,
-    store: &[u8],
-    time: u64,
-    name: &[u8],
-    rtype: u16,
-    content: &[u8],
-) -> bool
-    ensures { λ r. ⌜ r ≡ holds time (now (store .entry)) (now (name .entry)) rtype (now (content .entry)) i e ⌝ }
-{
-    let len = e.rdata as usize;
-    if len != content.len() {
-        return false;
-    }
-    if !is_live_of(e, i, store, time, name, rtype) {
-        return false;
-    }
-    wire::expansion::same_bytes(wire::rdata::part(slot_of(store, i), 256, len), content)
-}
-
 // The lesser of the expiry and now plus 1,000.
 pub fn to_expire(e: Entry, time: u64) -> Entry
     ensures { λ r. ⌜ r ≡ soon time e ⌝ }
@@ -109,22 +87,6 @@ pub fn to_expire(e: Entry, time: u64) -> Entry
         received: e.received,
         expiry: time + 1000,
     }
-}
-
-// Rule 1 on the entry in slot i.
-pub fn flush_entry(e: Entry, i: usize, store: &[u8], time: u64, name: &[u8], rtype: u16) -> Entry
-    ensures { λ r. ⌜ r ≡ flushed time (now (store .entry)) (now (name .entry)) rtype i e ⌝ }
-{
-    if time <= e.received {
-        return e;
-    }
-    if time - e.received <= 1000 {
-        return e;
-    }
-    if !is_live_of(e, i, store, time, name, rtype) {
-        return e;
-    }
-    to_expire(e, time)
 }
 
 // Whether an entry was received after now.

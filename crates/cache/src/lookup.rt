@@ -1,19 +1,16 @@
-// A lookup in the cache on a table by value, and the tests of a table that both calls make first (specification, 'The cache'). The byte store is lent.
+// The tests that both calls of the cache make first, and what a lookup answers (specification, 'The cache').
 ghost use mathlib.Core.Path.{_≡_};
 ghost use lib.ListN.{length};
-ghost use Rattle.wire.specs.Lists.{some};
-ghost use Rattle.cache.specs.entries.Entries.{matches, heardAhead, tooLong};
-ghost use Rattle.cache.specs.entries.Tables.{lowest};
-ghost use Rattle.cache.specs.entries.Cache.{entriesRefusal, lookRefusal};
-ghost use Rattle.cache.specs.lookup.Answers.{metAt, lookedRefusal, lookedNumber, lookedOf};
-use crate::entries::Entry;
-use crate::entries::Slot;
+ghost use Rattle.cache.specs.entries.Cache.{isSize, isStoreOf};
+ghost use Rattle.cache.specs.lookup.Answers.{metAt, lookedRefusal};
 
 // The latest time: 2^62 ms.
 pub const LATEST: u64 = 4611686018427387904;
 
-// The bytes of a store of 64 slots.
-pub const STORE: usize = 65536;
+// The most entries of a table, and the bytes of a slot.
+pub const MOST_ENTRIES: usize = 512;
+
+pub const SLOT: usize = 1024;
 
 // What a lookup found: a slot, and of the name how many labels it has and how long the first is; the same holds of the owner in the slot.
 pub struct Met {
@@ -29,75 +26,34 @@ pub enum Looked {
     Nothing,
 }
 
-// Whether an entry was received after now.
-fn any_ahead(es: [Entry; 64], time: u64) -> bool
-    ensures { λ r. ⌜ r ≡ some (heardAhead time) es ⌝ }
+// Whether a table may have n entries.
+pub fn is_size(n: usize) -> bool
+    ensures { λ r. ⌜ r ≡ isSize n ⌝ }
 {
-    let mut i = 0;
-    while i < 64 {
-        let e = es[i];
-        if crate::entries::is_ahead(e, time) {
-            return true;
-        }
-        i += 1;
+    if n < 1 {
+        return false;
     }
-    false
+    n <= MOST_ENTRIES
 }
 
-// Whether a length of an entry is over what a slot has room for.
-fn any_too_long(es: [Entry; 64]) -> bool
-    ensures { λ r. ⌜ (r ≡ some tooLong es) × (length es ≡ 64) ⌝ }
+// Whether a store of so many bytes is that of a table of n entries. The size is tested before it is multiplied.
+pub fn is_store_of(n: usize, bytes: usize) -> bool
+    ensures { λ r. ⌜ r ≡ isStoreOf n bytes ⌝ }
 {
-    let mut i = 0;
-    while i < 64 {
-        let e = es[i];
-        if crate::entries::is_too_long(e) {
-            return true;
-        }
-        i += 1;
+    if !is_size(n) {
+        return false;
     }
-    false
+    bytes == SLOT * n
 }
 
-// The refusals 1 and 8 that a table's entries give, or 0.
-pub fn entries_refusal(es: [Entry; 64], time: u64) -> u8
-    ensures { λ r. ⌜ r ≡ entriesRefusal time es ⌝ }
-{
-    if LATEST < time {
-        return wire::refusals::TIME;
-    }
-    if any_ahead(es, time) {
-        return wire::refusals::TIME;
-    }
-    if any_too_long(es) {
-        return wire::refusals::TABLE;
-    }
-    0
-}
-
-// The lowest live match from a slot on.
-fn find(es: [Entry; 64], store: &[u8], time: u64, name: &[u8], rtype: u16, from: usize) -> Slot
-    ensures { λ r. ⌜ r ≡ lowest (matches time (now (store .entry)) (now (name .entry)) rtype from) 0 es ⌝ }
-{
-    let mut i = from;
-    while i < 64 {
-        let e = es[i];
-        if crate::entries::is_live_of(e, i, store, time, name, rtype) {
-            return Slot::At(i);
-        }
-        i += 1;
-    }
-    Slot::Nowhere
-}
-
-// The number of a lookup's refusal, or 0, where `entries` is that of its table.
-pub fn look_refusal(entries: u8, store: &[u8], name: &[u8]) -> u8
-    ensures { λ r. ⌜ r ≡ lookedRefusal entries (now (store .entry)) (now (name .entry)) ⌝ }
+// The number of a lookup's refusal, or 0, where `entries` is that of its table of n entries.
+pub fn look_refusal(entries: u8, n: usize, store: &[u8], name: &[u8]) -> u8
+    ensures { λ r. ⌜ r ≡ lookedRefusal entries n (now (store .entry)) (now (name .entry)) ⌝ }
 {
     if entries != 0 {
         return entries;
     }
-    if store.len() != STORE {
+    if !is_store_of(n, store.len()) {
         return wire::refusals::TABLE;
     }
     if !wire::names::is_name(name) {
@@ -115,27 +71,5 @@ pub fn met_at(slot: usize, name: &[u8]) -> Met
         slot,
         labels: span.labels,
         first: span.first,
-    }
-}
-
-// Looks a name and a type up: the lowest live match from a slot on.
-pub fn look_by_value(
-    es: [Entry; 64],
-    store: &[u8],
-    time: u64,
-    name: &[u8],
-    rtype: u16,
-    from: usize,
-) -> Looked
-    ensures answer { λ r. ⌜ r ≡ lookedOf time es (now (store .entry)) (now (name .entry)) rtype from ⌝ }
-    ensures number { λ r. ⌜ lookedNumber r ≡ lookRefusal time es (now (store .entry)) (now (name .entry)) ⌝ }
-{
-    let refusal = look_refusal(entries_refusal(es, time), store, name);
-    if refusal != 0 {
-        return Looked::Refused(refusal);
-    }
-    match find(es, store, time, name, rtype, from) {
-        Slot::At(i) => Looked::Found(met_at(i, name)),
-        Slot::Nowhere => Looked::Nothing,
     }
 }

@@ -81,19 +81,19 @@ module _ {M : Type 1} (𝓤 : URA M) (H : Heap 𝓤) (A : Atoms 𝓤) (at-mem : 
     refusal-of r = exE 𝓤 _ (λ ws. snd∗ 𝓤 (sem 𝓤 H A (lasts table-refusal.ended (κ, tt) (at b o δ ys, (time, tt)) ws)) (fact 𝓤 (r ≡ entriesRefusal time ys)))
 
   module _ (W : Given 𝓤 H A) (κ₁ κ₂ : Lft) (q₁ q₂ : Share) (b₁ o₁ : ℕ) (γ₁ : GName) (bs : List ℕ) (b₂ o₂ : ℕ) (γ₂ : GName) (ns : List ℕ) where
-    module _ (r : ℕ) (gr : r < 2 ^ 8) where
+    module _ (r n : ℕ) (gr : r < 2 ^ 8) (gn : n < 2 ^ 64) where
       abbrev to-look : LookRefusal .Ghost
-      to-look = (((κ₁, (κ₂, tt)), (q₁, (q₂, tt)), tt, (r, (bytes-at b₁ o₁ γ₁ bs, (bytes-at b₂ o₂ γ₂ ns, tt))), (vint w8 r ∷ [], (sliceVal (b₁, o₁) (length bs) ∷ [], (sliceVal (b₂, o₂) (length ns) ∷ [], tt)))), tt)
+      to-look = (((κ₁, (κ₂, tt)), (q₁, (q₂, tt)), tt, (r, (n, (bytes-at b₁ o₁ γ₁ bs, (bytes-at b₂ o₂ γ₂ ns, tt)))), (vint w8 r ∷ [], (vint w64 n ∷ [], (sliceVal (b₁, o₁) (length bs) ∷ [], (sliceVal (b₂, o₂) (length ns) ∷ [], tt))))), tt)
 
       goes-look : ent 𝓤 (sep 𝓤 (sep 𝓤 (sem 𝓤 H A (Bytes κ₁ b₁ o₁ γ₁ bs)) (sem 𝓤 H A (Bytes κ₂ b₂ o₂ γ₂ ns))) (sep 𝓤 (A .lft κ₁ q₁) (A .lft κ₂ q₂))) (LookRefusal .pre to-look)
       goes-look =
           qed W ((‵ (Bytes κ₁ b₁ o₁ γ₁ bs) ⊛ ‵ (Bytes κ₂ b₂ o₂ γ₂ ns)) ∷ (‵ (flft κ₁ q₁) ⊛ ‵ (flft κ₂ q₂)) ∷ []) ∵ split ! $ move ! (2 ∷ []) $ split ! $
           -- [the tokens; what the slices own]
           nothing ! $ move ! (2 ∷ 0 ∷ []) $ join ! $ move ! (1 ∷ 0 ∷ []) $ join ! $
-          nothing ! $ move ! (3 ∷ 0 ∷ []) $ fjoin ! $ move ! (2 ∷ 0 ∷ []) $ fjoin ! $ owned ! u8 (Is u8) (uint-makes 𝓤 H A W w8) r _ (refl, gr) $ fjoin ! $ move ! (1 ∷ 0 ∷ []) $ join ! $ nothing ! $ move ! (1 ∷ 0 ∷ []) $ done !
+          nothing ! $ move ! (3 ∷ 0 ∷ []) $ fjoin ! $ move ! (2 ∷ 0 ∷ []) $ fjoin ! $ owned ! usize (Is usize) (uint-makes 𝓤 H A W w64) n _ (refl, gn) $ fjoin ! $ owned ! u8 (Is u8) (uint-makes 𝓤 H A W w8) r _ (refl, gr) $ fjoin ! $ move ! (1 ∷ 0 ∷ []) $ join ! $ nothing ! $ move ! (1 ∷ 0 ∷ []) $ done !
 
-      look-of : (y : ℕ) → ent 𝓤 (ensured 𝓤 H A look-refusal.ended (look-refusal.clauses 𝓤 H A at-mem run) (κ₁, (κ₂, tt)) (r, (bytes-at b₁ o₁ γ₁ bs, (bytes-at b₂ o₂ γ₂ ns, tt))) tt y) (fact 𝓤 (y ≡ lookedRefusal r bs ns))
-      look-of y = exE 𝓤 _ (λ ws. snd∗ 𝓤 (sem 𝓤 H A (lasts look-refusal.ended (κ₁, (κ₂, tt)) (r, (bytes-at b₁ o₁ γ₁ bs, (bytes-at b₂ o₂ γ₂ ns, tt))) ws)) (fact 𝓤 (y ≡ lookedRefusal r bs ns)))
+      look-of : (y : ℕ) → ent 𝓤 (ensured 𝓤 H A look-refusal.ended (look-refusal.clauses 𝓤 H A at-mem run) (κ₁, (κ₂, tt)) (r, (n, (bytes-at b₁ o₁ γ₁ bs, (bytes-at b₂ o₂ γ₂ ns, tt)))) tt y) (fact 𝓤 (y ≡ lookedRefusal r n bs ns))
+      look-of y = exE 𝓤 _ (λ ws. snd∗ 𝓤 (sem 𝓤 H A (lasts look-refusal.ended (κ₁, (κ₂, tt)) (r, (n, (bytes-at b₁ o₁ γ₁ bs, (bytes-at b₂ o₂ γ₂ ns, tt)))) ws)) (fact 𝓤 (y ≡ lookedRefusal r n bs ns)))
 
     module _ (e : Entry) (v : Val) (e-is : Is R e (v ∷ [])) (i time rtype : ℕ) (gi : i < 2 ^ 64) (gt : time < 2 ^ 64) (gr : rtype < 2 ^ 16) where
       abbrev to-live : IsLiveOf .Ghost
@@ -149,18 +149,18 @@ module _ {M : Type 1} {𝓤 : URA M} {H : Heap 𝓤} {A : Atoms 𝓤} {K : Type 
 
   -- The two slices' tokens and what they own stand at the head. The operands are read with one entry less in front: the callee's `pre`, and what the name and the store own.
   module _ (κ₁ κ₂ : Lft) (q₁ q₂ : Share) (b₁ o₁ : ℕ) (γ₁ : GName) (bs : List ℕ) (b₂ o₂ : ℕ) (γ₂ : GName) (ns : List ℕ) where
-    pub asks-look-refusal : K → FmC 𝓤 H (W .laws) C → (at-mem : Memory → SProp 𝓤) (run : Routine → Fun 𝓤) → Triple 𝓤 (C #look-refusal) (LookRefusal 𝓤 H A at-mem run) → {rest : Body} (r : ℕ) (gr : r < 2 ^ 8)
-        → Opds K W (raw (LookRefusal 𝓤 H A at-mem run .pre (to-look 𝓤 H A at-mem run W κ₁ κ₂ q₁ q₂ b₁ o₁ γ₁ bs b₂ o₂ γ₂ ns r gr)) ∷ ‵ (Bytes κ₂ b₂ o₂ γ₂ ns) ∷ ‵ (Bytes κ₁ b₁ o₁ γ₁ bs) ∷ Γ) E xs (vint w8 r ∷ sliceVal (b₁, o₁) (length bs) ∷ sliceVal (b₂, o₂) (length ns) ∷ [])
-        → Step K W (‵ (flft κ₁ q₁) ∷ ‵ (Bytes κ₁ b₁ o₁ γ₁ bs) ∷ ‵ (flft κ₂ q₂) ∷ ‵ (Bytes κ₂ b₂ o₂ γ₂ ns) ∷ Γ) (lands C Λ E d (vint w8 (lookedRefusal r bs ns)) rest p)
+    pub asks-look-refusal : K → FmC 𝓤 H (W .laws) C → (at-mem : Memory → SProp 𝓤) (run : Routine → Fun 𝓤) → Triple 𝓤 (C #look-refusal) (LookRefusal 𝓤 H A at-mem run) → {rest : Body} (r n : ℕ) (gr : r < 2 ^ 8) (gn : n < 2 ^ 64)
+        → Opds K W (raw (LookRefusal 𝓤 H A at-mem run .pre (to-look 𝓤 H A at-mem run W κ₁ κ₂ q₁ q₂ b₁ o₁ γ₁ bs b₂ o₂ γ₂ ns r n gr gn)) ∷ ‵ (Bytes κ₂ b₂ o₂ γ₂ ns) ∷ ‵ (Bytes κ₁ b₁ o₁ γ₁ bs) ∷ Γ) E xs (vint w8 r ∷ vint w64 n ∷ sliceVal (b₁, o₁) (length bs) ∷ sliceVal (b₂, o₂) (length ns) ∷ [])
+        → Step K W (‵ (flft κ₁ q₁) ∷ ‵ (Bytes κ₁ b₁ o₁ γ₁ bs) ∷ ‵ (flft κ₂ q₂) ∷ ‵ (Bytes κ₂ b₂ o₂ γ₂ ns) ∷ Γ) (lands C Λ E d (vint w8 (lookedRefusal r n bs ns)) rest p)
         (‵ (flft κ₁ q₁) ∷ ‵ (Bytes κ₁ b₁ o₁ γ₁ bs) ∷ ‵ (flft κ₂ q₂) ∷ ‵ (Bytes κ₂ b₂ o₂ γ₂ ns) ∷ Γ) (runs C Λ E (seq (call #look-refusal xs d) rest) p)
-    asks-look-refusal t fm at-mem run known {rest} r gr opds = step (λ k.
+    asks-look-refusal t fm at-mem run known {rest} r n gr gn opds = step (λ k.
         move t (1 ∷ []) $ use1 W (‵ (Bytes κ₁ b₁ o₁ γ₁ bs) ⊛ ‵ (Bytes κ₁ b₁ o₁ γ₁ bs)) (shr-slice-copy 𝓤 H A W (named 0) κ₁ u8 .twice (bytes-at b₁ o₁ γ₁ bs) _) $ split t $
         move t (4 ∷ []) $ use1 W (‵ (Bytes κ₂ b₂ o₂ γ₂ ns) ⊛ ‵ (Bytes κ₂ b₂ o₂ γ₂ ns)) (shr-slice-copy 𝓤 H A W (named 0) κ₂ u8 .twice (bytes-at b₂ o₂ γ₂ ns) _) $ split t $
         move t (4 ∷ 5 ∷ []) $ join t $ move t (3 ∷ 1 ∷ []) $ join t $
-        use2 W (raw (LookRefusal 𝓤 H A at-mem run .pre (to-look 𝓤 H A at-mem run W κ₁ κ₂ q₁ q₂ b₁ o₁ γ₁ bs b₂ o₂ γ₂ ns r gr))) (goes-look 𝓤 H A at-mem run W κ₁ κ₂ q₁ q₂ b₁ o₁ γ₁ bs b₂ o₂ γ₂ ns r gr) $
-        calls-at t fm (LookRefusal 𝓤 H A at-mem run) known (to-look 𝓤 H A at-mem run W κ₁ κ₂ q₁ q₂ b₁ o₁ γ₁ bs b₂ o₂ γ₂ ns r gr) opds (λ w.
-        use1 W (later (some (λ (y : ℕ). ((‵ (flft κ₁ q₁) ⊛ ‵ (flft κ₂ q₂) ⊛ ‵ ftrue) ⊛ ‵ (u8 .own y (w ∷ []))) ⊛ raw (ensured 𝓤 H A look-refusal.ended (look-refusal.clauses 𝓤 H A at-mem run) (κ₁, (κ₂, tt)) (r, (bytes-at b₁ o₁ γ₁ bs, (bytes-at b₂ o₂ γ₂ ns, tt))) tt y)))) (id⊢ 𝓤 _) $ await t tt $ pick t (λ y.
-        split t $ move t (1 ∷ []) $ use1 W (raw (fact 𝓤 (y ≡ lookedRefusal r bs ns))) (look-of 𝓤 H A at-mem run W κ₁ κ₂ q₁ q₂ b₁ o₁ γ₁ bs b₂ o₂ γ₂ ns r gr y) $ heard t (y ≡ lookedRefusal r bs ns) (λ e.
+        use2 W (raw (LookRefusal 𝓤 H A at-mem run .pre (to-look 𝓤 H A at-mem run W κ₁ κ₂ q₁ q₂ b₁ o₁ γ₁ bs b₂ o₂ γ₂ ns r n gr gn))) (goes-look 𝓤 H A at-mem run W κ₁ κ₂ q₁ q₂ b₁ o₁ γ₁ bs b₂ o₂ γ₂ ns r n gr gn) $
+        calls-at t fm (LookRefusal 𝓤 H A at-mem run) known (to-look 𝓤 H A at-mem run W κ₁ κ₂ q₁ q₂ b₁ o₁ γ₁ bs b₂ o₂ γ₂ ns r n gr gn) opds (λ w.
+        use1 W (later (some (λ (y : ℕ). ((‵ (flft κ₁ q₁) ⊛ ‵ (flft κ₂ q₂) ⊛ ‵ ftrue) ⊛ ‵ (u8 .own y (w ∷ []))) ⊛ raw (ensured 𝓤 H A look-refusal.ended (look-refusal.clauses 𝓤 H A at-mem run) (κ₁, (κ₂, tt)) (r, (n, (bytes-at b₁ o₁ γ₁ bs, (bytes-at b₂ o₂ γ₂ ns, tt)))) tt y)))) (id⊢ 𝓤 _) $ await t tt $ pick t (λ y.
+        split t $ move t (1 ∷ []) $ use1 W (raw (fact 𝓤 (y ≡ lookedRefusal r n bs ns))) (look-of 𝓤 H A at-mem run W κ₁ κ₂ q₁ q₂ b₁ o₁ γ₁ bs b₂ o₂ γ₂ ns r n gr gn y) $ heard t (y ≡ lookedRefusal r n bs ns) (λ e.
         split t $ move t (1 ∷ []) $ peeks t u8 (Is u8) (shows 𝓤 H A u8) y (w ∷ []) (λ is. drop t $ split t $ move t (1 ∷ []) $ split t $
         -- [the name's token; true; the store's; what the name owns; what the store owns; …]
         move t (2 ∷ 4 ∷ 0 ∷ 3 ∷ []) $ move t (4 ∷ []) $ drop t $

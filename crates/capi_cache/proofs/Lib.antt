@@ -1,11 +1,15 @@
--- Laws that belong to no one function: calls of the thin functions as steps of a walk, and the lists and numbers that the walks rest on.
+-- Laws that belong to no one function: calls as steps of a walk, and the lists and numbers that the walks rest on.
+mod Lent
 mod Calls
-mod ByValue
-mod CallsTable
 mod Mixed
 mod Scan
 mod Plain
 mod Looking
-mod Taking
 mod CallsBytes
 mod CallsFound
+mod CallsRules
+mod CallsTaking
+mod Changes
+mod Flushing
+mod Moving
+mod Taking

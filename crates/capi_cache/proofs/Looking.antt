@@ -21,8 +21,8 @@ use Rattle.capi_cache.specs.Numbers.{lookedNumbers, refusedLook, foundLo
 use Rattle.capi_cache.proofs.Scan.{entries-fits}
 
 -- the number fits a byte
-pub refusal-fits : (now : ℕ) (es : List Entry) (store name : List ℕ) → lookedRefusal (entriesRefusal now es) store name < 2 ^ 8
-refusal-fits now es store name = go (entriesRefusal now es) (entries-fits now es) (eqb (entriesRefusal now es) 0) (badStore store) (badName name)
+pub refusal-fits : (now : ℕ) (es : List Entry) (store name : List ℕ) → lookedRefusal (entriesRefusal now es) (length es) store name < 2 ^ 8
+refusal-fits now es store name = go (entriesRefusal now es) (entries-fits now es) (eqb (entriesRefusal now es) 0) (badStore es store) (badName name)
   where
     go : (n : ℕ) → n < 2 ^ 8 → (c a b : Bool) → cond c (cond a 8 (cond b 6 0)) n < 2 ^ 8
     go n h true true b = omega arith
@@ -32,19 +32,19 @@ refusal-fits now es store name = go (entriesRefusal now es) (entries-fits now es
 
 module _ (now : ℕ) (es : List Entry) (store name : List ℕ) (rtype from : ℕ) where
   -- a lookup's refusal, from that of its table
-  number : lookedRefusal (entriesRefusal now es) store name ≡ lookRefusal now es store name
+  number : lookedRefusal (entriesRefusal now es) (length es) store name ≡ lookRefusal now es store name
   unfolding lookRefusal
-  number = sym (table-first now es (lookTests store name))
+  number = sym (table-first now es (lookTests es store name))
 
-  pub is-refused : (lookedRefusal (entriesRefusal now es) store name ≡ 0 → ⊥) → refusedLook (lookedRefusal (entriesRefusal now es) store name) ≡ lookedNumbers (lookedOf now es store name rtype from)
+  pub is-refused : (lookedRefusal (entriesRefusal now es) (length es) store name ≡ 0 → ⊥) → refusedLook (lookedRefusal (entriesRefusal now es) (length es) store name) ≡ lookedNumbers (lookedOf now es store name rtype from)
   unfolding lookedOf
-  is-refused z = go (lookedRefusal (entriesRefusal now es) store name) z (lookIn now es store name rtype from) ∙ ap (λ (n : ℕ). lookedNumbers (lookedWith name n (lookIn now es store name rtype from))) number
+  is-refused z = go (lookedRefusal (entriesRefusal now es) (length es) store name) z (lookIn now es store name rtype from) ∙ ap (λ (n : ℕ). lookedNumbers (lookedWith name n (lookIn now es store name rtype from))) number
     where
       go : (n : ℕ) → (n ≡ 0 → ⊥) → (s : Slot) → refusedLook n ≡ lookedNumbers (lookedWith name n s)
       go n z (At i) = sym (simp (ne-eqb n 0 z))
       go n z Nowhere = sym (simp (ne-eqb n 0 z))
 
-  module _ (z : lookedRefusal (entriesRefusal now es) store name ≡ 0) where
+  module _ (z : lookedRefusal (entriesRefusal now es) (length es) store name ≡ 0) where
     answer : (s : Slot) → s ≡ lookIn now es store name rtype from → lookedNumbers (lookedWith name 0 s) ≡ lookedNumbers (lookedOf now es store name rtype from)
     unfolding lookedOf
     answer s h = ap (λ (x : Slot). lookedNumbers (lookedWith name 0 x)) h ∙ ap (λ (n : ℕ). lookedNumbers (lookedWith name n (lookIn now es store name rtype from))) (sym z ∙ number)

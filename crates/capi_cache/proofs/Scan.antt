@@ -1,15 +1,17 @@
 -- The refusal of a table entry by entry: after i entries, and at the end. Assumes nothing.
-use mathlib.Core.Path.{_≡_, refl, sym, ap, _∙_}
+use mathlib.Core.Path.{_≡_, refl, sym, ap, subst, _∙_}
 use mathlib.Core.List.{List, [], _∷_}
 use mathlib.Core.Bool.{Bool, true, false, cond, not, _||_}
 use Prim.Native.Nat.{ℕ, _+_, _<_, _≤_, _^_}
 use native.Mathlib.Omega.{arith}
 use lib.ListN.{length, getD, drop, drop-of-length-le}
-use lib.Dec.{ltb, eqb}
-use borrow.Author.Tests.{lt-ltb, le-ltb, eq-eqb, ne-eqb, eqb-true}
+use lib.Dec.{T, ltb, eqb}
+use borrow.Author.Tests.{lt-ltb, le-ltb, eq-eqb, ne-eqb}
+use mir.Syntax.{w8, w64, tyInt, tyBool}
+use mir.Val.{Val, WT, vint, vbool, hasTy}
 use Rattle.cache.specs.entries.Entries.{blank, heardAhead, tooLong}
 use Rattle.wire.specs.Lists.{some}
-use Rattle.cache.specs.entries.Cache.{badTime, badTable, entriesRefusal}
+use Rattle.cache.specs.entries.Cache.{isSize, badTime, badTable, entriesRefusal}
 use Rattle.cache.specs.declared.entries.Entry.{Entry}
 use Rattle.cache.proofs.entries.Searches.{at-slot}
 use Rattle.capi_cache.specs.Refusals.{lateness, combined, worse, ended}
@@ -55,13 +57,13 @@ module _ (r n : ℕ) where
   unfolding ended
   ended-eight a h = sym (simp (ne-eqb _ _ a, eq-eqb _ _ h))
 
-  pub ended-size : (r ≡ 1 → ⊥) → (r ≡ 8 → ⊥) → (n ≡ 64 → ⊥) → 8 ≡ ended r n
+  pub ended-size : (r ≡ 1 → ⊥) → (r ≡ 8 → ⊥) → isSize n ≡ false → 8 ≡ ended r n
   unfolding ended
-  ended-size a b h = sym (simp (ne-eqb _ _ a, ne-eqb _ _ b, ne-eqb _ _ h))
+  ended-size a b h = sym (simp (ne-eqb _ _ a, ne-eqb _ _ b, h))
 
-  pub ended-none : (r ≡ 1 → ⊥) → (r ≡ 8 → ⊥) → n ≡ 64 → 0 ≡ ended r n
+  pub ended-none : (r ≡ 1 → ⊥) → (r ≡ 8 → ⊥) → isSize n ≡ true → 0 ≡ ended r n
   unfolding ended
-  ended-none a b h = sym (simp (ne-eqb _ _ a, ne-eqb _ _ b, eq-eqb _ _ h))
+  ended-none a b h = sym (simp (ne-eqb _ _ a, ne-eqb _ _ b, h))
 
 -- ---- the whole scan
 -- what is answered where the number so far is r and the entries es are left of n
@@ -94,20 +96,20 @@ or-swap true false = refl
 or-swap false true = refl
 or-swap false false = refl
 
-rest-is : (now n : ℕ) (a b : Bool) (es : List Entry) → restOf now n (num a b) es ≡ num (a || some (heardAhead now) es) ((b || some tooLong es) || not (eqb n 64))
+rest-is : (now n : ℕ) (a b : Bool) (es : List Entry) → restOf now n (num a b) es ≡ num (a || some (heardAhead now) es) ((b || some tooLong es) || not (isSize n))
 unfolding restOf worse ended some
-rest-is now n a b [] = num-more a b false (not (eqb n 64)) ∙ ap (λ (c : Bool). num (a || false) (c || not (eqb n 64))) (sym (or-false b))
+rest-is now n a b [] = num-more a b false (not (isSize n)) ∙ ap (λ (c : Bool). num (a || false) (c || not (isSize n))) (sym (or-false b))
 rest-is now n a b (e ∷ es) =
     ap (λ (r : ℕ). restOf now n r es) (num-more a b (heardAhead now e) (tooLong e))
     ∙ rest-is now n (a || heardAhead now e) (b || tooLong e) es
-    ∙ ap (λ (c : Bool). num c (((b || tooLong e) || some tooLong es) || not (eqb n 64))) (or-assoc a (heardAhead now e) (some (heardAhead now) es))
-    ∙ ap (λ (c : Bool). num (a || (heardAhead now e || some (heardAhead now) es)) (c || not (eqb n 64))) (or-assoc b (tooLong e) (some tooLong es))
+    ∙ ap (λ (c : Bool). num c (((b || tooLong e) || some tooLong es) || not (isSize n))) (or-assoc a (heardAhead now e) (some (heardAhead now) es))
+    ∙ ap (λ (c : Bool). num (a || (heardAhead now e || some (heardAhead now) es)) (c || not (isSize n))) (or-assoc b (tooLong e) (some tooLong es))
 
 pub scan-start : (now : ℕ) (es : List Entry) → restOf now (length es) (lateness now) es ≡ entriesRefusal now es
 unfolding entriesRefusal lateness
 scan-start now es =
     rest-is now (length es) (ltb (2 ^ 62) now) false es
-    ∙ ap (λ (c : Bool). num (ltb (2 ^ 62) now || some (heardAhead now) es) c) (or-swap (some tooLong es) (not (eqb (length es) 64)))
+    ∙ ap (λ (c : Bool). num (ltb (2 ^ 62) now || some (heardAhead now) es) c) (or-swap (some tooLong es) (not (isSize (length es))))
 
 pub scan-on : (now n r : ℕ) (es : List Entry) (i : ℕ) → i < length es → restOf now n r (drop i es) ≡ restOf now n (worse now r (getD es i blank)) (drop (i + 1) es)
 unfolding restOf
@@ -140,9 +142,9 @@ worse-fits now r e = combined-fits r (heardAhead now e) (tooLong e)
 
 pub ended-fits : (r n : ℕ) → ended r n < 2 ^ 8
 unfolding ended
-ended-fits r n = combined-fits r false (not (eqb n 64))
+ended-fits r n = combined-fits r false (not (isSize n))
 
--- the numbers of a whole table: it fits a byte; and where it is 0 the table has 64 entries
+-- the number of a whole table fits a byte
 pub entries-fits : (now : ℕ) (es : List Entry) → entriesRefusal now es < 2 ^ 8
 unfolding entriesRefusal
 entries-fits now es = go (badTime now es) (badTable es)
@@ -152,11 +154,12 @@ entries-fits now es = go (badTime now es) (badTable es)
     go false true = omega arith
     go false false = omega arith
 
-pub has-64 : (now : ℕ) (es : List Entry) → entriesRefusal now es ≡ 0 → length es ≡ 64
-unfolding entriesRefusal
-has-64 now es h = go (badTime now es) (eqb (length es) 64) refl h
-  where
-    go : (x y : Bool) → eqb (length es) 64 ≡ y → _≡_ {A = ℕ} (cond x 1 (cond (not y || some tooLong es) 8 0)) 0 → length es ≡ 64
-    go true y e k = absurd (omega arith)
-    go false true e k = eqb-true (length es) 64 e
-    go false false e k = absurd (omega arith)
+-- a value that is a number that fits is one of its type
+pub typed64 : (m : ℕ) → m < 2 ^ 64 → (u : Val) → u ≡ vint w64 m → T (hasTy (tyInt w64) u) × WT u
+typed64 m fits u same = subst (λ (x : Val). T (hasTy (tyInt w64) x) × WT x) (sym same) (tt, record { fits = fits })
+
+pub typed8 : (m : ℕ) → m < 2 ^ 8 → (u : Val) → u ≡ vint w8 m → T (hasTy (tyInt w8) u) × WT u
+typed8 m fits u same = subst (λ (x : Val). T (hasTy (tyInt w8) x) × WT x) (sym same) (tt, record { fits = fits })
+
+pub typedBool : (b : Bool) (u : Val) → u ≡ vbool b → T (hasTy tyBool u) × WT u
+typedBool b u same = subst (λ (x : Val). T (hasTy tyBool x) × WT x) (sym same) (tt, tt)

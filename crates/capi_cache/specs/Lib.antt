@@ -1,3 +1,4 @@
 pub mod Refusals
 pub mod Numbers
-pub mod Agree
+pub mod Cursors
+pub mod Numbered

@@ -61,6 +61,9 @@ lookedNumbers answer = record {
 abbrev pub refusedTake : ℕ → TakenNumbers
 refusedTake number = record { refusal = number; turned = 0; passed = 0 }
 
+abbrev pub countedTake : ℕ → ℕ → TakenNumbers
+countedTake turned passed = record { refusal = 0; turned = turned; passed = passed }
+
 abbrev pub refusedLook : ℕ → LookedNumbers
 refusedLook number = record { refusal = number; found = false; slot = 0; «name_labels» = 0; «name_first_label» = 0 }
 

@@ -3,6 +3,7 @@ use Prim.Native.Nat.{ℕ, _^_}
 use mathlib.Core.Bool.{Bool, false, cond, not, _||_}
 use lib.Dec.{ltb, eqb}
 use Rattle.cache.specs.entries.Entries.{heardAhead, tooLong}
+use Rattle.cache.specs.entries.Cache.{isSize}
 use Rattle.cache.specs.declared.entries.Entry.{Entry}
 
 -- the number before the first entry: 1 where the time is above 2^62
@@ -17,6 +18,6 @@ combined number one eight = cond (eqb number 1 || one) 1 (cond (eqb number 8 || 
 unfoldable pub worse : ℕ → ℕ → Entry → ℕ
 worse now number e = combined number (heardAhead now e) (tooLong e)
 
--- the number after all: a table of another size than 64 is refused as 8
+-- the number after all: a table of another size is refused as 8
 unfoldable pub ended : ℕ → ℕ → ℕ
-ended number n = combined number false (not (eqb n 64))
+ended number n = combined number false (not (isSize n))

@@ -1,19 +1,25 @@
-// The cache on a lent table (specification, 'The cache'): entries as a lent slice of structs. Thin functions read and replace one entry; a lookup works
-// in place; taking a message loads the table, works on it by value, and stores it.
+// The cache on a lent table (specification, 'The cache'): entries as a lent slice of structs of any length, worked on in place. Thin functions read and
+// replace one entry; the rules on an entry by value are those of the crate `cache`.
 ghost use mathlib.Core.Path.{_≡_};
-ghost use Prim.Native.Nat.{ℕ, _<_};
+ghost use Prim.Native.Nat.{ℕ, _+_, _*_, _<_, _≤_, _^_};
 ghost use mathlib.Core.List.{List};
-ghost use lib.ListN.{length, replicate, set, getD};
+ghost use lib.ListN.{length, set, getD};
+ghost use lib.Seq.{sets};
 ghost use Rattle.cache.specs.entries.Entries.{blank};
 ghost use Rattle.cache.specs.declared.entries.Entry.{Entry};
-ghost use Rattle.cache.specs.entries.Cache.{entriesRefusal, takeIn};
+ghost use Rattle.cache.specs.declared.records.Choice.{Choice};
+ghost use Rattle.cache.specs.entries.Cache.{Cache, slotWith, takeRecords, entriesRefusal, takeIn};
 ghost use Rattle.cache.specs.lookup.Answers.{lookedOf};
 ghost use Rattle.cache.specs.Answers.{takenOf};
+ghost use Rattle.cache.specs.records.Heard.{heardAt};
+ghost use Rattle.cache.specs.records.Taking.{flushedIn, chosenIn, changed, changedIn, keptIn, counting};
 ghost use Rattle.capi_cache.specs.Refusals.{lateness, worse, ended};
-ghost use Rattle.capi_cache.specs.Numbers.{refusedLook, foundLook, nothingLook, refusedTake, takenNumbers, lookedNumbers};
-use cache::AfterTake;
-use cache::Taken;
+ghost use Rattle.capi_cache.specs.Numbers.{refusedLook, foundLook, nothingLook, refusedTake, countedTake, takenNumbers, lookedNumbers};
+ghost use Rattle.capi_cache.specs.Cursors.{Fits, Filling, Keeping, Taking, stillAt, beginOf, isMore, nextAt, sectionPast, pastOf, recordsFrom, cacheAt};
 use cache::entries::Entry;
+use cache::records::Choice;
+use cache::records::Heard;
+use wire::message::Section;
 
 // What taking a message answers in numbers, for callers in other languages.
 #[repr(C)]
@@ -57,64 +63,6 @@ fn put_entry(table: &mut [Entry], i: usize, e: Entry)
     table[i] = e;
 }
 
-// A table by value with one entry replaced.
-fn with_entry(es: [Entry; 64], i: usize, e: Entry) -> [Entry; 64]
-    requires { ⌜ i < 64 ⌝ }
-    ensures { λ r. ⌜ r ≡ set es i e ⌝ }
-{
-    let mut t = es;
-    t[i] = e;
-    t
-}
-
-// The entry at `i` of a table by value.
-fn nth(es: [Entry; 64], i: usize) -> Entry
-    requires { ⌜ i < 64 ⌝ }
-    ensures { λ r. ⌜ r ≡ getD es i blank ⌝ }
-{
-    es[i]
-}
-
-// A table by value of entries of zeros.
-fn blank_table() -> [Entry; 64]
-    ensures { λ r. ⌜ r ≡ replicate 64 blank ⌝ }
-{
-    let e = Entry {
-        rtype: 0,
-        owner: 0,
-        rdata: 0,
-        received: 0,
-        expiry: 0,
-    };
-    [e; 64]
-}
-
-// The entries of a table of 64, by value.
-fn load(table: &[Entry]) -> [Entry; 64]
-    requires { ⌜ length (now table) ≡ 64 ⌝ }
-    ensures { λ r. ⌜ r ≡ now (table .entry) ⌝ }
-{
-    let mut es = blank_table();
-    let mut i = 0;
-    while i < 64 {
-        es = with_entry(es, i, entry_at(table, i));
-        i += 1;
-    }
-    es
-}
-
-// Each entry of a table of 64 is replaced.
-fn store_all(table: &mut [Entry], es: [Entry; 64])
-    requires { ⌜ length (now table) ≡ 64 ⌝ }
-    ensures { λ _. ⌜ now (table .exit) ≡ es ⌝ }
-{
-    let mut i = 0;
-    while i < 64 {
-        put_entry(table, i, nth(es, i));
-        i += 1;
-    }
-}
-
 // The refusal of a time, before any entry is looked at: 1 above 2^62, or 0.
 fn late(time: u64) -> u8
     ensures { λ r. ⌜ r ≡ lateness time ⌝ }
@@ -144,7 +92,7 @@ fn after_entry(refusal: u8, e: Entry, time: u64) -> u8
     0
 }
 
-// The refusal after all entries: a table of another size than 64 is refused as 8.
+// The refusal after all entries: a table of another size than 1 to 512 is refused as 8.
 fn at_end(refusal: u8, n: usize) -> u8
     ensures { λ r. ⌜ r ≡ ended refusal n ⌝ }
 {
@@ -154,7 +102,7 @@ fn at_end(refusal: u8, n: usize) -> u8
     if refusal == wire::refusals::TABLE {
         return wire::refusals::TABLE;
     }
-    if n != 64 {
+    if !cache::lookup::is_size(n) {
         return wire::refusals::TABLE;
     }
     0
@@ -222,38 +170,6 @@ fn refused_take(refusal: u8) -> TakenNumbers
     }
 }
 
-// An answer of `take` in numbers: the specification's refusal number, or 0, and the counts.
-fn taken_numbers(answer: Taken) -> TakenNumbers
-    ensures { λ r. ⌜ r ≡ takenNumbers answer ⌝ }
-{
-    match answer {
-        Taken::Refused(refusal) => TakenNumbers {
-            refusal,
-            turned: 0,
-            passed: 0,
-        },
-        Taken::Accepted(counts) => TakenNumbers {
-            refusal: 0,
-            turned: counts.turned,
-            passed: counts.passed,
-        },
-    }
-}
-
-// The table of what taking a message gave, and its answer in numbers.
-fn entries_of(after: AfterTake) -> [Entry; 64]
-    ensures { λ r. ⌜ r ≡ after .entries ⌝ }
-{
-    after.entries
-}
-
-fn numbers_of(after: AfterTake) -> TakenNumbers
-    ensures { λ r. ⌜ r ≡ takenNumbers (after .answer) ⌝ }
-{
-    let answer = after.answer;
-    taken_numbers(answer)
-}
-
 // Looks a name and a type up in a lent table, in place: the lowest live match from a slot on. Nothing is written.
 #[no_mangle]
 pub extern "C" fn kurgashel_cache_look_up(
@@ -266,11 +182,11 @@ pub extern "C" fn kurgashel_cache_look_up(
 ) -> LookedNumbers
     ensures { λ r. ⌜ r ≡ lookedNumbers (lookedOf time (now (table .entry)) (now (store .entry)) (now (name .entry)) rtype from) ⌝ }
 {
-    let refusal = cache::lookup::look_refusal(table_refusal(table, time), store, name);
+    let n = entry_count(table);
+    let refusal = cache::lookup::look_refusal(table_refusal(table, time), n, store, name);
     if refusal != 0 {
         return refused_look(refusal);
     }
-    let n = entry_count(table);
     let mut i = from;
     while i < n {
         if cache::entries::is_live_of(entry_at(table, i), i, store, time, name, rtype) {
@@ -279,6 +195,290 @@ pub extern "C" fn kurgashel_cache_look_up(
         i += 1;
     }
     nothing_look()
+}
+
+// Rule 1 on every entry, in place.
+fn flush(table: &mut [Entry], store: &[u8], time: u64, message: &[u8], h: Heard)
+    ensures { λ _. ⌜ now (table .exit) ≡ flushedIn time (now (store .entry)) (now (message .entry)) h (now (table .entry)) ⌝ }
+{
+    let n = entry_count(table);
+    let mut i = cache::records::flush_from(h, n);
+    while i < n {
+        let e = entry_at(table, i);
+        put_entry(
+            table,
+            i,
+            cache::records::flush_heard(e, i, store, time, message, h),
+        );
+        i += 1;
+    }
+}
+
+// What becomes of a record: the lowest live equal entry, else the lowest that is not live.
+fn choose(table: &[Entry], store: &[u8], time: u64, message: &[u8], h: Heard) -> Choice
+    ensures { λ r. ⌜ r ≡ chosenIn time (now (store .entry)) (now (message .entry)) h (now (table .entry)) ⌝ }
+{
+    let n = entry_count(table);
+    let mut i = cache::records::seek_from(h, n);
+    let mut seen = cache::records::nothing_seen();
+    while i < n {
+        let e = entry_at(table, i);
+        seen = cache::records::visit(seen, e, i, store, time, message, h);
+        i += 1;
+    }
+    cache::records::chosen(h, seen)
+}
+
+// What a change makes of the entry in its slot.
+fn change_entry(e: Entry, time: u64, h: Heard, c: Choice) -> Entry
+    requires { ⌜ (time ≤ 2 ^ 62) × Filling h c ⌝ }
+    ensures { λ r. ⌜ r ≡ changed time h c e ⌝ }
+{
+    let f = h.at;
+    if c.kind == cache::records::EXPIRE {
+        return cache::entries::to_expire(e, time);
+    }
+    if c.kind == cache::records::REFRESH {
+        return Entry {
+            rtype: e.rtype,
+            owner: e.owner,
+            rdata: e.rdata,
+            received: time,
+            expiry: time + 1000 * f.ttl as u64,
+        };
+    }
+    if c.kind == cache::records::FILL {
+        return Entry {
+            rtype: f.rtype,
+            owner: f.span.len as u16,
+            rdata: h.len as u32,
+            received: time,
+            expiry: time + 1000 * f.ttl as u64,
+        };
+    }
+    e
+}
+
+// The slot that a change is for.
+fn slot_changed(c: Choice) -> usize
+    ensures { λ r. ⌜ r ≡ c .slot ⌝ }
+{
+    c.slot
+}
+
+// The rules for one record, on the table: what became of it is answered.
+fn take_record(table: &mut [Entry], store: &[u8], time: u64, message: &[u8], h: Heard) -> Choice
+    requires { ⌜ (0 < length (now table)) × ((time ≤ 2 ^ 62) × Fits h) ⌝ }
+    ensures { λ r. ⌜ (let es : List Entry = flushedIn time (now (store .entry)) (now (message .entry)) h (now (table .entry)) in
+        let c : Choice = chosenIn time (now (store .entry)) (now (message .entry)) h es in
+        (r ≡ c) × (now (table .exit) ≡ changedIn time h c es)) ⌝ }
+{
+    flush(table, store, time, message, h);
+    let c = choose(table, store, time, message, h);
+    let i = slot_changed(c);
+    let e = entry_at(table, i);
+    put_entry(table, i, change_entry(e, time, h, c));
+    c
+}
+
+// Writes slot i whole: the owner, the rdata, and zeros in the bytes that they leave.
+fn write_slot(store: &mut [u8], i: usize, owner: &[u8], content: &[u8])
+    requires { ⌜ (1024 * i + 1024 ≤ length (now store)) × ((length (now owner) ≤ 256) × (length (now content) ≤ 768)) ⌝ }
+    ensures { λ _. ⌜ now (store .exit) ≡ sets (now (store .entry)) (1024 * i) (slotWith (now (owner .entry)) (now (content .entry))) ⌝ }
+{
+    let mut slot = [0u8; 1024];
+    wire::buffer::put(&mut slot, 0, owner);
+    wire::buffer::put(&mut slot, 256, content);
+    wire::buffer::put(store, 1024 * i, &slot);
+}
+
+// The bytes of a record that fills a slot, its names expanded.
+fn keep(store: &mut [u8], message: &[u8], h: Heard, c: Choice)
+    requires { ⌜ Keeping (now message) h c (length (now store)) ⌝ }
+    ensures { λ _. ⌜ now (store .exit) ≡ keptIn (now (message .entry)) h c (now (store .entry)) ⌝ }
+{
+    if c.kind != cache::records::FILL {
+        return;
+    }
+    let f = h.at;
+    let span = f.span.len;
+    let expanded = wire::names::expand(message, f.owner);
+    let name = expanded.bytes;
+    let owner = &name[..span];
+    let opened = wire::expansion::open(message, f);
+    let bytes = opened.bytes;
+    let content = wire::expansion::view(message, &bytes, opened.len, f);
+    write_slot(store, c.slot, owner, content);
+}
+
+// What is left of a message's sections, and the counts so far; or the number of a refusal, and nothing is left.
+struct Cursor {
+    answers: Section,
+    additionals: Section,
+    turned: u32,
+    passed: u32,
+    refusal: u8,
+}
+
+// A cursor of which nothing is left.
+fn still(refusal: u8) -> Cursor
+    ensures { λ r. ⌜ r ≡ stillAt refusal ⌝ }
+{
+    Cursor {
+        answers: Section { at: 0, count: 0 },
+        additionals: Section { at: 0, count: 0 },
+        turned: 0,
+        passed: 0,
+        refusal,
+    }
+}
+
+// Before the first record, for a table of n entries with the refusal `entries` and a store of so many bytes: the whole message is read before anything changes.
+fn begin(entries: u8, n: usize, bytes: usize, port: u16, message: &[u8]) -> Cursor
+    ensures { λ r. ⌜ (r ≡ beginOf entries n bytes port (now (message .entry))) × (r .answers .count + r .additionals .count ≤ 2 ^ 17) ⌝ }
+{
+    if entries != 0 {
+        return still(entries);
+    }
+    if !cache::lookup::is_store_of(n, bytes) {
+        return still(wire::refusals::TABLE);
+    }
+    match wire::message::read_from(message, port) {
+        wire::message::MessageRead::Read(l) => {
+            if l.flags < 32768 {
+                return still(0);
+            }
+            let answers = l.answers;
+            let additionals = l.additionals;
+            Cursor {
+                answers,
+                additionals,
+                turned: 0,
+                passed: 0,
+                refusal: 0,
+            }
+        }
+        wire::message::MessageRead::Refused(number) => still(number),
+    }
+}
+
+fn refusal_of(c: Cursor) -> u8
+    ensures { λ r. ⌜ r ≡ c .refusal ⌝ }
+{
+    c.refusal
+}
+
+// Whether a record is left.
+fn is_more(c: Cursor) -> bool
+    ensures { λ r. ⌜ r ≡ isMore c ⌝ }
+{
+    let answers = c.answers;
+    let additionals = c.additionals;
+    if 0 < answers.count {
+        return true;
+    }
+    0 < additionals.count
+}
+
+// The next record.
+fn hear_next(message: &[u8], c: Cursor) -> Heard
+    ensures { λ r. ⌜ r ≡ heardAt (now (message .entry)) (nextAt c) ⌝ }
+{
+    let answers = c.answers;
+    let additionals = c.additionals;
+    if 0 < answers.count {
+        return cache::records::hear(message, answers.at);
+    }
+    cache::records::hear(message, additionals.at)
+}
+
+// A section after its next record; nothing is left of one whose record is not whole.
+fn section_past(s: Section, h: Heard) -> Section
+    ensures { λ r. ⌜ r ≡ sectionPast h s ⌝ }
+{
+    let f = h.at;
+    if !h.whole {
+        return Section { at: s.at, count: 0 };
+    }
+    if s.count == 0 {
+        return s;
+    }
+    Section {
+        at: f.next,
+        count: s.count - 1,
+    }
+}
+
+// A count, after a change that is of a kind or not.
+fn count_after(n: u32, kind: u8, c: Choice) -> u32
+    requires { ⌜ n + 1 < 2 ^ 32 ⌝ }
+    ensures { λ r. ⌜ r ≡ counting kind c n ⌝ }
+{
+    if c.kind == kind {
+        return n + 1;
+    }
+    n
+}
+
+// The cursor after a record and what became of it.
+fn past(c: Cursor, h: Heard, x: Choice) -> Cursor
+    requires { ⌜ (c .turned + 1 < 2 ^ 32) × (c .passed + 1 < 2 ^ 32) ⌝ }
+    ensures { λ r. ⌜ r ≡ pastOf c h x ⌝ }
+{
+    let answers = c.answers;
+    let additionals = c.additionals;
+    let turned = count_after(c.turned, cache::records::TURN_AWAY, x);
+    let passed = count_after(c.passed, cache::records::PASS_OVER, x);
+    if 0 < answers.count {
+        return Cursor {
+            answers: section_past(answers, h),
+            additionals,
+            turned,
+            passed,
+            refusal: 0,
+        };
+    }
+    Cursor {
+        answers,
+        additionals: section_past(additionals, h),
+        turned,
+        passed,
+        refusal: 0,
+    }
+}
+
+// The counts in numbers.
+fn counts_of(c: Cursor) -> TakenNumbers
+    ensures { λ r. ⌜ r ≡ countedTake (c .turned) (c .passed) ⌝ }
+{
+    TakenNumbers {
+        refusal: 0,
+        turned: c.turned,
+        passed: c.passed,
+    }
+}
+
+// The records of a message, in order.
+fn take_records(
+    table: &mut [Entry],
+    store: &mut [u8],
+    time: u64,
+    message: &[u8],
+    first: Cursor,
+) -> TakenNumbers
+    requires { ⌜ Taking time (length (now table)) (length (now store)) first ⌝ }
+    ensures { λ r. ⌜ (let c : Cache = takeRecords time (recordsFrom (now (message .entry)) first) (cacheAt first (now (table .entry)) (now (store .entry))) in
+        (r ≡ countedTake (c .turned) (c .passed)) × ((now (table .exit) ≡ c .entries) × (now (store .exit) ≡ c .store))) ⌝ }
+{
+    let mut c = first;
+    while is_more(c) {
+        let h = hear_next(message, c);
+        let x = take_record(table, store, time, message, h);
+        keep(store, message, h, x);
+        let next = past(c, h, x);
+        c = next;
+    }
+    counts_of(c)
 }
 
 // Takes the records of a message into a lent table and its store.
@@ -296,11 +496,12 @@ pub extern "C" fn kurgashel_cache_take(
         (r ≡ takenNumbers (takenOf time es s port p))
         × ((now (table .exit) ≡ takeIn time es s port p .entries) × (now (store .exit) ≡ takeIn time es s port p .store))) ⌝ }
 {
-    let refusal = table_refusal(table, time);
+    let entries = table_refusal(table, time);
+    let n = entry_count(table);
+    let c = begin(entries, n, store.len(), port, message);
+    let refusal = refusal_of(c);
     if refusal != 0 {
         return refused_take(refusal);
     }
-    let after = cache::take_by_value(load(table), store, time, port, message);
-    store_all(table, entries_of(after));
-    numbers_of(after)
+    take_records(table, store, time, message, c)
 }

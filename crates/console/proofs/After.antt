@@ -5,7 +5,7 @@ use mathlib.Core.Bool.{Bool, true, false}
 use Prim.Native.Nat.{ℕ, _≤_, _<_}
 use lib.ListN.{length, getD}
 use borrow.Author.Tests.{lt-ltb, le-ltb, eq-eqb, ne-eqb}
-use Rattle.cache.specs.declared.entries.Entry.{Entry}
+use Rattle.console_table.specs.declared.Table.{Table}
 use Rattle.responder.specs.declared.State.{State}
 use Rattle.console_text.specs.fields.Numbers.{fieldAt}
 use Rattle.console_calls.specs.cache_calls.Lines.{isCacheCall, cacheAfter}
@@ -22,12 +22,12 @@ module _ (line : List ℕ) (c : Console) where
   module _ (field : List ℕ) (w : field ≡ fieldAt line 0) where
     pub by-responder : isResponderCall field ≡ true → (state : State) (out : List ℕ)
         → (state ≡ responderAfter line (c .held .state) (c .out) .state) × (out ≡ responderAfter line (c .held .state) (c .out) .out)
-        → Are (record { state = state; entries = c .held .entries }) (c .store) out (afterCall line c)
+        → Are (record { state = state; table = c .held .table }) (c .store) out (afterCall line c)
     unfolding afterCall
     by-responder h state out is =
         let t : isResponderCall (fieldAt line 0) ≡ true = ap isResponderCall (sym w) ∙ h in
         let u : afterCall line c ≡ byResponder line c = simp t in (
-          ap (λ (s : State). record { state = s; entries = c .held .entries }) (is .0) ∙ sym (ap (λ (d : Console). d .held) u),
+          ap (λ (s : State). record { state = s; table = c .held .table }) (is .0) ∙ sym (ap (λ (d : Console). d .held) u),
           (sym (ap (λ (d : Console). d .store) u), is .1 ∙ sym (ap (λ (d : Console). d .out) u)),
         )
 
@@ -35,14 +35,14 @@ module _ (line : List ℕ) (c : Console) where
       none : isResponderCall (fieldAt line 0) ≡ false
       none = ap isResponderCall (sym w) ∙ n
 
-      pub by-cache : isCacheCall field ≡ true → (entries : List Entry) (store : List ℕ)
-          → (entries ≡ cacheAfter line (c .held .entries) (c .store) .entries) × (store ≡ cacheAfter line (c .held .entries) (c .store) .store)
-          → Are (record { state = c .held .state; entries = entries }) store (c .out) (afterCall line c)
+      pub by-cache : isCacheCall field ≡ true → (table : Table) (store : List ℕ)
+          → (table ≡ cacheAfter line (c .held .table) (c .store) .table) × (store ≡ cacheAfter line (c .held .table) (c .store) .store)
+          → Are (record { state = c .held .state; table = table }) store (c .out) (afterCall line c)
       unfolding afterCall
-      by-cache h entries store is =
+      by-cache h table store is =
           let t : isCacheCall (fieldAt line 0) ≡ true = ap isCacheCall (sym w) ∙ h in
           let u : afterCall line c ≡ byCache line c = simp (none, t) in (
-            ap (λ (es : List Entry). record { state = c .held .state; entries = es }) (is .0) ∙ sym (ap (λ (d : Console). d .held) u),
+            ap (λ (t′ : Table). record { state = c .held .state; table = t′ }) (is .0) ∙ sym (ap (λ (d : Console). d .held) u),
             (is .1 ∙ sym (ap (λ (d : Console). d .store) u), sym (ap (λ (d : Console). d .out) u)),
           )
 

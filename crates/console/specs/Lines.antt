@@ -1,11 +1,11 @@
--- What a line makes of all that the console holds between lines: the responder, the table of the cache, its byte store and the out buffer.
+-- What a line makes of all that the console holds between lines: the responder, the table of the cache with its sizes, its byte store and the out buffer.
 -- Assumes nothing: these are definitions.
 use Prim.Native.Nat.{ℕ}
 use mathlib.Core.List.{List}
 use mathlib.Core.Bool.{Bool, cond, _||_}
-use lib.ListN.{length, getD, replicate}
+use lib.ListN.{length, getD}
 use lib.Dec.{ltb, eqb}
-use Rattle.cache.specs.entries.Entries.{blank}
+use Rattle.console_table.specs.Table.{zeros}
 use Rattle.console_text.specs.fields.Numbers.{fieldAt}
 use Rattle.console_calls.specs.cache_calls.Lines.{isCacheCall, cacheAfter}
 use Rattle.console_responder.specs.Forms.{isResponderCall}
@@ -18,22 +18,22 @@ pub record Console : Type 0 where
   pub store : List ℕ
   pub out : List ℕ
 
--- before the first line: no responder has started, and the table is zeros
+-- before the first line: no responder has started, and the table is 64 entries of zeros, with a slot for each
 unfoldable pub heldAtFirst : Held
-heldAtFirst = record { state = unstarted; entries = replicate 64 blank }
+heldAtFirst = record { state = unstarted; table = zeros 64 65536 }
 
 -- after a call on the responder, and after one on the cache
 abbrev pub byResponder : List ℕ → Console → Console
 byResponder line c = record {
-  held = record { state = responderAfter line (c .held .state) (c .out) .state; entries = c .held .entries };
+  held = record { state = responderAfter line (c .held .state) (c .out) .state; table = c .held .table };
   store = c .store;
   out = responderAfter line (c .held .state) (c .out) .out;
 }
 
 abbrev pub byCache : List ℕ → Console → Console
 byCache line c = record {
-  held = record { state = c .held .state; entries = cacheAfter line (c .held .entries) (c .store) .entries };
-  store = cacheAfter line (c .held .entries) (c .store) .store;
+  held = record { state = c .held .state; table = cacheAfter line (c .held .table) (c .store) .table };
+  store = cacheAfter line (c .held .table) (c .store) .store;
   out = c .out;
 }
 

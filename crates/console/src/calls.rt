@@ -1,13 +1,13 @@
 // A call by its first word, answered by the function that has it. What is held after it is promised; what is written no contract can say.
 ghost use mathlib.Core.Path.{_≡_};
 ghost use Rattle.console.specs.Lines.{Console, heldAtFirst, afterCall};
-use cache::entries::Entry;
+use console_table::Table;
 use responder::State;
 
-// What the console holds between calls, beside the out buffer and the cache's byte store: a responder, and the table of the cache.
+// What the console holds between calls, beside the out buffer and the cache's byte store: a responder, and the table of the cache with its sizes.
 pub struct Held {
     state: State,
-    entries: [Entry; 64],
+    table: Table,
 }
 
 // What is held before the first call.
@@ -16,7 +16,7 @@ pub fn at_first() -> Held
 {
     Held {
         state: console_responder::at_first(),
-        entries: console_calls::cache_calls::no_entries(),
+        table: console_calls::cache_calls::at_first(),
     }
 }
 
@@ -24,7 +24,7 @@ pub fn at_first() -> Held
 pub fn call(
     line: &[u8],
     held: Held,
-    store: &mut [u8; 65536],
+    store: &mut [u8; 525312],
     out: &mut [u8; 4096],
     text: &mut [u8; 4096],
 ) -> Held
@@ -38,18 +38,18 @@ pub fn call(
     let word = console_text::lines::field(line, 0);
     if console_responder::is_call(word) {
         let state = held.state;
-        let entries = held.entries;
+        let table = held.table;
         return Held {
             state: console_responder::call(line, state, out, text),
-            entries,
+            table,
         };
     }
     if console_calls::cache_calls::is_call(word) {
         let state = held.state;
-        let entries = held.entries;
+        let table = held.table;
         return Held {
             state,
-            entries: console_calls::cache_calls::call(line, entries, store, text),
+            table: console_calls::cache_calls::call(line, table, store, text),
         };
     }
     console_calls::reader_calls::call(line, text);

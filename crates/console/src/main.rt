@@ -51,7 +51,7 @@ fn keep(input: &mut [u8], from: usize, filled: usize) -> usize
 fn answer_line(
     line: &[u8],
     held: Held,
-    store: &mut [u8; 65536],
+    store: &mut [u8; 525312],
     out: &mut [u8; 4096],
     text: &mut [u8; 4096],
 ) -> Held
@@ -77,7 +77,7 @@ fn answer_line(
 
 // Reads and answers line by line until the input ends. Of the buffer's first `filled` bytes the line begins at `start`, and no LF stands before
 // `seen`. Nothing says that the input ends, so the loop counts its turns down, from a number of lines and reads that no run uses up.
-fn serve(input: &mut [u8], store: &mut [u8; 65536], out: &mut [u8; 4096], text: &mut [u8; 4096]) {
+fn serve(input: &mut [u8], store: &mut [u8; 525312], out: &mut [u8; 4096], text: &mut [u8; 4096]) {
     let mut held = calls::at_first();
     let mut start = 0;
     let mut seen = 0;
@@ -105,7 +105,7 @@ fn serve(input: &mut [u8], store: &mut [u8; 65536], out: &mut [u8; 4096], text: 
 
 fn main() {
     let mut input = [0u8; 65536];
-    let mut store = [0u8; 65536];
+    let mut store = [0u8; 525312];
     let mut out = [0u8; 4096];
     let mut text = [0u8; 4096];
     serve(&mut input, &mut store, &mut out, &mut text);

@@ -1,75 +1,63 @@
-// The console's calls on the cache: `put NOW PORT PACKET`, `look NOW NAME TYPE FROM`, `slot K` and `clear`. The table goes by value, its byte store
-// is lent: what both are after a line is promised. What is written no contract can say.
+// The console's calls on the cache: `put NOW PORT PACKET`, `look NOW NAME TYPE FROM`, `slot K`, `table N` or `table N STORE`, and `clear`. The table goes by
+// value, its byte store is lent: what both are after a line is promised. What is written no contract can say.
 ghost use mathlib.Core.Path.{_≡_};
+ghost use Prim.Native.Nat.{_≤_};
 ghost use lib.ListN.{length, replicate};
-ghost use Rattle.cache.specs.entries.Entries.{blank};
-ghost use Rattle.console_calls.specs.cache_calls.Lines.{isCacheCall, isPut, afterPut, afterClear, cacheAfter};
+ghost use Rattle.console_table.specs.Table.{zeros};
+ghost use Rattle.console_text.specs.fields.Numbers.{numberAt};
+ghost use Rattle.console_calls.specs.cache_calls.Lines.{isCacheCall, isPut, isTable, roomTold, afterPut, afterClear, afterTable, cacheAfter};
 use crate::output::bad_line;
 use crate::output::bytes;
 use crate::output::finish;
 use crate::output::first;
 use crate::output::only;
 use crate::output::refused;
-use cache::Counts;
-use cache::Taken;
 use cache::entries::Entry;
-use cache::lookup::Looked;
-use cache::lookup::Met;
+use capi_cache::LookedNumbers;
+use capi_cache::TakenNumbers;
+use console_table::MOST_ENTRIES;
+use console_table::Table;
 use console_text::fields::are_bytes;
 use console_text::fields::has_arguments;
 use console_text::fields::is_number;
 use console_text::fields::number;
 use console_text::fields::number_of_16;
 
-// The entries of the table.
-const ENTRIES: usize = 64;
+// The bytes of a slot.
+const SLOT: usize = 1024;
+
+// The entries of the table, and the bytes of its store, before a line says otherwise.
+const USUAL_ENTRIES: usize = 64;
+
+const USUAL_STORE: usize = 65536;
+
+// The most bytes of a store: a slot for each of the most entries.
+const MOST_STORE: u64 = 525312;
 
 // The greatest type.
 const MOST_TYPE: u64 = 65535;
 
-// An entry of zeros.
-fn unused() -> Entry
-    ensures { λ r. ⌜ r ≡ blank ⌝ }
+// The table before the first line.
+pub fn at_first() -> Table
+    ensures { λ r. ⌜ r ≡ zeros 64 65536 ⌝ }
 {
-    Entry {
-        rtype: 0,
-        owner: 0,
-        rdata: 0,
-        received: 0,
-        expiry: 0,
-    }
-}
-
-// A table of zeros.
-pub fn no_entries() -> [Entry; 64]
-    ensures { λ r. ⌜ r ≡ replicate 64 blank ⌝ }
-{
-    let e = unused();
-    [e; 64]
-}
-
-// Entry k, or one of zeros where there is none.
-fn entry_at(es: [Entry; 64], k: usize) -> Entry {
-    if ENTRIES <= k {
-        return unused();
-    }
-    es[k]
+    console_table::zeros(USUAL_ENTRIES, USUAL_STORE)
 }
 
 // The answer `cached TURNED PASSED`.
-fn cached(counts: Counts, text: &mut [u8; 4096]) {
+fn cached(numbers: TakenNumbers, text: &mut [u8; 4096]) {
     let used = first(text, b"cached");
-    let used = crate::output::number(text, used, counts.turned as u64);
-    let used = crate::output::number(text, used, counts.passed as u64);
+    let used = crate::output::number(text, used, numbers.turned as u64);
+    let used = crate::output::number(text, used, numbers.passed as u64);
     finish(text, used);
 }
 
 // The answer for a message.
-fn taken(answer: Taken, text: &mut [u8; 4096]) {
-    match answer {
-        Taken::Refused(n) => refused(text, n as u64),
-        Taken::Accepted(counts) => cached(counts, text),
+fn taken(numbers: TakenNumbers, text: &mut [u8; 4096]) {
+    if numbers.refusal != 0 {
+        return refused(text, numbers.refusal as u64);
     }
+    cached(numbers, text)
 }
 
 // Whether a line is of the form `put NOW PORT PACKET`.
@@ -89,55 +77,58 @@ fn is_put(line: &[u8]) -> bool
 }
 
 // `put NOW PORT PACKET`: the table after it. A port that is too great is no 5353, as 0 is none.
-fn put(line: &[u8], es: [Entry; 64], store: &mut [u8], text: &mut [u8; 4096]) -> [Entry; 64]
-    ensures table { λ r. ⌜ r ≡ afterPut (now (line .entry)) es (now (store .entry)) .entries ⌝ }
-    ensures store { λ _. ⌜ now (store .exit) ≡ afterPut (now (line .entry)) es (now (store .entry)) .store ⌝ }
+fn put(line: &[u8], table: Table, store: &mut [u8], text: &mut [u8; 4096]) -> Table
+    ensures table { λ r. ⌜ r ≡ afterPut (now (line .entry)) table (now (store .entry)) .table ⌝ }
+    ensures store { λ _. ⌜ now (store .exit) ≡ afterPut (now (line .entry)) table (now (store .entry)) .store ⌝ }
 {
     if !is_put(line) {
         bad_line(text);
-        return es;
+        return table;
     }
     let time = number(line, 1);
     let port = number_of_16(line, 2);
     let mut packet = [0u8; 20000];
     let n = console_text::hex::fill(console_text::lines::field(line, 3), &mut packet);
-    let after = cache::take_by_value(
-        es,
+    let after = console_table::take_message(
+        table,
         store,
         time,
         port,
         console_text::lines::front(&packet, n),
     );
-    let answer = after.answer;
-    taken(answer, text);
-    after.entries
+    let numbers = after.numbers;
+    taken(numbers, text);
+    after.table
 }
 
 // The answer `slot K RECEIVED EXPIRY OWNER LABELS FIRST RDATA`, of what was found, its entry and the bytes of its slot.
-fn found(met: Met, e: Entry, slot: &[u8], text: &mut [u8; 4096]) {
+fn found(numbers: LookedNumbers, e: Entry, slot: &[u8], text: &mut [u8; 4096]) {
     let used = first(text, b"slot");
-    let used = crate::output::number(text, used, met.slot as u64);
+    let used = crate::output::number(text, used, numbers.slot as u64);
     let used = crate::output::number(text, used, e.received);
     let used = crate::output::number(text, used, e.expiry);
     let used = bytes(text, used, wire::rdata::part(slot, 0, e.owner as usize));
-    let used = crate::output::number(text, used, met.labels as u64);
-    let used = crate::output::number(text, used, met.first as u64);
+    let used = crate::output::number(text, used, numbers.name_labels as u64);
+    let used = crate::output::number(text, used, numbers.name_first_label as u64);
     let used = bytes(text, used, wire::rdata::part(slot, 256, e.rdata as usize));
     finish(text, used);
 }
 
 // The answer for a name and a type.
-fn looked(answer: Looked, es: [Entry; 64], store: &[u8], text: &mut [u8; 4096]) {
-    match answer {
-        Looked::Refused(n) => refused(text, n as u64),
-        Looked::Found(met) => found(
-            met,
-            entry_at(es, met.slot),
-            cache::entries::slot_of(store, met.slot),
-            text,
-        ),
-        Looked::Nothing => only(text, b"none"),
+fn looked(numbers: LookedNumbers, table: Table, store: &[u8], text: &mut [u8; 4096]) {
+    if numbers.refusal != 0 {
+        return refused(text, numbers.refusal as u64);
     }
+    if !numbers.found {
+        return only(text, b"none");
+    }
+    let k = numbers.slot;
+    found(
+        numbers,
+        console_table::entry_at(table, k),
+        cache::entries::slot_of(store, k),
+        text,
+    )
 }
 
 // Whether a line is of the form `look NOW NAME TYPE FROM`.
@@ -160,13 +151,13 @@ fn is_look(line: &[u8]) -> bool {
 // The slot that a lookup starts from. A type that is too great is no entry's: such a lookup starts past the last slot.
 fn from(line: &[u8]) -> usize {
     if MOST_TYPE < number(line, 3) {
-        return ENTRIES;
+        return MOST_ENTRIES;
     }
     number(line, 4) as usize
 }
 
 // `look NOW NAME TYPE FROM`
-fn look(line: &[u8], es: [Entry; 64], store: &[u8], text: &mut [u8; 4096]) {
+fn look(line: &[u8], table: Table, store: &[u8], text: &mut [u8; 4096]) {
     if !is_look(line) {
         return bad_line(text);
     }
@@ -174,15 +165,15 @@ fn look(line: &[u8], es: [Entry; 64], store: &[u8], text: &mut [u8; 4096]) {
     let mut name = [0u8; 20000];
     let n = console_text::hex::fill(console_text::lines::field(line, 2), &mut name);
     let rtype = number_of_16(line, 3);
-    let answer = cache::lookup::look_by_value(
-        es,
+    let numbers = console_table::look_up(
+        table,
         store,
         time,
         console_text::lines::front(&name, n),
         rtype,
         from(line),
     );
-    looked(answer, es, store, text)
+    looked(numbers, table, store, text)
 }
 
 // The answer `slot K TYPE OWNERLEN RDATALEN RECEIVED EXPIRY BYTES`, of an entry and the bytes of its slot.
@@ -198,24 +189,33 @@ fn whole(k: usize, e: Entry, slot: &[u8], text: &mut [u8; 4096]) {
     finish(text, used);
 }
 
-// Whether a line is of the form `slot K`, of an entry that the table has.
-fn is_slot(line: &[u8]) -> bool {
+// Whether a line is of the form `slot K`, of an entry that the table has and a slot that its store has.
+fn is_slot(line: &[u8], table: Table) -> bool {
     if !has_arguments(line, 1) {
         return false;
     }
     if !is_number(line, 1) {
         return false;
     }
-    number(line, 1) < ENTRIES as u64
+    let k = number(line, 1);
+    if (table.count as u64) <= k {
+        return false;
+    }
+    k < (table.room / SLOT) as u64
 }
 
 // `slot K`
-fn slot(line: &[u8], es: [Entry; 64], store: &[u8], text: &mut [u8; 4096]) {
-    if !is_slot(line) {
+fn slot(line: &[u8], table: Table, store: &[u8], text: &mut [u8; 4096]) {
+    if !is_slot(line, table) {
         return bad_line(text);
     }
     let k = number(line, 1) as usize;
-    whole(k, entry_at(es, k), cache::entries::slot_of(store, k), text)
+    whole(
+        k,
+        console_table::entry_at(table, k),
+        cache::entries::slot_of(store, k),
+        text,
+    )
 }
 
 // Makes every byte of a store 0.
@@ -229,18 +229,67 @@ fn wipe(store: &mut [u8])
     }
 }
 
-// `clear`: the table after it.
-fn clear(line: &[u8], es: [Entry; 64], store: &mut [u8], text: &mut [u8; 4096]) -> [Entry; 64]
-    ensures table { λ r. ⌜ r ≡ afterClear (now (line .entry)) es (now (store .entry)) .entries ⌝ }
-    ensures store { λ _. ⌜ now (store .exit) ≡ afterClear (now (line .entry)) es (now (store .entry)) .store ⌝ }
+// `clear`: the table after it, as large as it was.
+fn clear(line: &[u8], table: Table, store: &mut [u8], text: &mut [u8; 4096]) -> Table
+    ensures table { λ r. ⌜ r ≡ afterClear (now (line .entry)) table (now (store .entry)) .table ⌝ }
+    ensures store { λ _. ⌜ now (store .exit) ≡ afterClear (now (line .entry)) table (now (store .entry)) .store ⌝ }
 {
     if !has_arguments(line, 0) {
         bad_line(text);
-        return es;
+        return table;
     }
     wipe(store);
     only(text, b"cleared");
-    no_entries()
+    console_table::zeros(table.count, table.room)
+}
+
+// Whether a line is of the form `table N` or `table N STORE`, of sizes that there are.
+fn is_table(line: &[u8]) -> bool
+    ensures { λ r. ⌜ r ≡ isTable (now (line .entry)) ⌝ }
+{
+    if !is_number(line, 1) {
+        return false;
+    }
+    if (MOST_ENTRIES as u64) < number(line, 1) {
+        return false;
+    }
+    if has_arguments(line, 1) {
+        return true;
+    }
+    if !has_arguments(line, 2) {
+        return false;
+    }
+    if !is_number(line, 2) {
+        return false;
+    }
+    number(line, 2) <= MOST_STORE
+}
+
+// How many bytes the store of a new table has: a slot for each entry where the line does not say.
+fn room_told(line: &[u8]) -> usize
+    requires { ⌜ numberAt (now line) 1 ≤ 513 ⌝ }
+    ensures { λ r. ⌜ r ≡ roomTold (now (line .entry)) ⌝ }
+{
+    if has_arguments(line, 1) {
+        return SLOT * number(line, 1) as usize;
+    }
+    number(line, 2) as usize
+}
+
+// `table N` or `table N STORE`: the table after it.
+fn make_table(line: &[u8], table: Table, store: &mut [u8], text: &mut [u8; 4096]) -> Table
+    ensures table { λ r. ⌜ r ≡ afterTable (now (line .entry)) table (now (store .entry)) .table ⌝ }
+    ensures store { λ _. ⌜ now (store .exit) ≡ afterTable (now (line .entry)) table (now (store .entry)) .store ⌝ }
+{
+    if !is_table(line) {
+        bad_line(text);
+        return table;
+    }
+    let count = number(line, 1) as usize;
+    let room = room_told(line);
+    wipe(store);
+    only(text, b"table");
+    console_table::zeros(count, room)
 }
 
 // Whether a word is one of these calls.
@@ -256,29 +305,35 @@ pub fn is_call(word: &[u8]) -> bool
     if wire::expansion::same_bytes(word, b"slot") {
         return true;
     }
+    if wire::expansion::same_bytes(word, b"table") {
+        return true;
+    }
     wire::expansion::same_bytes(word, b"clear")
 }
 
 // Answers one of these calls, and tells the table after it. Any other line is a bad one.
-pub fn call(line: &[u8], es: [Entry; 64], store: &mut [u8], text: &mut [u8; 4096]) -> [Entry; 64]
-    ensures table { λ r. ⌜ r ≡ cacheAfter (now (line .entry)) es (now (store .entry)) .entries ⌝ }
-    ensures store { λ _. ⌜ now (store .exit) ≡ cacheAfter (now (line .entry)) es (now (store .entry)) .store ⌝ }
+pub fn call(line: &[u8], table: Table, store: &mut [u8], text: &mut [u8; 4096]) -> Table
+    ensures table { λ r. ⌜ r ≡ cacheAfter (now (line .entry)) table (now (store .entry)) .table ⌝ }
+    ensures store { λ _. ⌜ now (store .exit) ≡ cacheAfter (now (line .entry)) table (now (store .entry)) .store ⌝ }
 {
     let word = console_text::lines::field(line, 0);
     if wire::expansion::same_bytes(word, b"put") {
-        return put(line, es, store, text);
+        return put(line, table, store, text);
     }
     if wire::expansion::same_bytes(word, b"clear") {
-        return clear(line, es, store, text);
+        return clear(line, table, store, text);
+    }
+    if wire::expansion::same_bytes(word, b"table") {
+        return make_table(line, table, store, text);
     }
     if wire::expansion::same_bytes(word, b"look") {
-        look(line, es, store, text);
-        return es;
+        look(line, table, store, text);
+        return table;
     }
     if wire::expansion::same_bytes(word, b"slot") {
-        slot(line, es, store, text);
-        return es;
+        slot(line, table, store, text);
+        return table;
     }
     bad_line(text);
-    es
+    table
 }

@@ -54,6 +54,18 @@ pub fn address() -> Vec<u8> {
     p
 }
 
+/// A response with the address of one of 65,536 hosts that share a name; nothing is flushed.
+pub fn address_of(number: u16) -> Vec<u8> {
+    let mut p = response(1);
+    label(&mut p, b"dock");
+    label(&mut p, b"local");
+    p.push(0);
+    fields(&mut p, 1, 1, 120, 4);
+    p.extend([10, 0]);
+    p.extend(number.to_be_bytes());
+    p
+}
+
 /// The announcement of a service: PTR, SRV, TXT and A, names compressed.
 pub fn service() -> Vec<u8> {
     let mut p = response(4);

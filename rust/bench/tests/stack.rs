@@ -80,3 +80,26 @@ fn a_cache_that_takes_each() {
         assert_eq!(found.rdata, [10, 0, 0, 7]);
     });
 }
+
+#[test]
+fn a_full_cache_of_512_entries() {
+    in_64_kib(|| {
+        let entries = kurgashel::MOST_ENTRIES;
+        let mut cache = kurgashel::Cache::with_entries(entries).expect("a size");
+        for number in 0..entries {
+            let taken = cache
+                .take(1000, kurgashel::PORT, &packets::address_of(number as u16))
+                .expect("taken");
+            assert_eq!((taken.turned_away, taken.passed_over), (0, 0), "{number}");
+        }
+        let worst = cache
+            .take(1000, kurgashel::PORT, &packets::worst())
+            .expect("taken, whatever it holds");
+        assert!(worst.turned_away > 0);
+        let last = cache
+            .look_up(1000, b"\x04dock\x05local\0", 1, entries - 1)
+            .expect("an answer")
+            .expect("the address that was announced last");
+        assert_eq!((last.slot, last.rdata), (entries - 1, &[10, 0, 1, 255][..]));
+    });
+}

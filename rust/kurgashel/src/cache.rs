@@ -1,9 +1,11 @@
-//! The cache of others' records: 64 entries and a store of 65,536 bytes.
+//! The cache of others' records: 1 to 512 entries, and a store of 1,024 bytes for each.
 
 use crate::Refusal;
 
-const ENTRIES: usize = 64;
-const STORE_BYTES: usize = 65_536;
+/// The most entries of a cache; the least is 1.
+pub const MOST_ENTRIES: usize = 512;
+
+const USUAL_ENTRIES: usize = 64;
 const SLOT_BYTES: usize = 1024;
 const OWNER_BYTES: usize = 256;
 
@@ -93,16 +95,34 @@ pub struct Cache {
     store: Box<[u8]>,
 }
 
+/// A cache of 64 entries.
 impl Default for Cache {
     fn default() -> Cache {
-        Cache {
-            table: vec![Entry::default(); ENTRIES].into(),
-            store: vec![0; STORE_BYTES].into(),
-        }
+        Cache::empty(USUAL_ENTRIES)
     }
 }
 
 impl Cache {
+    /// A cache of 1 to 512 entries. Another number is what its calls would refuse: [`Refusal::Cache`].
+    pub fn with_entries(entries: usize) -> Result<Cache, Refusal> {
+        if entries == 0 || entries > MOST_ENTRIES {
+            return Err(Refusal::Cache);
+        }
+        Ok(Cache::empty(entries))
+    }
+
+    fn empty(entries: usize) -> Cache {
+        Cache {
+            table: vec![Entry::default(); entries].into(),
+            store: vec![0; SLOT_BYTES * entries].into(),
+        }
+    }
+
+    /// How many entries it has.
+    pub fn entries(&self) -> usize {
+        self.table.len()
+    }
+
     /// Takes the records of a response that came from `port`.
     pub fn take(&mut self, now: u64, port: u16, message: &[u8]) -> Result<Taken, Refusal> {
         let (table, store) = (&mut self.table, &mut self.store);

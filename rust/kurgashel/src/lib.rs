@@ -25,7 +25,7 @@ mod reader;
 mod responder;
 mod setup;
 
-pub use cache::{Cache, Found, Taken};
+pub use cache::{Cache, Found, Taken, MOST_ENTRIES};
 pub use pairs::{txt_lookup, Pair};
 pub use reader::{
     message_refusal, name_end, name_length, Data, Message, Name, Question, Record, Section, Srv,

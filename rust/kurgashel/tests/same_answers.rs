@@ -22,8 +22,18 @@ fn blank() -> Responder {
 /// The console's calls over this crate.
 struct Exported {
     responder: Responder,
-    cache: Cache,
+    /// None where the console's table has a size of which this crate makes no cache.
+    cache: Option<Cache>,
     out: Vec<u8>,
+}
+
+/// A cache for the line `table`, where there is one of its sizes.
+fn sized(fields: &[&str]) -> Option<Cache> {
+    let entries = number(fields[1]);
+    let store = fields.get(2).map_or(1024 * entries, |field| number(field));
+    (store == 1024 * entries)
+        .then(|| Cache::with_entries(entries as usize).ok())
+        .flatten()
 }
 
 fn bytes(field: &str) -> Vec<u8> {
@@ -99,7 +109,7 @@ impl Exported {
     fn new() -> Exported {
         Exported {
             responder: blank(),
-            cache: Cache::default(),
+            cache: Some(Cache::default()),
             out: vec![0; 4096],
         }
     }
@@ -155,12 +165,13 @@ impl Exported {
             }
             "put" => {
                 let port = u16::try_from(number(fields[2])).ok()?;
-                let taken = self.cache.take(number(fields[1]), port, &bytes(fields[3]));
+                let cache = self.cache.as_mut()?;
+                let taken = cache.take(number(fields[1]), port, &bytes(fields[3]));
                 taken.map(|taken| format!("cached {} {}", taken.turned_away, taken.passed_over))
             }
             "look" => {
                 let rtype = u16::try_from(number(fields[3])).ok()?;
-                let found = self.cache.look_up(
+                let found = self.cache.as_ref()?.look_up(
                     number(fields[1]),
                     &bytes(fields[2]),
                     rtype,
@@ -181,8 +192,13 @@ impl Exported {
                 })
             }
             "clear" => {
-                self.cache = Cache::default();
+                let entries = self.cache.as_ref()?.entries();
+                self.cache = Cache::with_entries(entries).ok();
                 Ok("cleared".into())
+            }
+            "table" => {
+                self.cache = sized(&fields);
+                Ok("table".into())
             }
             "read" => Message::read(&bytes(fields[1])).map(|message| read_words(&message)),
             "txt" => {
@@ -312,6 +328,7 @@ fn the_reference_program_answers_alike() {
         "tick quiet",
         "put cached",
         "look slot",
+        "table table",
         "txt value",
         "read message",
     ] {

@@ -1,13 +1,15 @@
-//! "The cache": 64 entries with what their slots hold.
+//! "The cache": a table of entries with what their slots hold.
 
 use crate::message::{Message, Record, Section};
 use crate::name::{Labels, Name};
 use crate::refusal::Refusal;
 use crate::{class, rtype, MOST_TIME};
 
-pub const ENTRIES: usize = 64;
-pub const OWNER_ROOM: usize = 256;
-pub const RDATA_ROOM: usize = 768;
+/// "any size from 1 to 512 entries with 1,024 store bytes each"
+pub const MOST_ENTRIES: usize = 512;
+pub const SLOT: usize = OWNER_ROOM + RDATA_ROOM;
+const OWNER_ROOM: usize = 256;
+const RDATA_ROOM: usize = 768;
 
 /// A goodbye or a cache flush leaves a record one more second.
 const LAST_SECOND: u64 = 1000;
@@ -24,9 +26,13 @@ pub struct Entry {
     pub expiry: u64,
 }
 
+/// A table and a store. The store's bytes are kept with the entries; of sizes
+/// that are refused, all of them stay 0.
 #[derive(Clone, Debug)]
 pub struct Cache {
     entries: Vec<Entry>,
+    /// The length of the store.
+    store: usize,
 }
 
 /// "Counts are per call."
@@ -69,22 +75,49 @@ impl Entry {
         let mut slot = self.owner.clone();
         slot.resize(OWNER_ROOM, 0);
         slot.extend(&self.rdata);
-        slot.resize(OWNER_ROOM + RDATA_ROOM, 0);
+        slot.resize(SLOT, 0);
         slot
     }
 }
 
-impl Default for Cache {
-    fn default() -> Cache {
+impl Cache {
+    /// A table of so many entries and a store of so many bytes, all zeros; of
+    /// any sizes, which are judged by the calls.
+    pub fn new(entries: usize, store: usize) -> Cache {
         Cache {
-            entries: vec![Entry::default(); ENTRIES],
+            entries: vec![Entry::default(); entries],
+            store,
         }
     }
-}
 
-impl Cache {
     pub fn entries(&self) -> &[Entry] {
         &self.entries
+    }
+
+    /// The length of the store.
+    pub fn store(&self) -> usize {
+        self.store
+    }
+
+    /// Zeros again, of the same sizes.
+    pub fn clear(&mut self) {
+        self.entries.fill(Entry::default());
+    }
+
+    /// The entry of a slot that the table has and that lies whole in the store.
+    pub fn whole_slot(&self, slot: usize) -> Option<&Entry> {
+        let entry = self.entries.get(slot)?;
+        (SLOT * (slot + 1) <= self.store).then_some(entry)
+    }
+
+    /// Refusal 8: "a count outside that range or a store of another length". Here
+    /// the lengths in an entry are always legal.
+    pub fn check_sizes(&self) -> Result<(), Refusal> {
+        let entries = self.entries.len();
+        if !(1..=MOST_ENTRIES).contains(&entries) || self.store != SLOT * entries {
+            return Err(Refusal::Table);
+        }
+        Ok(())
     }
 
     /// Refusal 1: "time above 2^62, [...] or before any entry's receive time".
@@ -99,6 +132,7 @@ impl Cache {
     /// types, are taken in message order".
     pub fn put(&mut self, now: u64, port: u64, packet: &[u8]) -> Result<Counts, Refusal> {
         self.check_time(now)?;
+        self.check_sizes()?;
         let message = Message::read_from(port, packet)?;
         let mut counts = Counts::default();
         if message.is_response() {
@@ -171,6 +205,7 @@ impl Cache {
         from: u64,
     ) -> Result<Option<Found<'_>>, Refusal> {
         self.check_time(now)?;
+        self.check_sizes()?;
         let name = Name::from_wire(name)?;
         let matching = self.entries.iter().enumerate().find(|(slot, entry)| {
             *slot as u64 >= from && entry.is_live(now) && entry.has(&name, rtype)
@@ -194,6 +229,11 @@ mod tests {
 
     const OWNER: &[u8] = b"\x04dock\x05local\x00";
     const OTHER_CASE: &[u8] = b"\x04Dock\x05LOCAL\x00";
+
+    /// A table of 64 entries.
+    fn table() -> Cache {
+        Cache::new(64, 65_536)
+    }
 
     /// Owner, type, class, TTL and rdata.
     type TestRecord<'a> = (&'a [u8], u16, u16, u32, &'a [u8]);
@@ -226,7 +266,7 @@ mod tests {
     #[test]
     fn flush_at_5000() {
         for (received, expiry) in [(4000, 124_000), (3999, 6000)] {
-            let mut cache = Cache::default();
+            let mut cache = table();
             put(&mut cache, received, &[(OWNER, 1, 1, 120, &[1; 4])]);
             put(&mut cache, 5000, &[(OTHER_CASE, 1, 0x8001, 120, &[2; 4])]);
             assert_eq!(times(&cache, 0), (received, expiry));
@@ -236,7 +276,7 @@ mod tests {
 
     #[test]
     fn a_flush_restores_the_equal_entry_and_spares_the_burst_and_other_types() {
-        let mut cache = Cache::default();
+        let mut cache = table();
         put(
             &mut cache,
             0,
@@ -257,7 +297,7 @@ mod tests {
 
     #[test]
     fn goodbyes() {
-        let mut cache = Cache::default();
+        let mut cache = table();
         put(&mut cache, 0, &[(OWNER, 1, 1, 9, &[1; 4])]);
         put(&mut cache, 1, &[(OTHER_CASE, 1, 1, 0, &[1; 4])]);
         assert_eq!(times(&cache, 0), (0, 1001));
@@ -269,7 +309,7 @@ mod tests {
 
     #[test]
     fn refresh_keeps_the_spelling_and_a_dead_entry_is_replaced() {
-        let mut cache = Cache::default();
+        let mut cache = table();
         put(&mut cache, 0, &[(OTHER_CASE, 1, 1, 1, &[1; 4])]);
         put(&mut cache, 999, &[(OWNER, 1, 1, 1, &[1; 4])]);
         assert_eq!(times(&cache, 0), (999, 1999));
@@ -280,7 +320,7 @@ mod tests {
 
     #[test]
     fn a_full_table_turns_away() {
-        let mut cache = Cache::default();
+        let mut cache = table();
         let rdata: Vec<[u8; 4]> = (0..66).map(|i| [i, 0, 0, 0]).collect();
         let records: Vec<TestRecord> = rdata
             .iter()
@@ -299,8 +339,73 @@ mod tests {
     }
 
     #[test]
+    fn sizes() {
+        for (entries, store, legal) in [
+            (0, 0, false),
+            (1, 1024, true),
+            (1, 1023, false),
+            (1, 1025, false),
+            (1, 65_536, false),
+            (65, 65 * 1024, true),
+            (511, 511 * 1024, true),
+            (512, 512 * 1024, true),
+            (512, 64 * 1024, false),
+            (513, 513 * 1024, false),
+            (513, 512 * 1024, false),
+        ] {
+            let refusal = (!legal).then_some(Refusal::Table);
+            let mut cache = Cache::new(entries, store);
+            assert_eq!(cache.put(0, MDNS_PORT, &response(&[])).err(), refusal);
+            assert_eq!(cache.look(0, OWNER, 1, 0).err(), refusal);
+            // 1 before 8 before 4, 5 and 6
+            assert_eq!(cache.put(MOST_TIME + 1, 1, &[]), Err(Refusal::Time));
+            let next = refusal.unwrap_or(Refusal::MessageLength);
+            assert_eq!(cache.put(0, 1, &[]), Err(next));
+            let next = refusal.unwrap_or(Refusal::Malformed);
+            assert_eq!(cache.look(0, &[], 1, 0), Err(next));
+        }
+    }
+
+    #[test]
+    fn every_entry_of_a_table_counts() {
+        for entries in [1, 2, 63, 64, 65, 511, 512] {
+            let mut cache = Cache::new(entries, SLOT * entries);
+            let rdata: Vec<[u8; 4]> = (0..=entries as u32).map(u32::to_be_bytes).collect();
+            let records: Vec<TestRecord> = rdata
+                .iter()
+                .map(|rdata| (OWNER, 1, 1, 2, &rdata[..]))
+                .collect();
+            // (a message has no room for so many whole owners)
+            for record in &records[..entries - 1] {
+                assert_eq!(put(&mut cache, 0, &[*record]), (0, 0));
+            }
+            assert_eq!(put(&mut cache, 5, &records[entries - 1..]), (1, 0));
+            assert_eq!(times(&cache, entries - 1), (5, 2005));
+            let last = cache.look(5, OWNER, 1, entries as u64 - 1).unwrap();
+            assert_eq!(last.map(|found| found.slot), Some(entries - 1));
+            assert_eq!(cache.look(5, OWNER, 1, entries as u64), Ok(None));
+            assert_eq!(cache.look(4, OWNER, 1, 0), Err(Refusal::Time));
+            cache.clear();
+            assert_eq!(cache.entries(), vec![Entry::default(); entries]);
+        }
+    }
+
+    #[test]
+    fn slots_that_lie_whole_in_the_store() {
+        let slots = |entries, store| {
+            let cache = Cache::new(entries, store);
+            (0..9).filter(|k| cache.whole_slot(*k).is_some()).count()
+        };
+        assert_eq!(slots(0, 1024), 0);
+        assert_eq!(slots(1, 1023), 0);
+        assert_eq!(slots(2, 2047), 1);
+        assert_eq!(slots(2, 2048), 2);
+        assert_eq!(slots(2, 4096), 2);
+    }
+
+    #[test]
     fn long_rdata_is_passed_over_after_the_flush() {
-        let mut cache = Cache::default();
+        let mut cache = table();
         let fits = vec![0; 768];
         let long = vec![0; 769];
         assert_eq!(put(&mut cache, 0, &[(OWNER, 16, 1, 9, &fits)]), (0, 0));
@@ -318,7 +423,7 @@ mod tests {
 
     #[test]
     fn what_is_not_taken() {
-        let mut cache = Cache::default();
+        let mut cache = table();
         let record: &[TestRecord] = &[(OWNER, 1, 1, 9, &[1; 4])];
         let mut authority = response(record);
         authority.swap(7, 9);
@@ -333,7 +438,7 @@ mod tests {
 
     #[test]
     fn refusals() {
-        let mut cache = Cache::default();
+        let mut cache = table();
         put(&mut cache, 10, &[(OWNER, 1, 1, 0, &[1; 4])]);
         put(&mut cache, 10, &[(OWNER, 1, 1, 1, &[1; 4])]);
         assert_eq!(cache.look(9, OWNER, 1, 0), Err(Refusal::Time));

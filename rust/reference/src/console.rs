@@ -2,7 +2,7 @@
 
 use std::fmt::Write;
 
-use crate::cache::{Cache, Found};
+use crate::cache::{Cache, Found, MOST_ENTRIES, SLOT};
 use crate::message::{Message, Section};
 use crate::name::Labels;
 use crate::refusal::Refusal;
@@ -12,6 +12,10 @@ use crate::txt::{self, Answer, Source};
 
 pub const MOST_LINE: usize = 40_000;
 pub const OUT_BUFFER: usize = 4096;
+/// "The table has 64 entries at first."
+const FIRST_ENTRIES: usize = 64;
+/// One entry more than is legal can be had, to be refused.
+const MOST_TABLE: usize = MOST_ENTRIES + 1;
 
 /// One responder, one cache and one out buffer.
 pub struct Console {
@@ -73,6 +77,14 @@ fn parse_number(field: &[u8]) -> Result<u64, Trouble> {
             .and_then(|digit| number.checked_mul(10)?.checked_add(digit))
             .ok_or(Trouble::BadLine)
     })
+}
+
+/// A number over `most` makes the line a bad one.
+fn at_most(number: u64, most: usize) -> Result<usize, Trouble> {
+    usize::try_from(number)
+        .ok()
+        .filter(|number| *number <= most)
+        .ok_or(Trouble::BadLine)
 }
 
 fn hex_digit(byte: u8) -> Option<u8> {
@@ -140,7 +152,7 @@ impl Default for Console {
     fn default() -> Console {
         Console {
             responder: Responder::default(),
-            cache: Cache::default(),
+            cache: Cache::new(FIRST_ENTRIES, SLOT * FIRST_ENTRIES),
             out: vec![0; OUT_BUFFER],
         }
     }
@@ -176,6 +188,7 @@ impl Console {
             b"look" => self.look(fields),
             b"slot" => self.slot(fields),
             b"clear" => self.clear(fields),
+            b"table" => self.table(fields),
             b"txt" => txt_answer(fields),
             b"read" => read(fields),
             _ => Err(Trouble::BadLine),
@@ -204,20 +217,12 @@ impl Console {
         Ok("started".to_string())
     }
 
-    /// The lent part of the out buffer.
-    fn lent(&self, length: u64) -> Result<usize, Trouble> {
-        usize::try_from(length)
-            .ok()
-            .filter(|length| *length <= OUT_BUFFER)
-            .ok_or(Trouble::BadLine)
-    }
-
     fn recv(&mut self, mut fields: Fields) -> Result<String, Trouble> {
         let now = fields.number()?;
         let port = fields.number()?;
         let draw = fields.number()?;
         let packet = fields.bytes()?;
-        let lent = self.lent(fields.optional_number(LEAST_OUT as u64)?)?;
+        let lent = at_most(fields.optional_number(LEAST_OUT as u64)?, OUT_BUFFER)?;
         fields.end()?;
         let out = &mut self.out[..lent];
         let sent = self.responder.receive(now, port, draw, &packet, out)?;
@@ -229,7 +234,7 @@ impl Console {
 
     fn tick(&mut self, mut fields: Fields) -> Result<String, Trouble> {
         let now = fields.number()?;
-        let lent = self.lent(fields.optional_number(LEAST_OUT as u64)?)?;
+        let lent = at_most(fields.optional_number(LEAST_OUT as u64)?, OUT_BUFFER)?;
         fields.end()?;
         let sent = self.responder.tick(now, &mut self.out[..lent])?;
         Ok(match sent {
@@ -306,7 +311,7 @@ impl Console {
         fields.end()?;
         let entry = usize::try_from(slot)
             .ok()
-            .and_then(|slot| self.cache.entries().get(slot))
+            .and_then(|slot| self.cache.whole_slot(slot))
             .ok_or(Trouble::BadLine)?;
         Ok(format!(
             "slot {slot} {} {} {} {} {} {}",
@@ -321,8 +326,17 @@ impl Console {
 
     fn clear(&mut self, fields: Fields) -> Result<String, Trouble> {
         fields.end()?;
-        self.cache = Cache::default();
+        self.cache.clear();
         Ok("cleared".to_string())
+    }
+
+    fn table(&mut self, mut fields: Fields) -> Result<String, Trouble> {
+        let entries = at_most(fields.number()?, MOST_TABLE)?;
+        let store = fields.optional_number((SLOT * entries) as u64)?;
+        let store = at_most(store, SLOT * MOST_TABLE)?;
+        fields.end()?;
+        self.cache = Cache::new(entries, store);
+        Ok("table".to_string())
     }
 }
 
@@ -449,6 +463,15 @@ mod tests {
             "out 18446744073709551615 1",
             "out 4097 0",
             "slot 64",
+            "table",
+            "table ",
+            "table -1",
+            "table x",
+            "table 514",
+            "table 1 525313",
+            "table 1 -",
+            "table 1 1024 0",
+            "table 18446744073709551616",
             "txt 61 -",
             "read",
             "start 0 0 61 5f61 5f746370 61 6c6f63616c 65536 00 00000000 -",
@@ -503,6 +526,45 @@ mod tests {
         ] {
             let line = line.replace('H', header);
             assert_eq!(ask(&mut console, &line), answer, "{line}");
+        }
+    }
+
+    #[test]
+    fn tables_of_other_sizes() {
+        let mut console = Console::default();
+        let zeros = format!(" 0 0 0 0 0 {}", "00".repeat(1024));
+        for (line, answer) in [
+            ("slot 63", &format!("slot 63{zeros}")[..]),
+            ("table 0", "table"),
+            ("slot 0", "bad line"),
+            ("look 0 00 1 0", "refused 8"),
+            ("look 0 - 1 0", "refused 8"),
+            ("look 4611686018427387905 - 1 0", "refused 1"),
+            ("put 0 1 -", "refused 8"),
+            ("table 02 002047", "table"),
+            ("put 0 1 -", "refused 8"),
+            ("slot 1", "bad line"),
+            ("slot 0", &format!("slot 0{zeros}")),
+            ("table 2", "table"),
+            ("put 0 1 -", "refused 4"),
+            ("slot 1", &format!("slot 1{zeros}")),
+            ("slot 2", "bad line"),
+            ("look 0 00 1 2", "none"),
+            ("clear", "cleared"),
+            ("slot 2", "bad line"),
+            ("table 514", "bad line"),
+            ("slot 1", &format!("slot 1{zeros}")),
+            ("table 513 525312", "table"),
+            ("put 0 1 -", "refused 8"),
+            ("slot 512", &format!("slot 512{zeros}")),
+            ("slot 513", "bad line"),
+            ("table 512", "table"),
+            ("put 0 1 -", "refused 4"),
+            ("table 1 525312", "table"),
+            ("put 0 1 -", "refused 8"),
+            ("slot 1", "bad line"),
+        ] {
+            assert_eq!(ask(&mut console, line), answer, "{line}");
         }
     }
 

@@ -1,5 +1,4 @@
-//! "Refusal numbers" of the specification. Number 8 has no case here: this cache owns
-//! its table, which always has 64 entries of legal lengths.
+//! "Refusal numbers" of the specification.
 
 #[derive(Clone, Copy, Debug, PartialEq, Eq)]
 #[repr(u8)]
@@ -11,6 +10,7 @@ pub enum Refusal {
     Header = 5,
     Malformed = 6,
     Setup = 7,
+    Table = 8,
     Key = 9,
 }
 

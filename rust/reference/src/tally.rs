@@ -4,21 +4,49 @@
 use std::collections::{BTreeMap, BTreeSet};
 use std::fmt;
 
-#[derive(Default)]
-pub struct Tally(BTreeMap<String, u64>);
+pub struct Tally {
+    counts: BTreeMap<String, u64>,
+    /// The number of entries of the cache's table.
+    entries: usize,
+}
 
-impl Tally {
-    pub fn count(&mut self, line: &[u8], answer: &str) {
-        let word = line.split(|byte| *byte == b' ').next().unwrap_or(line);
-        let call = String::from_utf8_lossy(word).into_owned();
-        for kind in kinds(&call, answer) {
-            *self.0.entry(kind).or_insert(0) += 1;
+impl Default for Tally {
+    fn default() -> Tally {
+        Tally {
+            counts: BTreeMap::new(),
+            entries: 64,
         }
     }
 }
 
-/// The kinds an answer counts for.
-fn kinds(call: &str, answer: &str) -> Vec<String> {
+impl Tally {
+    pub fn count(&mut self, line: &[u8], answer: &str) {
+        let line = String::from_utf8_lossy(line);
+        let mut words = line.split(' ');
+        let call = words.next().unwrap_or_default();
+        if (call, answer) == ("table", "table") {
+            let entries = words.next().and_then(|entries| entries.parse().ok());
+            self.entries = entries.expect("a number of entries");
+        }
+        for kind in kinds(call, answer, entries_kind(self.entries)) {
+            *self.counts.entry(kind).or_insert(0) += 1;
+        }
+    }
+}
+
+fn entries_kind(entries: usize) -> &'static str {
+    match entries {
+        1 => "1",
+        2..64 => "2 to 63",
+        64 => "64",
+        65..512 => "65 to 511",
+        512 => "512",
+        _ => "no legal size",
+    }
+}
+
+/// The kinds an answer counts for, in a table of so many entries.
+fn kinds(call: &str, answer: &str, entries: &str) -> Vec<String> {
     let fields: Vec<&str> = answer.split(' ').collect();
     match (call, fields.as_slice()) {
         (_, ["bad", "line"]) => vec!["bad line".to_string()],
@@ -41,9 +69,9 @@ fn kinds(call: &str, answer: &str) -> Vec<String> {
             ]
         }
         ("put", ["cached", turned, passed]) => {
-            let mut kinds = vec!["put cached".to_string()];
+            let mut kinds = vec![format!("put cached in a table of {entries}")];
             if *turned != "0" {
-                kinds.push("put cached with turned away".to_string());
+                kinds.push(format!("put turned away by a table of {entries}"));
             }
             if *passed != "0" {
                 kinds.push("put cached with passed over".to_string());
@@ -65,10 +93,16 @@ fn kinds(call: &str, answer: &str) -> Vec<String> {
             kinds.extend(names_read(shown));
             kinds
         }
-        ("look", ["slot", _, _, _, _, labels, ..]) => vec![
-            "look slot".to_string(),
-            format!("look owner of {}", labels_kind(labels)),
-        ],
+        ("look", ["slot", slot, _, _, _, labels, ..]) => {
+            let mut kinds = vec![
+                format!("look slot in a table of {entries}"),
+                format!("look owner of {}", labels_kind(labels)),
+            ];
+            if slot.len() > 2 {
+                kinds.push("look slot past 99".to_string());
+            }
+            kinds
+        }
         (_, [first, ..]) => vec![format!("{call} {first}")],
         (_, []) => vec![],
     }
@@ -122,7 +156,7 @@ fn packet_kind(packet: &str) -> String {
 
 impl fmt::Display for Tally {
     fn fmt(&self, formatter: &mut fmt::Formatter) -> fmt::Result {
-        for (kind, count) in &self.0 {
+        for (kind, count) in &self.counts {
             writeln!(formatter, "{count:>9}  {kind}")?;
         }
         Ok(())

@@ -47,32 +47,6 @@ module _ (now : ℕ) (store name : List ℕ) (rtype i : ℕ) (e : Entry) where
   unfolding liveOf
   live-of h r k = k ∙ sym (simp h)
 
-  pub holds-length : (d : List ℕ) → (e .rdata ≡ length d → ⊥) → false ≡ holds now store name rtype d i e
-  unfolding holds
-  holds-length d h = sym (simp (ne-eqb _ _ h) (and-false (liveOf now store name rtype i e)))
-
-  pub holds-not : (d : List ℕ) → liveOf now store name rtype i e ≡ false → false ≡ holds now store name rtype d i e
-  unfolding holds
-  holds-not d h = sym (simp h)
-
-  pub holds-bytes : (d : List ℕ) → e .rdata ≡ length d → liveOf now store name rtype i e ≡ true → (r : Bool) (slot part : List ℕ) → slot ≡ slotOf store i → part ≡ take (e .rdata) (drop 256 slot) → r ≡ sameBytes part d
-      → r ≡ holds now store name rtype d i e
-  unfolding holds
-  holds-bytes d l v r slot part s p h =
-      h ∙ ap (λ (b : List ℕ). sameBytes b d) (p ∙ ap (λ (b : List ℕ). take (e .rdata) (drop 256 b)) s) ∙ sym (simp (v, eq-eqb _ _ l))
-
-  pub flush-young : now ≤ e .received + 1000 → e ≡ flushed now store name rtype i e
-  unfolding flushed
-  flush-young h = sym (simp (le-ltb _ _ h, and-false (liveOf now store name rtype i e)))
-
-  pub flush-other : liveOf now store name rtype i e ≡ false → e ≡ flushed now store name rtype i e
-  unfolding flushed
-  flush-other h = sym (simp h)
-
-  pub flush-old : e .received + 1000 < now → liveOf now store name rtype i e ≡ true → soon now e ≡ flushed now store name rtype i e
-  unfolding flushed
-  flush-old h v = sym (simp (v, lt-ltb _ _ h))
-
 -- the lesser of the expiry and now plus 1,000
 pub soon-same : (now : ℕ) (e : Entry) → e .expiry ≤ now + 1000 → e ≡ soon now e
 unfolding soon

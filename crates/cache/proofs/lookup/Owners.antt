@@ -45,7 +45,7 @@ owner-numbers now es store name rtype from i is h =
 -- a name that is looked up without refusal is one
 not-refused : (now : ℕ) (es : List Entry) (store name : List ℕ) → lookRefusal now es store name ≡ 0 → isName name ≡ true
 unfolding lookRefusal
-not-refused now es store name h = go (badTime now es) (badTable es) (badStore store) (isName name) h
+not-refused now es store name h = go (badTime now es) (badTable es) (badStore es store) (isName name) h
   where
     go : (a b c d : Bool) → _≡_ {A = ℕ} (cond a 1 (cond b 8 (cond c 8 (cond (not d) 6 0)))) 0 → d ≡ true
     go true b c d k = absurd (omega arith)

@@ -1,45 +1,56 @@
--- The refusals that both calls begin with, those of a table, from what the code has tested. Assumes nothing.
-use mathlib.Core.Path.{_≡_, refl, sym}
+-- The refusals that both calls begin with, those of a table. Assumes nothing.
+use mathlib.Core.Path.{_≡_, refl}
 use mathlib.Core.List.{List, _++_}
-use mathlib.Core.Bool.{Bool, true, false, cond, not, _||_}
-use Prim.Native.Nat.{ℕ, _<_, _≤_, _^_}
+use mathlib.Core.Bool.{Bool, true, false, cond, not, _&&_, _||_}
+use Prim.Native.Nat.{ℕ, _≤_, _^_}
 use native.Mathlib.Omega.{arith}
 use lib.ListN.{length}
-use lib.Dec.{ltb, eqb}
-use borrow.Author.Tests.{lt-ltb, le-ltb, eq-eqb, ne-eqb, ltb-false}
+use lib.Dec.{ltb, leb, eqb}
+use borrow.Author.Tests.{ltb-false, leb-true}
 use Rattle.cache.specs.entries.Entries.{heardAhead, tooLong}
 use Rattle.wire.specs.Lists.{some}
 use Rattle.wire.specs.refusals.Numbers.{firstRefusal}
-use Rattle.cache.specs.entries.Cache.{badTime, badTable, tableTests, entriesRefusal}
+use Rattle.cache.specs.entries.Cache.{isSize, badTime, badTable, tableTests, entriesRefusal}
 use Rattle.cache.specs.declared.entries.Entry.{Entry}
+
+-- what a size is
+pub size-least : (n : ℕ) → isSize n ≡ true → 1 ≤ n
+unfolding isSize
+size-least n h = go (leb 1 n) refl h
+  where
+    go : (b : Bool) → leb 1 n ≡ b → (b && leb n 512) ≡ true → 1 ≤ n
+    go true e k = leb-true 1 n e
+    go false e k = let z : _≡_ {A = ℕ} 0 1 = cc in absurd (omega arith)
+
+pub size-most : (n : ℕ) → isSize n ≡ true → n ≤ 512
+unfolding isSize
+size-most n h = go (leb 1 n) (leb n 512) refl h
+  where
+    go : (a b : Bool) → leb n 512 ≡ b → (a && b) ≡ true → n ≤ 512
+    go true true e k = leb-true n 512 e
+    go true false e k = let z : _≡_ {A = ℕ} 0 1 = cc in absurd (omega arith)
+    go false b e k = let z : _≡_ {A = ℕ} 0 1 = cc in absurd (omega arith)
 
 -- the entries of a table
 module _ (now : ℕ) (es : List Entry) where
-  pub late : 2 ^ 62 < now → 1 ≡ entriesRefusal now es
-  unfolding entriesRefusal
-  late h = sym (simp (lt-ltb _ _ h))
-
-  pub ahead : now ≤ 2 ^ 62 → some (heardAhead now) es ≡ true → 1 ≡ entriesRefusal now es
-  unfolding entriesRefusal
-  ahead h a = sym (simp (le-ltb _ _ h, a))
-
-  module _ (h : now ≤ 2 ^ 62) (a : some (heardAhead now) es ≡ false) (n : length es ≡ 64) where
-    pub long : some tooLong es ≡ true → 8 ≡ entriesRefusal now es
-    unfolding entriesRefusal
-    long l = sym (simp (le-ltb _ _ h, a, eq-eqb _ _ n, l))
-
-    pub passes : some tooLong es ≡ false → 0 ≡ entriesRefusal now es
-    unfolding entriesRefusal
-    passes l = sym (simp (le-ltb _ _ h, a, eq-eqb _ _ n, l))
-
   -- a time that was not refused
   pub not-late : entriesRefusal now es ≡ 0 → now ≤ 2 ^ 62
   unfolding entriesRefusal
   not-late e = go (ltb (2 ^ 62) now) refl e
     where
-      go : (b : Bool) → ltb (2 ^ 62) now ≡ b → _≡_ {A = ℕ} (cond (b || some (heardAhead now) es) 1 (cond (not (eqb (length es) 64) || some tooLong es) 8 0)) 0 → now ≤ 2 ^ 62
+      go : (b : Bool) → ltb (2 ^ 62) now ≡ b → _≡_ {A = ℕ} (cond (b || some (heardAhead now) es) 1 (cond (not (isSize (length es)) || some tooLong es) 8 0)) 0 → now ≤ 2 ^ 62
       go true h k = absurd (omega arith)
       go false h k = ltb-false (2 ^ 62) now h
+
+  -- a size that was not refused
+  pub has-size : entriesRefusal now es ≡ 0 → isSize (length es) ≡ true
+  unfolding entriesRefusal
+  has-size e = go (badTime now es) (isSize (length es)) e
+    where
+      go : (a b : Bool) → _≡_ {A = ℕ} (cond a 1 (cond (not b || some tooLong es) 8 0)) 0 → b ≡ true
+      go true b k = absurd (omega arith)
+      go false true k = refl
+      go false false k = absurd (omega arith)
 
 -- behind the refusals of a table come those of the call
 pub table-first : (now : ℕ) (es : List Entry) (tests : List (ℕ × Bool))

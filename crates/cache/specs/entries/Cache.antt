@@ -5,7 +5,7 @@ use mathlib.Core.List.{List, [], _∷_, _++_}
 use mathlib.Core.Bool.{Bool, cond, not, _&&_, _||_}
 use lib.ListN.{length, getD, set, replicate}
 use lib.Seq.{sets}
-use lib.Dec.{ltb, eqb}
+use lib.Dec.{ltb, leb, eqb}
 use Rattle.wire.specs.Lists.{some}
 use Rattle.wire.specs.refusals.Numbers.{TIME, MALFORMED, TABLE, firstRefusal}
 use Rattle.wire.specs.names.Names.{isName}
@@ -18,7 +18,7 @@ use Rattle.cache.specs.declared.entries.Entry.{Entry}
 use Rattle.cache.specs.declared.entries.Slot.{Slot}
 use Rattle.cache.specs.declared.entries.Slot.the-variants.{At, Nowhere}
 
--- "A lent table of 64 small entries", the byte store, and how many records of a call were turned away and passed over
+-- "A lent table" of small entries, the byte store, and how many records of a call were turned away and passed over
 pub record Cache : Type 0 where
   pub entries : List Entry
   pub store : List ℕ
@@ -103,13 +103,21 @@ atStart es store = record { entries = es; store = store; turned = 0; passed = 0 
 abbrev pub badTime : ℕ → List Entry → Bool
 badTime now es = ltb (2 ^ 62) now || some (heardAhead now) es
 
--- "8: cache table not 64 entries, .. or an entry with owner length over 255 or rdata length over 768"
-abbrev pub badTable : List Entry → Bool
-badTable es = not (eqb (length es) 64) || some tooLong es
+-- a table has 1 to 512 entries
+unfoldable pub isSize : ℕ → Bool
+isSize n = leb 1 n && leb n 512
 
--- "8: .. byte store not 65,536 bytes"
-abbrev pub badStore : List ℕ → Bool
-badStore store = not (eqb (length store) 65536)
+-- "8: cache table" of another size, ".. or an entry with owner length over 255 or rdata length over 768"
+abbrev pub badTable : List Entry → Bool
+badTable es = not (isSize (length es)) || some tooLong es
+
+-- n entries of a size have a store of exactly 1,024 bytes each
+unfoldable pub isStoreOf : ℕ → ℕ → Bool
+isStoreOf n bytes = isSize n && eqb bytes (1024 * n)
+
+-- "8: .. byte store" of another size
+abbrev pub badStore : List Entry → List ℕ → Bool
+badStore es store = not (isStoreOf (length es) (length store))
 
 -- "6: .. looked-up name malformed": "a pointer in that name, or bytes past its zero byte, is malformed"
 abbrev pub badName : List ℕ → Bool
@@ -123,17 +131,17 @@ unfoldable pub entriesRefusal : ℕ → List Entry → ℕ
 entriesRefusal now es = firstRefusal (tableTests now es)
 
 -- "Each call tests those that apply to it in the order 1, 2, 3, 8, 4, 5, 6, ..": the refusals of a message taken and of a lookup, behind those of the table
-abbrev pub takeTests : List ℕ → ℕ → List ℕ → List (ℕ × Bool)
-takeTests store port p = (TABLE, badStore store) ∷ messageTests port p
+abbrev pub takeTests : List Entry → List ℕ → ℕ → List ℕ → List (ℕ × Bool)
+takeTests es store port p = (TABLE, badStore es store) ∷ messageTests port p
 
-abbrev pub lookTests : List ℕ → List ℕ → List (ℕ × Bool)
-lookTests store name = (TABLE, badStore store) ∷ ((MALFORMED, badName name) ∷ [])
+abbrev pub lookTests : List Entry → List ℕ → List ℕ → List (ℕ × Bool)
+lookTests es store name = (TABLE, badStore es store) ∷ ((MALFORMED, badName name) ∷ [])
 
 unfoldable pub takeRefusal : ℕ → List Entry → List ℕ → ℕ → List ℕ → ℕ
-takeRefusal now es store port p = firstRefusal (tableTests now es ++ takeTests store port p)
+takeRefusal now es store port p = firstRefusal (tableTests now es ++ takeTests es store port p)
 
 unfoldable pub lookRefusal : ℕ → List Entry → List ℕ → List ℕ → ℕ
-lookRefusal now es store name = firstRefusal (tableTests now es ++ lookTests store name)
+lookRefusal now es store name = firstRefusal (tableTests now es ++ lookTests es store name)
 
 -- what the records of a message make of the cache
 abbrev pub takeRead : ℕ → Cache → Reads → Cache

@@ -1,13 +1,14 @@
 -- What a lookup answers (specification, 'The cache'). Assumes nothing: these are definitions.
 use Prim.Native.Nat.{ℕ}
-use mathlib.Core.List.{List}
-use mathlib.Core.Bool.{cond}
+use mathlib.Core.List.{List, [], _∷_}
+use mathlib.Core.Bool.{cond, not}
+use lib.ListN.{length}
 use lib.Dec.{eqb}
-use Rattle.wire.specs.refusals.Numbers.{firstRefusal}
+use Rattle.wire.specs.refusals.Numbers.{TABLE, MALFORMED, firstRefusal}
 use Rattle.cache.specs.declared.entries.Entry.{Entry}
 use Rattle.cache.specs.declared.entries.Slot.{Slot}
 use Rattle.cache.specs.declared.entries.Slot.the-variants as s
-use Rattle.cache.specs.entries.Cache.{lookTests, lookRefusal, lookIn}
+use Rattle.cache.specs.entries.Cache.{isStoreOf, badName, lookRefusal, lookIn}
 use Rattle.wire.specs.labels.Counted.{labelsIn, firstIn}
 use Rattle.cache.specs.declared.lookup.Met.{Met}
 use Rattle.cache.specs.declared.lookup.Looked.{Looked}
@@ -31,6 +32,6 @@ lookedNumber l.Nothing = 0
 unfoldable pub lookedOf : ℕ → List Entry → List ℕ → List ℕ → ℕ → ℕ → Looked
 lookedOf now es store name rtype from = lookedWith name (lookRefusal now es store name) (lookIn now es store name rtype from)
 
--- a lookup's refusal, from that of its table's entries
-abbrev pub lookedRefusal : ℕ → List ℕ → List ℕ → ℕ
-lookedRefusal number store name = cond (eqb number 0) (firstRefusal (lookTests store name)) number
+-- a lookup's refusal, from that of the entries of its table of n
+abbrev pub lookedRefusal : ℕ → ℕ → List ℕ → List ℕ → ℕ
+lookedRefusal number n store name = cond (eqb number 0) (firstRefusal ((TABLE, not (isStoreOf n (length store))) ∷ ((MALFORMED, badName name) ∷ []))) number

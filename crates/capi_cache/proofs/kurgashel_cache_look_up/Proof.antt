@@ -151,7 +151,7 @@ module _ {M : Type 1} (𝓤 : URA M) (H : Heap 𝓤) (A : Atoms 𝓤) (W : Given
   early = entriesRefusal time xs
 
   abbrev number : ℕ
-  number = lookedRefusal early bs ns
+  number = lookedRefusal early n bs ns
 
   abbrev answer : LookedNumbers
   answer = lookedNumbers (lookedOf time xs bs ns rtype start)
@@ -203,20 +203,28 @@ module _ {M : Type 1} (𝓤 : URA M) (H : Heap 𝓤) (A : Atoms 𝓤) (W : Given
 
     module _ (l₀ l₁ l₂ l₃ l₄ l₅ l₆ l₇ l₈ l₉ l₁₀ l₁₁ l₁₂ l₁₃ l₁₄ : ℕ) where
       abbrev En : Env 𝓤 H
-      En = (LN′.mir, l₀) ∷ (table, l₁) ∷ (bytes₁, l₂) ∷ (word, l₃) ∷ (bytes₂, l₄) ∷ (tyInt w16, l₅) ∷ (word, l₆) ∷ (tyInt w8, l₇) ∷ (word, l₈) ∷ (word, l₉) ∷ (tyInt w8, l₁₀) ∷ (tyBool, l₁₁) ∷ (tyBool, l₁₂) ∷ (tyBool, l₁₃) ∷ (E′.mir, l₁₄) ∷ []
+      En = (LN′.mir, l₀) ∷ (table, l₁) ∷ (bytes₁, l₂) ∷ (word, l₃) ∷ (bytes₂, l₄) ∷ (tyInt w16, l₅) ∷ (word, l₆) ∷ (word, l₇) ∷ (tyInt w8, l₈) ∷ (word, l₉) ∷ (tyInt w8, l₁₀) ∷ (tyBool, l₁₁) ∷ (tyBool, l₁₂) ∷ (tyBool, l₁₃) ∷ (E′.mir, l₁₄) ∷ []
 
       -- the tokens and what the slices own; then the locals, the last first, so local k stands at 34 - 2k, and that it dies after it
       abbrev Start : List (Item 𝓤)
       Start = ‵ (flft κ q) ∷ ‵ Own ∷ ‵ (flft κ₁ q₁) ∷ ‵ Own₁ ∷ ‵ (flft κ₂ q₂) ∷ ‵ Own₂
           ∷ ‵ (froom E′.mir l₁₄ 0) ∷ ‵ (fdies E′.mir l₁₄) ∷ ‵ (froom tyBool l₁₃ 0) ∷ ‵ (fdies tyBool l₁₃) ∷ ‵ (froom tyBool l₁₂ 0) ∷ ‵ (fdies tyBool l₁₂) ∷ ‵ (froom tyBool l₁₁ 0) ∷ ‵ (fdies tyBool l₁₁)
-          ∷ ‵ (froom (tyInt w8) l₁₀ 0) ∷ ‵ (fdies (tyInt w8) l₁₀) ∷ ‵ (froom word l₉ 0) ∷ ‵ (fdies word l₉) ∷ ‵ (froom word l₈ 0) ∷ ‵ (fdies word l₈) ∷ ‵ (froom (tyInt w8) l₇ 0) ∷ ‵ (fdies (tyInt w8) l₇)
+          ∷ ‵ (froom (tyInt w8) l₁₀ 0) ∷ ‵ (fdies (tyInt w8) l₁₀) ∷ ‵ (froom word l₉ 0) ∷ ‵ (fdies word l₉) ∷ ‵ (froom (tyInt w8) l₈ 0) ∷ ‵ (fdies (tyInt w8) l₈) ∷ ‵ (froom word l₇ 0) ∷ ‵ (fdies word l₇)
+          ∷ ‵ (fat fullShare word l₆ 0 (vint w64 start)) ∷ ‵ (fdies word l₆) ∷ ‵ (fat fullShare (tyInt w16) l₅ 0 (vint w16 rtype)) ∷ ‵ (fdies (tyInt w16) l₅) ∷ ‵ (fat fullShare bytes₂ l₄ 0 s₂) ∷ ‵ (fdies bytes₂ l₄) ∷ ‵ (fat fullShare word l₃ 0 (vint w64 time)) ∷ ‵ (fdies word l₃)
+          ∷ ‵ (fat fullShare bytes₁ l₂ 0 s₁) ∷ ‵ (fdies bytes₁ l₂) ∷ ‵ (fat fullShare table l₁ 0 s) ∷ ‵ (fdies table l₁) ∷ ‵ (froom LN′.mir l₀ 0) ∷ ‵ (fdies LN′.mir l₀) ∷ []
+
+      -- the same, the entries counted
+      abbrev Counted : List (Item 𝓤)
+      Counted = ‵ (flft κ q) ∷ ‵ Own ∷ ‵ (flft κ₁ q₁) ∷ ‵ Own₁ ∷ ‵ (flft κ₂ q₂) ∷ ‵ Own₂
+          ∷ ‵ (froom E′.mir l₁₄ 0) ∷ ‵ (fdies E′.mir l₁₄) ∷ ‵ (froom tyBool l₁₃ 0) ∷ ‵ (fdies tyBool l₁₃) ∷ ‵ (froom tyBool l₁₂ 0) ∷ ‵ (fdies tyBool l₁₂) ∷ ‵ (froom tyBool l₁₁ 0) ∷ ‵ (fdies tyBool l₁₁)
+          ∷ ‵ (froom (tyInt w8) l₁₀ 0) ∷ ‵ (fdies (tyInt w8) l₁₀) ∷ ‵ (froom word l₉ 0) ∷ ‵ (fdies word l₉) ∷ ‵ (froom (tyInt w8) l₈ 0) ∷ ‵ (fdies (tyInt w8) l₈) ∷ ‵ (fat fullShare word l₇ 0 (vint w64 n)) ∷ ‵ (fdies word l₇)
           ∷ ‵ (fat fullShare word l₆ 0 (vint w64 start)) ∷ ‵ (fdies word l₆) ∷ ‵ (fat fullShare (tyInt w16) l₅ 0 (vint w16 rtype)) ∷ ‵ (fdies (tyInt w16) l₅) ∷ ‵ (fat fullShare bytes₂ l₄ 0 s₂) ∷ ‵ (fdies bytes₂ l₄) ∷ ‵ (fat fullShare word l₃ 0 (vint w64 time)) ∷ ‵ (fdies word l₃)
           ∷ ‵ (fat fullShare bytes₁ l₂ 0 s₁) ∷ ‵ (fdies bytes₁ l₂) ∷ ‵ (fat fullShare table l₁ 0 s) ∷ ‵ (fdies table l₁) ∷ ‵ (froom LN′.mir l₀ 0) ∷ ‵ (fdies LN′.mir l₀) ∷ []
 
       abbrev At : Slot → List (Item 𝓤)
       At i = ‵ (flft κ q) ∷ ‵ Own ∷ ‵ (flft κ₁ q₁) ∷ ‵ Own₁ ∷ ‵ (flft κ₂ q₂) ∷ ‵ Own₂
           ∷ ‵ (froom E′.mir l₁₄ 0) ∷ ‵ (fdies E′.mir l₁₄) ∷ ‵ (froom tyBool l₁₃ 0) ∷ ‵ (fdies tyBool l₁₃) ∷ ‵ (froom tyBool l₁₂ 0) ∷ ‵ (fdies tyBool l₁₂) ∷ ‵ (froom tyBool l₁₁ 0) ∷ ‵ (fdies tyBool l₁₁)
-          ∷ ‵ (froom (tyInt w8) l₁₀ 0) ∷ ‵ (fdies (tyInt w8) l₁₀) ∷ ‵ (fat fullShare word l₉ 0 (vint w64 (i .0))) ∷ ‵ (fdies word l₉) ∷ ‵ (fat fullShare word l₈ 0 (vint w64 n)) ∷ ‵ (fdies word l₈) ∷ ‵ (froom (tyInt w8) l₇ 0) ∷ ‵ (fdies (tyInt w8) l₇)
+          ∷ ‵ (froom (tyInt w8) l₁₀ 0) ∷ ‵ (fdies (tyInt w8) l₁₀) ∷ ‵ (fat fullShare word l₉ 0 (vint w64 (i .0))) ∷ ‵ (fdies word l₉) ∷ ‵ (froom (tyInt w8) l₈ 0) ∷ ‵ (fdies (tyInt w8) l₈) ∷ ‵ (fat fullShare word l₇ 0 (vint w64 n)) ∷ ‵ (fdies word l₇)
           ∷ ‵ (fat fullShare word l₆ 0 (vint w64 start)) ∷ ‵ (fdies word l₆) ∷ ‵ (fat fullShare (tyInt w16) l₅ 0 (vint w16 rtype)) ∷ ‵ (fdies (tyInt w16) l₅) ∷ ‵ (fat fullShare bytes₂ l₄ 0 s₂) ∷ ‵ (fdies bytes₂ l₄) ∷ ‵ (fat fullShare word l₃ 0 (vint w64 time)) ∷ ‵ (fdies word l₃)
           ∷ ‵ (fat fullShare bytes₁ l₂ 0 s₁) ∷ ‵ (fdies bytes₁ l₂) ∷ ‵ (fat fullShare table l₁ 0 s) ∷ ‵ (fdies table l₁) ∷ ‵ (froom LN′.mir l₀ 0) ∷ ‵ (fdies LN′.mir l₀) ∷ []
 
@@ -224,7 +232,7 @@ module _ {M : Type 1} (𝓤 : URA M) (H : Heap 𝓤) (A : Atoms 𝓤) (W : Given
       abbrev Ready : Val → List (Item 𝓤)
       Ready v = ‵ (flft κ q) ∷ ‵ Own ∷ ‵ (flft κ₁ q₁) ∷ ‵ Own₁ ∷ ‵ (flft κ₂ q₂) ∷ ‵ Own₂
           ∷ ‵ (froom E′.mir l₁₄ 0) ∷ ‵ (fdies E′.mir l₁₄) ∷ ‵ (froom tyBool l₁₃ 0) ∷ ‵ (fdies tyBool l₁₃) ∷ ‵ (froom tyBool l₁₂ 0) ∷ ‵ (fdies tyBool l₁₂) ∷ ‵ (froom tyBool l₁₁ 0) ∷ ‵ (fdies tyBool l₁₁)
-          ∷ ‵ (froom (tyInt w8) l₁₀ 0) ∷ ‵ (fdies (tyInt w8) l₁₀) ∷ ‵ (froom word l₉ 0) ∷ ‵ (fdies word l₉) ∷ ‵ (froom word l₈ 0) ∷ ‵ (fdies word l₈) ∷ ‵ (froom (tyInt w8) l₇ 0) ∷ ‵ (fdies (tyInt w8) l₇)
+          ∷ ‵ (froom (tyInt w8) l₁₀ 0) ∷ ‵ (fdies (tyInt w8) l₁₀) ∷ ‵ (froom word l₉ 0) ∷ ‵ (fdies word l₉) ∷ ‵ (froom (tyInt w8) l₈ 0) ∷ ‵ (fdies (tyInt w8) l₈) ∷ ‵ (froom word l₇ 0) ∷ ‵ (fdies word l₇)
           ∷ ‵ (fat fullShare word l₆ 0 (vint w64 start)) ∷ ‵ (fdies word l₆) ∷ ‵ (fat fullShare (tyInt w16) l₅ 0 (vint w16 rtype)) ∷ ‵ (fdies (tyInt w16) l₅) ∷ ‵ (fat fullShare bytes₂ l₄ 0 s₂) ∷ ‵ (fdies bytes₂ l₄) ∷ ‵ (fat fullShare word l₃ 0 (vint w64 time)) ∷ ‵ (fdies word l₃)
           ∷ ‵ (fat fullShare bytes₁ l₂ 0 s₁) ∷ ‵ (fdies bytes₁ l₂) ∷ ‵ (fat fullShare table l₁ 0 s) ∷ ‵ (fdies table l₁) ∷ ‵ (fat fullShare LN′.mir l₀ 0 v) ∷ ‵ (fdies LN′.mir l₀) ∷ []
 
@@ -242,7 +250,7 @@ module _ {M : Type 1} (𝓤 : URA M) (H : Heap 𝓤) (A : Atoms 𝓤) (W : Given
         more : (i : Slot) → i .0 < n → Sq W (At i) (runs C Λ En mir.turn-1 (anyQ (Turned i)))
         unfolding afterTurn
         more i less =
-            assigns ! (bin ! (load ! (from ! (stop !)) (look ! 16 refl)) (load ! (from ! (stop !)) (look ! 18 refl)) tt) (from ! (stop !)) (init ! 10 refl (tt, tt)) $
+            assigns ! (bin ! (load ! (from ! (stop !)) (look ! 16 refl)) (load ! (from ! (stop !)) (look ! 20 refl)) tt) (from ! (stop !)) (init ! 10 refl (tt, tt)) $
             rewrite ! 10 (λ (t : Bool). ‵ (fat fullShare tyBool l₁₂ 0 (vbool t))) (lt-ltb (i .0) n less) refl $ stays ! (load ! (from ! (stop !)) (look ! 10 refl)) $
             asks-entry-at ! fm at-mem run known-at κ q γ xs b o (i .0) (i .1 .0) less (and-then ! (load ! (from ! (stop !)) (look ! 32 refl)) (and-then ! (load ! (from ! (stop !)) (look ! 16 refl)) (no-more !))) (λ v is.
             land ! (from ! (stop !)) (init ! 6 refl (LL.lawful E.the-type E′.the-laws 𝓤 H A W .typed e _ is .0)) $ move ! (2 ∷ 3 ∷ 4 ∷ 5 ∷ []) $
@@ -250,7 +258,7 @@ module _ {M : Type 1} (𝓤 : URA M) (H : Heap 𝓤) (A : Atoms 𝓤) (W : Given
             land ! (from ! (stop !)) (init ! 8 refl (tt, tt)) $
             first ! $ branches ! (load ! (from ! (stop !)) (look ! 8 refl)) (λ yes. move ! (4 ∷ 5 ∷ []) $ asks-found-look ! fm at-mem run known-found κ₂ q₂ b₂ o₂ γ₂ ns (i .0) (i .1 .0)
             (and-then ! (load ! (from ! (stop !)) (look ! 16 refl)) (and-then ! (load ! (from ! (stop !)) (look ! 26 refl)) (no-more !))) (λ u u-is. move ! (2 ∷ 3 ∷ 4 ∷ 5 ∷ []) $
-            land ! (from ! (stop !)) (init ! 34 refl (LL.lawful LN.the-type LN′.the-laws 𝓤 H A W .typed (foundLook ns (i .0)) _ u-is .0)) $ forget ! 6 refl $ forget ! 8 refl $ forget ! 10 refl $ forget ! 16 refl $ forget ! 18 refl $
+            land ! (from ! (stop !)) (init ! 34 refl (LL.lawful LN.the-type LN′.the-laws 𝓤 H A W .typed (foundLook ns (i .0)) _ u-is .0)) $ forget ! 6 refl $ forget ! 8 refl $ forget ! 10 refl $ forget ! 16 refl $ forget ! 20 refl $
             leaves _ refl u (subst (λ (y : LookedNumbers). Is LN.the-row y (u ∷ [])) (found yes) u-is)))
             (λ no. skips ! $ exec ! C Λ En onward (anyQ (Turned i)) $
             assigns-last ! (bin ! (load ! (from ! (stop !)) (look ! 16 refl)) (lit ! tt) (record { fits = next-fits })) (from ! (stop !)) (store ! 16 refl (tt, record { fits = next-fits })) $ forget ! 6 refl $ forget ! 8 refl $ forget ! 10 refl $
@@ -269,10 +277,10 @@ module _ {M : Type 1} (𝓤 : URA M) (H : Heap 𝓤) (A : Atoms 𝓤) (W : Given
         over : (i : Slot) → n ≤ i .0 → Sq W (At i) (runs C Λ En mir.turn-1 (anyQ (Turned i)))
         unfolding afterTurn
         over i all =
-            assigns ! (bin ! (load ! (from ! (stop !)) (look ! 16 refl)) (load ! (from ! (stop !)) (look ! 18 refl)) tt) (from ! (stop !)) (init ! 10 refl (tt, tt)) $
+            assigns ! (bin ! (load ! (from ! (stop !)) (look ! 16 refl)) (load ! (from ! (stop !)) (look ! 20 refl)) tt) (from ! (stop !)) (init ! 10 refl (tt, tt)) $
             rewrite ! 10 (λ (t : Bool). ‵ (fat fullShare tyBool l₁₂ 0 (vbool t))) (le-ltb (i .0) n all) refl $ leaves-loop ! (load ! (from ! (stop !)) (look ! 10 refl)) $ exec ! C Λ En mir.t-8 (atRet En Post) $
             calls-plain ! fm (NothingLook 𝓤 H A W at-mem run) known-nothing (to-nothing-look 𝓤 H A W at-mem run) (goes-nothing-look 𝓤 H A W at-mem run) (λ u. Is LN.the-row nothingLook (u ∷ [])) (gives-nothing-look 𝓤 H A W at-mem run) (no-more !) (λ u u-is.
-            land ! (from ! (stop !)) (init ! 34 refl (LL.lawful LN.the-type LN′.the-laws 𝓤 H A W .typed nothingLook _ u-is .0)) $ forget ! 10 refl $ forget ! 16 refl $ forget ! 18 refl $
+            land ! (from ! (stop !)) (init ! 34 refl (LL.lawful LN.the-type LN′.the-laws 𝓤 H A W .typed nothingLook _ u-is .0)) $ forget ! 10 refl $ forget ! 16 refl $ forget ! 20 refl $
             leaves _ refl u (subst (λ (y : LookedNumbers). Is LN.the-row y (u ∷ [])) (is-nothing time xs bs ns rtype start passed (search-end time xs bs ns rtype start (i .0) (i .1 .1) all)) u-is))
 
         turns : (i : Slot) → Sq W (At i) (runs C Λ En mir.turn-1 (anyQ (Turned i)))
@@ -283,23 +291,23 @@ module _ {M : Type 1} (𝓤 : URA M) (H : Heap 𝓤) (A : Atoms 𝓤) (W : Given
             go false e = over i (ltb-false (i .0) n e)
 
         -- not refused: the table is searched
-        goes-on : Sq W Start (runs C Λ En mir.t-5 (atRet En Post))
+        goes-on : Sq W Counted (runs C Λ En mir.t-6 (atRet En Post))
         goes-on =
-            asks-entry-count ! fm at-mem run known-count κ q γ xs b o (and-then ! (load ! (from ! (stop !)) (look ! 32 refl)) (no-more !)) $ land ! (from ! (stop !)) (init ! 18 refl (tt, record { fits = room .0 })) $
             assigns ! (of-opd ! (load ! (from ! (stop !)) (look ! 22 refl))) (from ! (stop !)) (init ! 16 refl (tt, record { fits = gs })) $
             first ! $ blocks ! $ loops ! 𝓣 Nearer Nearer-wf At turns (start, (gs, search-start time xs bs ns rtype start))
 
       begins : Sq W Start (runs C Λ En mir.t-1 (atRet En Post))
       begins =
+          asks-entry-count ! fm at-mem run known-count κ q γ xs b o (and-then ! (load ! (from ! (stop !)) (look ! 32 refl)) (no-more !)) $ land ! (from ! (stop !)) (init ! 20 refl (tt, record { fits = room .0 })) $
           asks-table-refusal ! fm at-mem run known-refusal κ q γ xs b o time gt (and-then ! (load ! (from ! (stop !)) (look ! 32 refl)) (and-then ! (load ! (from ! (stop !)) (look ! 28 refl)) (no-more !))) $ land ! (from ! (stop !)) (init ! 14 refl (tt, record { fits = entries-fits time xs })) $ move ! (2 ∷ 3 ∷ 4 ∷ 5 ∷ []) $
-          asks-look-refusal κ₁ κ₂ q₁ q₂ b₁ o₁ γ₁ bs b₂ o₂ γ₂ ns ! fm at-mem run known-look early (entries-fits time xs) (and-then ! (load ! (from ! (stop !)) (look ! 13 refl)) (and-then ! (load ! (from ! (stop !)) (look ! 29 refl)) (and-then ! (load ! (from ! (stop !)) (look ! 25 refl)) (no-more !)))) $ move ! (4 ∷ 5 ∷ []) $
-          land ! (from ! (stop !)) (init ! 20 refl (tt, record { fits = refusal-fits time xs bs ns })) $
-          assigns ! (bin ! (load ! (from ! (stop !)) (look ! 20 refl)) (lit ! tt) tt) (from ! (stop !)) (init ! 12 refl (tt, tt)) $
+          asks-look-refusal κ₁ κ₂ q₁ q₂ b₁ o₁ γ₁ bs b₂ o₂ γ₂ ns ! fm at-mem run known-look early n (entries-fits time xs) (room .0) (and-then ! (load ! (from ! (stop !)) (look ! 13 refl)) (and-then ! (load ! (from ! (stop !)) (look ! 19 refl)) (and-then ! (load ! (from ! (stop !)) (look ! 29 refl)) (and-then ! (load ! (from ! (stop !)) (look ! 25 refl)) (no-more !))))) $ move ! (4 ∷ 5 ∷ []) $
+          land ! (from ! (stop !)) (init ! 18 refl (tt, record { fits = refusal-fits time xs bs ns })) $
+          assigns ! (bin ! (load ! (from ! (stop !)) (look ! 18 refl)) (lit ! tt) tt) (from ! (stop !)) (init ! 12 refl (tt, tt)) $
           first ! $ branches ! (load ! (from ! (stop !)) (look ! 12 refl)) (λ refused. calls-plain ! fm (RefusedLook 𝓤 H A W at-mem run) known-refused (to-refused-look 𝓤 H A W at-mem run number) (goes-refused-look 𝓤 H A W at-mem run number (refusal-fits time xs bs ns)) (λ u. Is LN.the-row (refusedLook number) (u ∷ [])) (gives-refused-look 𝓤 H A W at-mem run number)
-          (and-then ! (load ! (from ! (stop !)) (look ! 21 refl)) (no-more !)) (λ u u-is.
-          land ! (from ! (stop !)) (init ! 34 refl (LL.lawful LN.the-type LN′.the-laws 𝓤 H A W .typed (refusedLook number) _ u-is .0)) $ forget ! 12 refl $ forget ! 14 refl $ forget ! 20 refl $
+          (and-then ! (load ! (from ! (stop !)) (look ! 19 refl)) (no-more !)) (λ u u-is.
+          land ! (from ! (stop !)) (init ! 34 refl (LL.lawful LN.the-type LN′.the-laws 𝓤 H A W .typed (refusedLook number) _ u-is .0)) $ forget ! 12 refl $ forget ! 14 refl $ forget ! 18 refl $ forget ! 20 refl $
           leaves _ refl u (subst (λ (y : LookedNumbers). Is LN.the-row y (u ∷ [])) (is-refused time xs bs ns rtype start (isnt number refused)) u-is)))
-          (λ ok. skips ! $ forget ! 12 refl $ forget ! 14 refl $ forget ! 20 refl $ exec ! C Λ En mir.t-5 (atRet En Post) $ goes-on (is-zero number ok))
+          (λ ok. skips ! $ forget ! 12 refl $ forget ! 14 refl $ forget ! 18 refl $ exec ! C Λ En mir.t-6 (atRet En Post) $ goes-on (is-zero number ok))
 
     walk : ent 𝓤 (onEntry 𝓤 H A f.signature (κ, (κ₁, (κ₂, tt))) (q, (q₁, (q₂, tt))) a vs) (WpFn 𝓤 H C Λ code.function (s ∷ s₁ ∷ vint w64 time ∷ s₂ ∷ vint w16 rtype ∷ vint w64 start ∷ []) Post)
     walk =

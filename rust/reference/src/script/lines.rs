@@ -2,6 +2,7 @@
 
 use super::packet::txt_of;
 use super::Script;
+use crate::cache::SLOT;
 use crate::console::{MOST_LINE, OUT_BUFFER};
 
 impl Script {
@@ -160,6 +161,17 @@ impl Script {
                         b"recv 0 5353 20",
                         b"put 0 5353",
                         b"clear 0",
+                        b"table",
+                        b"table ",
+                        b"table -",
+                        b"table 514",
+                        b"table 1 525313",
+                        b"table 0 525313",
+                        b"table 1 1024 0",
+                        b"table 1 -",
+                        b"table 65600",
+                        b"table 18446744073709551615",
+                        b"tables 1",
                     ]);
                     self.say(line);
                 }
@@ -182,7 +194,8 @@ impl Script {
             .iter()
             .map(|entry| entry.received);
         let received = received.max().unwrap_or(0);
-        let line = match self.random.below(8) {
+        let entries = self.model.cache.entries().len();
+        let line = match self.random.below(10) {
             0 => format!("tick {last}"),
             1 => format!("tick {last} 1452"),
             2 => format!("recv {last} 5353 20 000000000000000000000000"),
@@ -190,6 +203,8 @@ impl Script {
             4 => format!("put {received} 5353 000084000000000000000000"),
             5 => format!("look {received} 046465736b056c6f63616c00 1 0"),
             6 => "txt 6b 036b3d31 -".to_string(),
+            7 => format!("table {entries} {}", SLOT * entries),
+            8 => format!("slot {}", entries / 2),
             _ => {
                 "start 0 0 626f6f7468 5f766f696365 5f746370 646f636b 6c6f63616c 4000 00 0a000007 -"
                     .to_string()

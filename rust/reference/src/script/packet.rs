@@ -33,6 +33,8 @@ pub struct Draft {
     pub flags: u16,
     pub questions: Vec<(Vec<u8>, u16, u16)>,
     pub sections: [Vec<DraftRecord>; 3],
+    /// Whether every name is cut where it can be, so that as much as can be fits.
+    pub cut_all: bool,
 }
 
 impl DraftRecord {
@@ -138,7 +140,10 @@ impl Draft {
 
     /// The message, and where its rdata length fields are.
     pub fn encode_with_fields(&self, random: &mut Random) -> (Vec<u8>, Vec<usize>) {
-        let cutting = random.pick(&[0, 50, 100, 100]);
+        let cutting = match self.cut_all {
+            true => 100,
+            false => random.pick(&[0, 50, 100, 100]),
+        };
         let caseless = random.chance(15);
         let mut encoder = Encoder {
             random,

@@ -1,9 +1,10 @@
-//! Lives of the cache: full tables, flushes, goodbyes, times at the boundaries.
+//! Lives of the cache: tables of all sizes, full ones, flushes, goodbyes, times
+//! at the boundaries.
 
 use super::packet::{corner, labelled_name, long_name, some_rdata, some_record, some_ttl, txt_of};
 use super::packet::{Draft, DraftRecord};
 use super::Script;
-use crate::cache::ENTRIES;
+use crate::cache::SLOT;
 use crate::{rtype, MOST_TIME};
 
 const OWNERS: [&[u8]; 5] = [
@@ -13,14 +14,55 @@ const OWNERS: [&[u8]; 5] = [
     b"\x02[{\x02\xc3\x89\x05local\x00",
     b"\x00",
 ];
+/// Sizes of a table, and of a store where it has a length of its own.
+const LEGAL_TABLES: [&str; 14] = [
+    "1", "2", "3", "9", "63", "64", "64", "64 65536", "65", "0100", "300", "511", "512", "512",
+];
+const ODD_TABLES: [&str; 24] = [
+    "0",
+    "0 0",
+    "0 1024",
+    "0 65536",
+    "1 0",
+    "1 1023",
+    "1 1025",
+    "1 2048",
+    "1 525312",
+    "2 1024",
+    "2 2047",
+    "2 2049",
+    "63 65536",
+    "64 65535",
+    "64 65537",
+    "65 65536",
+    "511 524288",
+    "512 65536",
+    "512 524287",
+    "512 524289",
+    "513",
+    "513",
+    "513 524288",
+    "513 525311",
+];
+/// So many records of one long owner fit in a message.
+const MOST_FILL: u64 = 530;
 const FIVE: [u16; 5] = [rtype::A, rtype::PTR, rtype::TXT, rtype::AAAA, rtype::SRV];
 
 impl Script {
-    /// A while of puts and looks, with or without a clear before it.
+    /// A while of puts and looks, with or without a new table before it.
     pub(super) fn store(&mut self) {
+        if self.random.chance(25) {
+            self.odd_table();
+        }
         let mut now = self.cache_received();
-        if self.random.chance(35) || now + 5000 > MOST_TIME {
-            self.say("clear");
+        let legal = self.model.cache.check_sizes().is_ok();
+        if !legal || self.random.chance(35) || now + 5000 > MOST_TIME {
+            if legal && self.random.chance(50) {
+                self.say("clear");
+            } else {
+                let sizes = self.random.pick(&LEGAL_TABLES);
+                self.say(format!("table {sizes}"));
+            }
             now = self.random.pick(&[
                 0,
                 0,
@@ -40,10 +82,9 @@ impl Script {
                 45..=47 => self.put_refused(now),
                 48..=79 => self.look_some(now),
                 80..=90 => {
-                    let slot = self.random.below(ENTRIES);
                     let used = self.used_slots();
                     let slot = if used.is_empty() || self.random.chance(10) {
-                        slot
+                        self.some_slot()
                     } else {
                         self.random.pick(&used)
                     };
@@ -57,6 +98,42 @@ impl Script {
                 _ => self.look_odd(now),
             }
         }
+    }
+
+    /// A table or a store of sizes that are refused, and some calls on them.
+    fn odd_table(&mut self) {
+        let sizes = self.random.pick(&ODD_TABLES);
+        self.say(format!("table {sizes}"));
+        for _ in 0..self.random.within(1..=6) {
+            match self.random.below(9) {
+                0 | 1 => self.put_some(0),
+                2 => self.put_refused(0),
+                3 | 4 => self.look_some(0),
+                5 => self.look_odd(0),
+                6 if self.random.chance(20) => {
+                    self.say("clear");
+                }
+                _ => {
+                    let slot = self.some_slot();
+                    self.say(format!("slot {slot}"));
+                }
+            }
+        }
+    }
+
+    /// Any slot, often where the table or the store ends.
+    fn some_slot(&mut self) -> usize {
+        let entries = self.model.cache.entries().len();
+        let whole = self.model.cache.store() / SLOT;
+        let any = self.random.below(entries + 1);
+        let edges = [
+            entries.saturating_sub(1),
+            entries,
+            whole.saturating_sub(1),
+            whole,
+        ];
+        let edge = self.random.pick(&edges);
+        self.random.pick(&[any, edge, 0])
     }
 
     fn cache_received(&self) -> u64 {
@@ -144,7 +221,7 @@ impl Script {
         }
         match self.random.below(12) {
             0 => some_record(&mut self.random),
-            1 | 2 => {
+            1..=3 => {
                 let length = self.random.pick(&[767, 768, 769, 770, 1024]);
                 let rdata = txt_of(&mut self.random, length);
                 let entries = self.model.cache.entries().iter();
@@ -159,7 +236,7 @@ impl Script {
                 };
                 DraftRecord::new(&owner, rtype::TXT, class, ttl, &rdata)
             }
-            3 => {
+            4 => {
                 let length = self.random.pick(&[254, 255]);
                 let owner = long_name(&mut self.random, length);
                 let target = long_name(&mut self.random, 255);
@@ -197,24 +274,44 @@ impl Script {
         self.say(line);
         // what became of an entry
         let after = self.model.cache.entries();
-        let changed = (0..ENTRIES).find(|slot| before[*slot] != after[*slot]);
+        let changed = (0..after.len()).find(|slot| before[*slot] != after[*slot]);
         if let Some(slot) = changed.filter(|_| self.random.chance(30)) {
             self.say(format!("slot {slot}"));
         }
     }
 
-    /// So many records that the table is full.
+    /// About as many records as the table has entries; at times one more later,
+    /// and then a time between the two.
     fn fill(&mut self, now: u64) {
         let owner = self.owner();
         let ttl = self.random.pick(&[1, 2, 10, 120]);
+        let entries = self.model.cache.entries().len() as u64;
+        let count = match self.random.below(3) {
+            0 => self.random.pick(&[entries - 1, entries, entries + 1]),
+            _ => self.random.within(entries / 2..=entries * 3 / 2 + 2),
+        };
         let mut draft = Draft::response();
-        for number in 0..self.random.within(30..=90) {
-            let rdata = [172, 16, self.random.byte() & 1, number as u8];
+        draft.cut_all = entries > 64;
+        for number in 0..count.min(MOST_FILL) {
+            let rdata = [
+                172,
+                16 + (number >> 8) as u8,
+                self.random.byte() & 1,
+                number as u8,
+            ];
             draft.sections[0].push(DraftRecord::new(&owner, rtype::A, 1, ttl, &rdata));
         }
         let packet = self.packet(draft);
         let line = format!("put {now} 5353 {}", self.hex(&packet));
         self.say(line);
+        if self.random.chance(40) && now + 10 <= MOST_TIME {
+            self.put_some(now + 10);
+            if self.random.chance(50) {
+                self.put_some(now + 9);
+            } else {
+                self.look_some(now + 9);
+            }
+        }
     }
 
     fn put_refused(&mut self, now: u64) {
@@ -258,7 +355,7 @@ impl Script {
             owner
         };
         let from = match self.random.below(4) {
-            0 => self.random.below(ENTRIES + 2),
+            0 => self.random.below(self.model.cache.entries().len() + 2),
             1 if !used.is_empty() => self.random.pick(&used) + self.random.below(2),
             _ => 0,
         };
@@ -282,7 +379,12 @@ impl Script {
                     .random
                     .pick(&[0, 255, 65_535, 65_537, 65_536 + 16, u64::MAX])
             }
-            2 => from = self.random.pick(&[63, 64, 65, 1 << 32, u64::MAX]),
+            2 => {
+                let entries = self.model.cache.entries().len() as u64;
+                let last = entries.saturating_sub(1);
+                let past = [last, entries, entries + 1, 512, 1 << 32, u64::MAX];
+                from = self.random.pick(&past);
+            }
             3 => owner.push(0),
             4 => {
                 owner.pop();

@@ -13,6 +13,7 @@ usage: browser --service TYPE [options]
   --service TYPE       the service, such as '_voice._tcp'
   --interface ADDRESS  the interface to use, by its IPv4 address; else the one that multicasts leave by
   --factory STRING     a TXT string of the factory, such as 'volume=5', looked up where an instance has no such key; may be given several times
+  --entries NUMBER     how many records the cache has room for, 1 to 512; else 64
   --count NUMBER       stop when this many instances are shown
   --seconds NUMBER     stop after this many seconds; else on Ctrl-C
   --verbose            also tell of each packet that the library refuses
@@ -28,6 +29,8 @@ pub struct Options {
     pub service: Vec<u8>,
     pub interface: Option<Ipv4Addr>,
     pub factory: Vec<u8>,
+    /// How many entries the cache has, where it is said.
+    pub entries: Option<usize>,
     pub count: Option<usize>,
     pub seconds: Option<u64>,
     pub verbose: bool,
@@ -45,6 +48,7 @@ impl Options {
                 "--service" => options.service = service_name(&arguments.text(&option)?)?,
                 "--interface" => options.interface = Some(arguments.value(&option)?),
                 "--factory" => factory.push(arguments.text(&option)?),
+                "--entries" => options.entries = Some(entries(arguments.value(&option)?)?),
                 "--count" => options.count = Some(arguments.value(&option)?),
                 "--seconds" => options.seconds = Some(arguments.value(&option)?),
                 "--verbose" => options.verbose = true,
@@ -69,6 +73,16 @@ fn service_name(text: &str) -> Result<Vec<u8>, String> {
     ]))
 }
 
+fn entries(number: usize) -> Result<usize, String> {
+    if number == 0 || number > kurgashel::MOST_ENTRIES {
+        return Err(format!(
+            "--entries can't be {number}; it is 1 to {}",
+            kurgashel::MOST_ENTRIES
+        ));
+    }
+    Ok(number)
+}
+
 #[cfg(test)]
 mod tests {
     use super::*;
@@ -85,6 +99,15 @@ mod tests {
         assert_eq!(options.interface, Some(Ipv4Addr::LOCALHOST));
         assert_eq!(options.factory, b"\x03a=1");
         assert_eq!((options.count, options.seconds), (Some(2), None));
+        assert_eq!(options.entries, None);
+    }
+
+    #[test]
+    fn sizes_of_the_cache() {
+        for (number, is_taken) in [("0", false), ("1", true), ("512", true), ("513", false)] {
+            let read = read(&format!("--service _voice._tcp --entries {number}"));
+            assert_eq!(read.is_ok(), is_taken, "{number}");
+        }
     }
 
     #[test]

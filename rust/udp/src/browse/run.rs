@@ -31,7 +31,10 @@ pub fn run(options: &Options) -> Result<End, Box<dyn Error>> {
         options,
         link: Link::open(interface)?,
         clock: Clock::begin(),
-        cache: Cache::default(),
+        cache: match options.entries {
+            Some(entries) => Cache::with_entries(entries)?,
+            None => Cache::default(),
+        },
         schedule: Schedule::new(first),
         screen: Screen::default(),
         refused: Tally::default(),
@@ -118,6 +121,10 @@ impl Session<'_> {
     fn close(&mut self, wanted: usize) -> Result<End, Box<dyn Error>> {
         let now = self.clock.now();
         let mut out = io::stdout();
+        let all_live = format!(
+            "turned away, since all {} entries of the cache are live",
+            self.cache.entries()
+        );
         for instance in instances(&self.cache, now, &self.options.service)? {
             if let Some(line) = lacking(&instance) {
                 writeln!(out, "{line}")?;
@@ -125,10 +132,7 @@ impl Session<'_> {
         }
         write!(out, "{}", self.refused)?;
         for (count, why) in [
-            (
-                self.turned_away,
-                "turned away, since all 64 entries of the cache are live",
-            ),
+            (self.turned_away, all_live.as_str()),
             (
                 self.passed_over,
                 "passed over, since their data are over 768 bytes",

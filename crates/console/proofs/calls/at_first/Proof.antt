@@ -7,12 +7,12 @@ use Rattle.console.proofs.calls.at_first.Tie as tie
 at-first-requires : tie.Need-at-first-requires
 at-first-requires c κs = search needs
 
-no-entries-requires : tie.Need-no-entries-requires
-no-entries-requires c κs = search needs
+at-first-requires-2 : tie.Need-at-first-requires-2
+at-first-requires-2 c κs = search needs
 
 returns : tie.Need-returns
 unfolding heldAtFirst
-returns c = λ i. record { state = c .before .at-first .ensures i; entries = c .no-entries .ensures i }
+returns c = λ i. record { state = c .before .at-first .ensures i; table = c .at-first2 .ensures i }
 
 pub at-first-spec : {M : Type 1} → statement M
-at-first-spec = tie.close (tie.spec at-first-requires no-entries-requires returns)
+at-first-spec = tie.close (tie.spec at-first-requires at-first-requires-2 returns)

@@ -13,7 +13,7 @@ bad-line-requires : tie.Need-bad-line-requires
 bad-line-requires c κs = search needs
 
 returns : tie.Need-returns
-returns c = let a = c .before .before .before .before .before .before .args in not-clear (a .line .now) (a .es) (a .store .now) (sym (c .before .before .before .has-arguments .ensures) ∙ not-true _ (c .before .before .if1 .taken))
+returns c = let a = c .before .before .before .before .before .before .args in not-clear (a .line .now) (a .table) (a .store .now) (sym (c .before .before .before .has-arguments .ensures) ∙ not-true _ (c .before .before .if1 .taken))
 
 wipe-requires : tie.Need-wipe-requires
 wipe-requires c κs = search needs
@@ -24,14 +24,14 @@ slice-aggregate-only c = search needs
 only-requires : tie.Need-only-requires
 only-requires c κs = search needs
 
-no-entries-requires : tie.Need-no-entries-requires
-no-entries-requires c κs = search needs
+zeros-requires : tie.Need-zeros-requires
+zeros-requires c κs = search needs
 
 same-length : tie.Need-same-length
 same-length c = search needs
 
 returns-2 : tie.Need-returns-2
-returns-2 c = let a = c .before .before .before .before .before .before .before .before .before .before .before .before .args in is-clear (a .line .now) (a .es) (a .store .now) (sym (c .before .before .before .before .before .before .before .before .before .has-arguments .ensures) ∙ not-false _ (c .before .before .before .before .before .before .before .before .if1 .left)) _ _ (c .no-entries .ensures) (c .before .before .before .before .before .before .wipe .ensures)
+returns-2 c = let a = c .before .before .before .before .before .before .before .before .before .before .before .before .args in is-clear (a .line .now) (a .table) (a .store .now) (sym (c .before .before .before .before .before .before .before .before .before .has-arguments .ensures) ∙ not-false _ (c .before .before .before .before .before .before .before .before .if1 .left)) _ _ (c .zeros .ensures) (c .before .before .before .before .before .before .wipe .ensures)
 
 pub clear-spec : {M : Type 1} → statement M
 clear-spec =
@@ -43,6 +43,6 @@ clear-spec =
     wipe-requires
     slice-aggregate-only
     only-requires
-    no-entries-requires
+    zeros-requires
     same-length
     returns-2)

@@ -1,6 +1,6 @@
 -- `console_calls::cache_calls::is_call` meets its contract. Assumes nothing.
 use mathlib.Core.Path.{sym, _∙_}
-use Rattle.console_calls.proofs.cache_calls.After.{call-put, call-look, call-slot, call-clear}
+use Rattle.console_calls.proofs.cache_calls.After.{call-put, call-look, call-slot, call-table, call-clear}
 use borrow.Author.Needs.{needs}
 use Rattle.console_calls.proofs.cache_calls.is_call.Statement.{statement}
 use Rattle.console_calls.proofs.cache_calls.is_call.Tie as tie
@@ -39,7 +39,16 @@ same-bytes-requires-4 : tie.Need-same-bytes-requires-4
 same-bytes-requires-4 c κs = search needs
 
 returns-4 : tie.Need-returns-4
-returns-4 c = call-clear (c .before .before .before .before .before .before .before .before .before .before .before .before .args .word .now) (sym (c .before .before .before .before .before .before .before .before .before .same-bytes .ensures) ∙ c .before .before .before .before .before .before .before .before .if1 .left) (sym (c .before .before .before .before .before .before .same-bytes2 .ensures) ∙ c .before .before .before .before .before .if2 .left) (sym (c .before .before .before .same-bytes3 .ensures) ∙ c .before .before .if3 .left) _ (c .same-bytes4 .ensures)
+returns-4 c = call-table (c .before .before .before .before .before .before .before .before .before .before .before .before .before .args .word .now) (sym (c .before .before .before .before .before .before .before .before .before .before .same-bytes .ensures) ∙ c .before .before .before .before .before .before .before .before .before .if1 .left) (sym (c .before .before .before .before .before .before .before .same-bytes2 .ensures) ∙ c .before .before .before .before .before .before .if2 .left) (sym (c .before .before .before .before .same-bytes3 .ensures) ∙ c .before .before .before .if3 .left) (sym (c .before .same-bytes4 .ensures) ∙ c .if4 .taken)
+
+slice-aggregate-same-bytes-5 : tie.Need-slice-aggregate-same-bytes-5
+slice-aggregate-same-bytes-5 c = search needs
+
+same-bytes-requires-5 : tie.Need-same-bytes-requires-5
+same-bytes-requires-5 c κs = search needs
+
+returns-5 : tie.Need-returns-5
+returns-5 c = call-clear (c .before .before .before .before .before .before .before .before .before .before .before .before .before .before .before .args .word .now) (sym (c .before .before .before .before .before .before .before .before .before .before .before .before .same-bytes .ensures) ∙ c .before .before .before .before .before .before .before .before .before .before .before .if1 .left) (sym (c .before .before .before .before .before .before .before .before .before .same-bytes2 .ensures) ∙ c .before .before .before .before .before .before .before .before .if2 .left) (sym (c .before .before .before .before .before .before .same-bytes3 .ensures) ∙ c .before .before .before .before .before .if3 .left) (sym (c .before .before .before .same-bytes4 .ensures) ∙ c .before .before .if4 .left) _ (c .same-bytes5 .ensures)
 
 pub is-call-spec : {M : Type 1} → statement M
 is-call-spec =
@@ -56,4 +65,7 @@ is-call-spec =
     returns-3
     slice-aggregate-same-bytes-4
     same-bytes-requires-4
-    returns-4)
+    returns-4
+    slice-aggregate-same-bytes-5
+    same-bytes-requires-5
+    returns-5)

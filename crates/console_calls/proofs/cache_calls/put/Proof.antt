@@ -16,7 +16,7 @@ bad-line-requires : tie.Need-bad-line-requires
 bad-line-requires c κs = search needs
 
 returns : tie.Need-returns
-returns c = let a = c .before .before .before .before .before .before .args in not-put (a .line .now) (a .es) (a .store .now) (sym (c .before .before .before .is-put .ensures) ∙ not-true _ (c .before .before .if1 .taken))
+returns c = let a = c .before .before .before .before .before .before .args in not-put (a .line .now) (a .table) (a .store .now) (sym (c .before .before .before .is-put .ensures) ∙ not-true _ (c .before .before .if1 .taken))
 
 number-requires : tie.Need-number-requires
 number-requires c κs = search needs
@@ -39,8 +39,8 @@ slice-aggregate-front c = search needs
 front-requires : tie.Need-front-requires
 front-requires c κs = search needs
 
-take-by-value-requires : tie.Need-take-by-value-requires
-take-by-value-requires c κs = search needs
+take-message-requires : tie.Need-take-message-requires
+take-message-requires c κs = search needs
 
 taken-requires : tie.Need-taken-requires
 taken-requires c κs = search needs
@@ -50,10 +50,10 @@ same-length c = search needs
 
 returns-2 : tie.Need-returns-2
 returns-2 c =
-    let a = c .before .before .before .before .before .before .before .before .before .before .before .before .before .before .before .before .before .before .before .args in
-    is-put (a .line .now) (a .es) (a .store .now) (sym (c .before .before .before .before .before .before .before .before .before .before .before .before .before .before .before .before .is-put .ensures) ∙ not-false _ (c .before .before .before .before .before .before .before .before .before .before .before .before .before .before .before .if1 .left)) _ _ _ (c .before .before .before .before .before .before .before .before .before .before .before .before .before .before .number .ensures) (c .before .before .before .before .before .before .before .before .before .before .before .before .before .number-of-16 .ensures)
-    (in-room (a .line .now) 3 20000 _ _ (replicate 20000 0) _ _ (length-replicate {A = ℕ} 20000 0) (c .before .before .before .before .before .before .before .before .before .before .before .before .field .ensures) (c .before .before .before .before .before .before .before .before .before .before .fill .ensures .0) (c .before .before .before .before .before .before .before .before .before .before .fill .ensures .1) (c .before .before .before .before .before .before .front .ensures))
-    _ _ (let e = c .before .before .before .before .before .take-by-value .ensures in (e .0, e .1 .0))
+    let a = c .before .before .before .before .before .before .before .before .before .before .before .before .before .before .before .before .before .before .before .before .args in
+    is-put (a .line .now) (a .table) (a .store .now) (sym (c .before .before .before .before .before .before .before .before .before .before .before .before .before .before .before .before .before .is-put .ensures) ∙ not-false _ (c .before .before .before .before .before .before .before .before .before .before .before .before .before .before .before .before .if1 .left)) _ _ _ (c .before .before .before .before .before .before .before .before .before .before .before .before .before .before .before .number .ensures) (c .before .before .before .before .before .before .before .before .before .before .before .before .before .before .number-of-16 .ensures)
+    (in-room (a .line .now) 3 20000 _ _ (replicate 20000 0) _ _ (length-replicate {A = ℕ} 20000 0) (c .before .before .before .before .before .before .before .before .before .before .before .before .before .field .ensures) (c .before .before .before .before .before .before .before .before .before .before .before .fill .ensures .0) (c .before .before .before .before .before .before .before .before .before .before .before .fill .ensures .1) (c .before .before .before .before .before .before .before .front .ensures))
+    _ _ (c .before .before .before .before .before .before .take-message .ensures)
 
 pub put-spec : {M : Type 1} → statement M
 put-spec =
@@ -69,7 +69,7 @@ put-spec =
     fill-requires
     slice-aggregate-front
     front-requires
-    take-by-value-requires
+    take-message-requires
     taken-requires
     same-length
     returns-2)

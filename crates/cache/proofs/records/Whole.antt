@@ -1,0 +1,86 @@
+-- Of a record that is whole, what the code finds of an entry is what the rules say of the record that it shows. Assumes nothing.
+use mathlib.Core.Path.{_≡_, refl, sym, ap, ap₂, _∙_}
+use mathlib.Core.List.{List, [], _∷_}
+use mathlib.Core.Bool.{Bool, true, false, _&&_}
+use Prim.Native.Nat.{ℕ}
+use lib.ListN.{length}
+use native.Mathlib.Omega.{arith}
+use lib.Dec.{eqb}
+use borrow.Author.Tests.{eq-eqb, ne-eqb, eqb-true}
+use Rattle.wire.specs.case_folding.Fold.{lower, sameName}
+use Rattle.wire.specs.expansion.Equal.{sameBytes, rdataIs}
+use Rattle.wire.specs.expansion.Opened.{openedAt, viewOf}
+use Rattle.wire.specs.declared.expansion.Opened.{Opened}
+use Rattle.wire.proofs.expansion.Views.{view-is}
+use Rattle.wire.specs.rdata.Rdata.{Rdata, rdata, rdataAt}
+use Rattle.wire.specs.rdata.Answers.{fits, dataOf}
+use Rattle.wire.specs.message.Message.{Record}
+use Rattle.wire.specs.message.Readable.{wholeRead, recordShown}
+use Rattle.wire.specs.declared.message.RecordAt.{RecordAt}
+use Rattle.wire.specs.declared.message.RecordRead.{RecordRead}
+use Rattle.wire.specs.declared.message.RecordRead.the-variants as r
+use Rattle.wire.proofs.message.Walk.{RecordMet, record-found}
+use Rattle.cache.specs.entries.Entries.{ownerHeld, rdataHeld, isLive, isOf, liveOf, holds}
+use Rattle.cache.specs.declared.entries.Entry.{Entry}
+use Rattle.cache.specs.declared.records.Heard.{Heard}
+use Rattle.cache.specs.records.Heard.{blankRecord, heardOf, heardAt, isOfHeard, liveHeard, holdsHeard}
+
+eqb-swap : (a b : ℕ) → eqb a b ≡ eqb b a
+eqb-swap a b = go (eqb a b) refl
+  where
+    go : (t : Bool) → eqb a b ≡ t → t ≡ eqb b a
+    go true e = sym (eq-eqb b a (sym (eqb-true a b e)))
+    go false e = sym (ne-eqb b a (λ s. let z : true ≡ false = sym (eq-eqb a b (sym s)) ∙ e in let w : _≡_ {A = ℕ} 0 1 = cc in absurd (omega arith)))
+
+names-swap : (a b : List ℕ) → sameName a b ≡ sameName b a
+unfolding sameName
+names-swap [] [] = refl
+names-swap [] (y ∷ ys) = refl
+names-swap (x ∷ xs) [] = refl
+names-swap (x ∷ xs) (y ∷ ys) = ap₂ (λ (m n : Bool). m && n) (eqb-swap (lower x) (lower y)) (names-swap xs ys)
+
+bytes-swap : (a b : List ℕ) → sameBytes a b ≡ sameBytes b a
+unfolding sameBytes
+bytes-swap [] [] = refl
+bytes-swap [] (y ∷ ys) = refl
+bytes-swap (x ∷ xs) [] = refl
+bytes-swap (x ∷ xs) (y ∷ ys) = ap₂ (λ (m n : Bool). m && n) (eqb-swap x y) (bytes-swap xs ys)
+
+-- the record at an offset, from what the code has read
+module _ (p : List ℕ) (at : ℕ) (a : RecordRead) (is : a ≡ wholeRead p at) where
+  pub heard-found : (f : RecordAt) → a ≡ r.Found f → (o : Opened) → o ≡ openedAt p f → (seen : List ℕ) → seen ≡ viewOf p (o .bytes) (o .len) f
+      → _≡_ {A = Heard} (record { whole = true; at = f; len = length seen }) (heardAt p at)
+  unfolding heardAt
+  heard-found f e o opened seen s =
+      let met : RecordMet p at f = record-found p at a is f e in
+      let bytes : rdata seen ≡ rdataAt p f = ap rdata s ∙ sym (view-is p f (ap fits (met .content)) o opened) in
+      ap (λ (d : Rdata). record { whole = true; at = f; len = length (dataOf d) }) bytes ∙ ap (heardOf p) (sym e ∙ is)
+
+  pub heard-not : a ≡ r.Malformed → _≡_ {A = Heard} (record { whole = false; at = blankRecord; len = 0 }) (heardAt p at)
+  unfolding heardAt
+  heard-not e = ap (heardOf p) (sym e ∙ is)
+
+module _ (store p : List ℕ) (at : ℕ) (f : RecordAt) (met : RecordMet p at f) where
+  abbrev shown : Record
+  shown = recordShown p f
+
+  abbrev h : Heard
+  h = heardOf p (r.Found f)
+
+  of-shown : (i : ℕ) (e : Entry) → isOfHeard store p h i e ≡ isOf store (shown .owner) (shown .rtype) i e
+  unfolding isOfHeard isOf
+  of-shown i e =
+      ap₂ (λ (n : ℕ) (b : Bool). eqb (e .rtype) (f .rtype) && (eqb (e .owner) n && b)) (met .span) (met .named (ownerHeld store i e) ∙ names-swap (shown .owner) (ownerHeld store i e))
+
+  pub live-shown : (now i : ℕ) (e : Entry) → liveHeard now store p h i e ≡ liveOf now store (shown .owner) (shown .rtype) i e
+  unfolding liveHeard liveOf
+  live-shown now i e = ap (λ (b : Bool). isLive now e && b) (of-shown i e)
+
+  len-shown : h .len ≡ length (shown .rdata)
+  len-shown = refl
+
+  pub holds-shown : (now i : ℕ) (e : Entry) → holdsHeard now store p h i e ≡ holds now store (shown .owner) (shown .rtype) (shown .rdata) i e
+  unfolding holdsHeard holds
+  holds-shown now i e =
+      ap₂ (λ (a b : Bool). a && (eqb (e .rdata) (length (shown .rdata)) && b)) (live-shown now i e)
+      (ap (λ (d : Rdata). rdataIs d (rdataHeld store i e)) (met .content) ∙ bytes-swap (shown .rdata) (rdataHeld store i e))

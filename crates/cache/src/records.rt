@@ -1,0 +1,322 @@
+// One record of a message as it lies, against one entry by value (specification, 'The cache'): its owner and rdata are compared with the packet in place.
+// What the rules do to the entries follows from what was seen of them.
+ghost use mathlib.Core.Path.{_≡_};
+ghost use Rattle.cache.specs.entries.Cache.{isCached};
+ghost use Rattle.cache.specs.records.Heard.{heardAt, isTaken, isFlushing, isSought, isOfHeard, liveHeard, holdsHeard, flushedHeard};
+ghost use Rattle.cache.specs.records.Heard.{firstSlot, nothingSeen, freeNext, seenNext, chosenOf};
+use crate::entries::Entry;
+use crate::entries::Slot;
+
+// A record of a message as it lies; whether it is whole, and how many bytes its rdata has, names expanded.
+pub struct Heard {
+    pub whole: bool,
+    pub at: wire::message::RecordAt,
+    pub len: usize,
+}
+
+// What was seen of a table's entries: the lowest live equal entry, and, as long as there is none, the lowest entry not live.
+pub struct Seen {
+    pub equal: Slot,
+    pub free: Slot,
+}
+
+// What becomes of a record: a kind of change, and the slot that it changes.
+pub struct Choice {
+    pub kind: u8,
+    pub slot: usize,
+}
+
+// The kinds of change: none; an entry is to expire; it is refreshed; it takes the record; the record is turned away; it is passed over.
+pub const LEAVE: u8 = 0;
+
+pub const EXPIRE: u8 = 1;
+
+pub const REFRESH: u8 = 2;
+
+pub const FILL: u8 = 3;
+
+pub const TURN_AWAY: u8 = 4;
+
+pub const PASS_OVER: u8 = 5;
+
+// Whether records of a class and a type are cached.
+pub fn is_cached(class: u16, rtype: u16) -> bool
+    ensures { λ r. ⌜ r ≡ isCached class rtype ⌝ }
+{
+    if class % 32768 != 1 {
+        return false;
+    }
+    if rtype == wire::rdata::A {
+        return true;
+    }
+    if rtype == wire::rdata::PTR {
+        return true;
+    }
+    if rtype == wire::rdata::TXT {
+        return true;
+    }
+    if rtype == wire::rdata::AAAA {
+        return true;
+    }
+    rtype == wire::rdata::SRV
+}
+
+// The record at an offset.
+pub fn hear(p: &[u8], at: usize) -> Heard
+    ensures { λ r. ⌜ r ≡ heardAt (now (p .entry)) at ⌝ }
+{
+    match wire::message::whole_record(p, at) {
+        wire::message::RecordRead::Found(f) => {
+            let opened = wire::expansion::open(p, f);
+            let bytes = opened.bytes;
+            let content = wire::expansion::view(p, &bytes, opened.len, f);
+            Heard {
+                whole: true,
+                at: f,
+                len: content.len(),
+            }
+        }
+        wire::message::RecordRead::Malformed => Heard {
+            whole: false,
+            at: wire::message::RecordAt {
+                owner: 0,
+                span: wire::names::Span {
+                    end: 0,
+                    len: 0,
+                    labels: 0,
+                    first: 0,
+                },
+                rtype: 0,
+                class: 0,
+                ttl: 0,
+                rdata: 0,
+                rdlength: 0,
+                next: 0,
+            },
+            len: 0,
+        },
+    }
+}
+
+// Whether the rules are for a record.
+pub fn is_taken(h: Heard) -> bool
+    ensures { λ r. ⌜ r ≡ isTaken h ⌝ }
+{
+    let f = h.at;
+    if !h.whole {
+        return false;
+    }
+    is_cached(f.class, f.rtype)
+}
+
+// Whether rule 1 is for a record.
+pub fn is_flushing(h: Heard) -> bool
+    ensures { λ r. ⌜ r ≡ isFlushing h ⌝ }
+{
+    let f = h.at;
+    if f.class < 32768 {
+        return false;
+    }
+    is_taken(h)
+}
+
+// Whether rules 2 and 3 are for a record: its rdata fits a slot.
+pub fn is_sought(h: Heard) -> bool
+    ensures { λ r. ⌜ r ≡ isSought h ⌝ }
+{
+    if (crate::entries::MOST_RDATA as usize) < h.len {
+        return false;
+    }
+    is_taken(h)
+}
+
+// Whether the entry in slot i is of a record's name and type. The type and the lengths are compared before any byte is folded.
+pub fn is_of_heard(e: Entry, i: usize, store: &[u8], p: &[u8], h: Heard) -> bool
+    ensures { λ r. ⌜ r ≡ isOfHeard (now (store .entry)) (now (p .entry)) h i e ⌝ }
+{
+    let f = h.at;
+    if e.rtype != f.rtype {
+        return false;
+    }
+    let len = e.owner as usize;
+    if len != f.span.len {
+        return false;
+    }
+    wire::names::name_is(
+        p,
+        f.owner,
+        wire::rdata::part(crate::entries::slot_of(store, i), 0, len),
+    )
+}
+
+// Whether the entry in slot i is a live one of a record's name and type.
+pub fn is_live_heard(e: Entry, i: usize, store: &[u8], time: u64, p: &[u8], h: Heard) -> bool
+    ensures { λ r. ⌜ r ≡ liveHeard time (now (store .entry)) (now (p .entry)) h i e ⌝ }
+{
+    if !crate::entries::is_live(e, time) {
+        return false;
+    }
+    is_of_heard(e, i, store, p, h)
+}
+
+// Whether the entry in slot i is live and holds a record.
+pub fn is_equal(e: Entry, i: usize, store: &[u8], time: u64, p: &[u8], h: Heard) -> bool
+    ensures { λ r. ⌜ r ≡ holdsHeard time (now (store .entry)) (now (p .entry)) h i e ⌝ }
+{
+    let len = e.rdata as usize;
+    if len != h.len {
+        return false;
+    }
+    if !is_live_heard(e, i, store, time, p, h) {
+        return false;
+    }
+    let f = h.at;
+    wire::expansion::rdata_is(
+        p,
+        f,
+        wire::rdata::part(crate::entries::slot_of(store, i), 256, len),
+    )
+}
+
+// Rule 1 on the entry in slot i.
+pub fn flush_heard(e: Entry, i: usize, store: &[u8], time: u64, p: &[u8], h: Heard) -> Entry
+    ensures { λ r. ⌜ r ≡ flushedHeard time (now (store .entry)) (now (p .entry)) h i e ⌝ }
+{
+    if time <= e.received {
+        return e;
+    }
+    if time - e.received <= 1000 {
+        return e;
+    }
+    if !is_live_heard(e, i, store, time, p, h) {
+        return e;
+    }
+    if !is_flushing(h) {
+        return e;
+    }
+    crate::entries::to_expire(e, time)
+}
+
+// The slot at which a rule begins in a table of n entries: the first where it is for a record, else none.
+pub fn flush_from(h: Heard, n: usize) -> usize
+    ensures { λ r. ⌜ r ≡ firstSlot (isFlushing h) n ⌝ }
+{
+    if is_flushing(h) {
+        return 0;
+    }
+    n
+}
+
+pub fn seek_from(h: Heard, n: usize) -> usize
+    ensures { λ r. ⌜ r ≡ firstSlot (isSought h) n ⌝ }
+{
+    if is_sought(h) {
+        return 0;
+    }
+    n
+}
+
+// What is seen before the first entry.
+pub fn nothing_seen() -> Seen
+    ensures { λ r. ⌜ r ≡ nothingSeen ⌝ }
+{
+    Seen {
+        equal: Slot::Nowhere,
+        free: Slot::Nowhere,
+    }
+}
+
+// The lowest entry not live, after the one in slot i.
+fn free_after(free: Slot, e: Entry, i: usize, time: u64) -> Slot
+    ensures { λ r. ⌜ r ≡ freeNext time i free e ⌝ }
+{
+    match free {
+        Slot::At(k) => Slot::At(k),
+        Slot::Nowhere => {
+            if crate::entries::is_live(e, time) {
+                return Slot::Nowhere;
+            }
+            Slot::At(i)
+        }
+    }
+}
+
+// What is seen after the entry in slot i.
+pub fn visit(seen: Seen, e: Entry, i: usize, store: &[u8], time: u64, p: &[u8], h: Heard) -> Seen
+    ensures { λ r. ⌜ r ≡ seenNext time (now (store .entry)) (now (p .entry)) h i seen e ⌝ }
+{
+    let equal = seen.equal;
+    let free = seen.free;
+    match equal {
+        Slot::At(k) => Seen {
+            equal: Slot::At(k),
+            free,
+        },
+        Slot::Nowhere => {
+            let next = free_after(free, e, i, time);
+            if is_equal(e, i, store, time, p, h) {
+                return Seen {
+                    equal: Slot::At(i),
+                    free: next,
+                };
+            }
+            Seen {
+                equal: Slot::Nowhere,
+                free: next,
+            }
+        }
+    }
+}
+
+// What becomes of a record, after what was seen.
+pub fn chosen(h: Heard, seen: Seen) -> Choice
+    ensures { λ r. ⌜ r ≡ chosenOf h seen ⌝ }
+{
+    if !is_taken(h) {
+        return Choice {
+            kind: LEAVE,
+            slot: 0,
+        };
+    }
+    if (crate::entries::MOST_RDATA as usize) < h.len {
+        return Choice {
+            kind: PASS_OVER,
+            slot: 0,
+        };
+    }
+    let f = h.at;
+    let equal = seen.equal;
+    let free = seen.free;
+    match equal {
+        Slot::At(i) => {
+            if f.ttl == 0 {
+                return Choice {
+                    kind: EXPIRE,
+                    slot: i,
+                };
+            }
+            Choice {
+                kind: REFRESH,
+                slot: i,
+            }
+        }
+        Slot::Nowhere => {
+            if f.ttl == 0 {
+                return Choice {
+                    kind: LEAVE,
+                    slot: 0,
+                };
+            }
+            match free {
+                Slot::At(i) => Choice {
+                    kind: FILL,
+                    slot: i,
+                },
+                Slot::Nowhere => Choice {
+                    kind: TURN_AWAY,
+                    slot: 0,
+                },
+            }
+        }
+    }
+}
