@@ -28,7 +28,11 @@ while read -r kind; do
     }
 done <<'KINDS'
 bad line
-start started
+start started with ASCII
+start started with UTF-8
+start refused 7 with UTF-8
+start refused 7 with no UTF-8
+start refused 7 with a control byte
 recv quiet
 recv sent response of 4
 recv refused 7

@@ -46,10 +46,10 @@ enum {
 /* What a responder is set up with: labels as bytes with their lengths, without length bytes or dots, and the data of its records. Bytes past a length,
  * and aaaa where bit 0 of has_aaaa is 0, say nothing. Only bytes, so its layout is the same everywhere and nothing pads it. */
 struct kurgashel_setup {
-    uint8_t instance[63], instance_length; /* 1..63 bytes, such as "Booth 4" */
+    uint8_t instance[63], instance_length; /* 1..63 bytes of UTF-8 (RFC 3629) without 00..1F and 7F, such as "Booth 4" */
     uint8_t service[16], service_length;   /* "_" and a service name of RFC 6335, such as "_voice" */
     uint8_t protocol[4];                   /* "_tcp" or "_udp" */
-    uint8_t host[63], host_length;         /* 1..63 bytes */
+    uint8_t host[63], host_length;         /* 1..63 bytes, any */
     uint8_t domain[5];                     /* "local" */
     uint8_t port[2];                       /* most significant byte first */
     uint8_t txt[400], txt_length[2];       /* 1..400 bytes of strings, each behind its length byte; one zero byte for none */

@@ -49,6 +49,8 @@ static void sizes(void) {
 static void setups(void) {
     keep();
     struct kurgashel_setup s = good; s.instance_length = 0; expect(is(start(&s, 0, 0), 7), "no instance label");
+    s = good; s.instance[2] = '\n'; expect(is(start(&s, 0, 0), 7), "a line feed in the instance label");
+    s = good; s.instance[4] = 0xc3; expect(is(start(&s, 0, 0), 7), "an instance label that ends within a character");
     s = good; s.host_length = 64; expect(is(start(&s, 0, 0), 7), "a host label of 64 bytes");
     s = good; s.service[0] = '-'; expect(is(start(&s, 0, 0), 7), "a service without its underscore");
     s = good; s.protocol[1] = 'T'; expect(is(start(&s, 0, 0), 7), "another protocol");

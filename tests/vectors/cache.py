@@ -389,6 +389,13 @@ put(0, response(record(SERVICE, PTR, BOOTH), record(BOOTH, SRV, bytes(6) + HOST)
 look(0, SERVICE, PTR)
 look(0, BOOTH, SRV)
 
+show("a line feed, DEL and bytes that are no UTF-8 in names are stored and looked up like any others")
+clear()
+owners = [name(label, b"local") for label in (b"two\nlines", b"\x7f", b"\xc0\x80", b"caf\xc3")]
+put(0, response(*(record(owner, PTR, owner) for owner in owners)))
+for owner in owners:
+    look(0, owner, PTR)
+
 show("an entry of the root: found by the root alone")
 clear()
 put(0, response(address(owner=b"\0")))

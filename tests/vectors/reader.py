@@ -113,6 +113,11 @@ read(header(qd=1) + b"\x05abcde")
 show("bytes of a label are any bytes: zeros, dots, capitals, 0xff")
 read(header(qd=1) + question(name(b"\0.A\xff")))
 
+show("in names that are received a line feed, DEL and bytes that are no UTF-8 stand like any others: question, owner, targets")
+for label in (b"two\nlines", b"\x7f", b"\x80", b"\xc0\x80", b"\xed\xa0\x80", b"\xf5\x80\x80\x80", b"caf\xc3"):
+    odd = name(label, b"_voice", b"_tcp", b"local")
+    read(header(1, 1, 1, 1) + question(odd) + record(odd, TXT, b"\0") + record(b"\0", PTR, odd) + record(b"\0", SRV, bytes(6) + odd))
+
 show("the root as a name")
 read(header(qd=1) + question(b"\0"))
 

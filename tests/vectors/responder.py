@@ -311,6 +311,21 @@ claims()
 for t in (929, 930, 1180, 1430, 1680, 1780, 2680, 2680):
     tick(t)
 claims()
+show("the second step leaves out what was multicast less than 1,000 ms ago: SRV and TXT, then all of the host's, where it is taken and passed")
+state("announced", aaaa=SIX)
+recv(1050, query([question(INSTANCE)], authority=[record(INSTANCE, TXT, b"\0")]))
+recv(1051, query([question(HOST)], authority=[record(HOST, A, TEN)]))
+for t in (1749, 1750, 1750, 1750):
+    tick(t)
+claims()
+show("a record multicast 1,000 ms before its second step, by a late tick, and one 999 ms before")
+for gap in (1000, 999):
+    state("announced", aaaa=SIX)
+    recv(1050, query([question(HOST), question(INSTANCE, SRV)], authority=[record(HOST, A, TEN)]))
+    tick(1050 + gap)
+    tick(1050 + gap)
+    claims()
+
 show("a conflict with the second announcement to come: it is not sent")
 state("announced")
 recv(760, response([other, record(INSTANCE, TXT, b"\1x")]))
@@ -408,7 +423,8 @@ def announced(what, **setup):
     claims()
 
 
-LONGEST = dict(instance=bytes(range(1, 64)), service=b"_" + b"s" * 15, protocol=b"_udp", host=b"h" * 63, txt=b"\xff" + b"x" * 255 + b"\x8f" + b"y" * 143, aaaa=SIX, port=65535)
+STRINGS = b"\xff" + b"x" * 255 + b"\x8f" + b"y" * 143
+LONGEST = dict(instance=bytes(range(0x20, 0x5F)), service=b"_" + b"s" * 15, protocol=b"_udp", host=b"h" * 63, txt=STRINGS, aaaa=SIX, port=65535)
 announced("longest labels and a TXT of 400 bytes: probes, announcements, and all that is asked for at once", **LONGEST)
 longest = [labels(LONGEST[k]) for k in ("instance", "service", "protocol", "host")]
 recv(5000, query([question(longest[3] + name(b"local")), question(longest[0] + longest[1] + longest[2] + name(b"local"))]))
@@ -417,13 +433,91 @@ announced("host label '_voice' and instance label '_tcp'", host=b"_voice", insta
 announced("host and instance label the same", host=b"booth")
 announced("labels that differ only in case are not pointed at: host 'Booth', instance 'booth'", host=b"Booth")
 announced("host label '_TCP' is not pointed at", host=b"_TCP")
-announced("labels with dots, zero bytes and the bytes of 'local'", instance=b"a.b\0\xff", host=b"\5local")
+announced("labels with dots, bytes past ASCII, zero bytes and the bytes of 'local'", instance=b"a.b \xc3\xbf", host=b"\0\xff\5local\0")
 announced("host label 'local', instance label 'local'", instance=b"local", host=b"local")
 announced("TXT with the bytes of a name is never pointed at", txt=b"\x0c" + HOST + b"\7\5local\0", host=b"dock")
-announced("instance label with the bytes of the labels after it", instance=b"x\6_voice\4_tcp\5local", host=b"x")
+announced("host label with the bytes of the labels of other names", host=b"x\6_voice\4_tcp\5local\0")
+announced("instance label that reads as the labels after it, with dots", instance=b"x._voice._tcp.local", host=b"x")
 show("names asked for in other case, and through pointers")
 recv(9000, query([question(name(b"X", b"LOCAL"), A), question(pointer(14), A)]))
 recv(11000, query([question(name(b"y", b"x", b"local"), A), question(pointer(14), A)]))
+
+# --- instance labels ----------------------------------------------------------------------------------------------------
+
+ACUTE, COFFEE, CRAB = "\u00e9".encode(), "\u2615".encode(), "\U0001f980".encode()
+
+
+def placed(form):
+    """Set-ups whose instance label is a form alone, at the end, in front and in the middle of text, and behind another form."""
+    for label in (form, b"a" + form, form + b"b", b"a" + form + b"b", ACUTE + form + CRAB):
+        start(instance=label)
+
+
+show("bytes 00 to 1f and 7f in an instance label are refused as 7, wherever they stand; 20 and 7e are not")
+for b in (*range(0x20), 0x7F, 0x20, 0x7E):
+    placed(bytes([b]))
+show("each byte 80 to ff alone is no UTF-8")
+for b in range(0x80, 0x100):
+    start(instance=bytes([b]))
+show("forms of two bytes: from C2 80 to DF BF; C0 and C1 begin overlong ones; 7e, 7f, c0 and c2 are no tail")
+for form in ("c080", "c0af", "c0bf", "c180", "c1bf", "c280", "c285", "c29f", "c2a0", "c2bf", "df80", "dfbf", "c27e", "c27f", "c2c0", "c2c280", "dfc0", "df41"):
+    placed(bytes.fromhex(form))
+show("forms of three bytes: after E0 from A0, which leaves out overlong ones; after ED to 9F, which leaves out surrogates; U+FEFF, U+FFFE and U+FFFF are legal")
+for form in ("e08080", "e09fbf", "e0a080", "e0bfbf", "e0c080", "e17f80", "e18080", "e1bfbf", "ecbfbf", "ed8080", "ed9fbf", "eda080", "edafbf", "edb080",
+             "edbfbf", "ee8080", "efbbbf", "efbfbd", "efbfbe", "efbfbf", "efbf7f", "efbfc0", "efc080", "e1807e", "e180e1", "eda080edb080"):
+    placed(bytes.fromhex(form))
+show("forms of four bytes: after F0 from 90, which leaves out overlong ones; after F4 to 8F, which is U+10FFFF; F5 and up begin none")
+for form in ("f0808080", "f08fbfbf", "f0908080", "f0bfbfbf", "f0c08080", "f18080c0", "f180c080", "f1c08080", "f17e8080", "f1807e80", "f180807e", "f1808080",
+             "f3bfbfbf", "f4808080", "f48fbfbf", "f4908080", "f4bfbfbf", "f5808080", "f6bfbfbf", "f7bfbfbf", "f888808080", "fbbfbfbfbf", "fc8480808080",
+             "fdbfbfbfbfbf", "fe", "ff", "feff", "fffe"):
+    placed(bytes.fromhex(form))
+show("each form cut short, at the label's end and in the middle")
+for form in ("c280", "dfbf", "e0a080", "e18080", "ecbfbf", "ed9fbf", "ee8080", "efbfbf", "f0908080", "f1808080", "f3bfbfbf", "f48fbfbf"):
+    for cut in range(1, len(form) // 2):
+        placed(bytes.fromhex(form)[:cut])
+show("forms of one, two, three and four bytes in a row; a tail too many behind each")
+start(instance=b"a" + ACUTE + COFFEE + CRAB)
+for form in (b"a", ACUTE, COFFEE, CRAB):
+    placed(form + b"\x80")
+show("63 bytes that end in a whole form of two, three and four bytes; in one that is cut; and 64 bytes, of which the last completes it")
+for form in (ACUTE, COFFEE, CRAB):
+    start(instance=b"a" * (63 - len(form)) + form)
+    for cut in range(1, len(form)):
+        start(instance=b"a" * (63 - cut) + form[:cut])
+        start(instance=b"a" * (63 - cut) + form)
+start(instance=CRAB * 15 + COFFEE)
+start(instance=CRAB * 16)
+start(instance=COFFEE * 21)
+start(instance=ACUTE * 31 + b"\n")
+start(instance=b"\n" * 63)
+start(instance=b"\n" * 64)
+show("the order 1, 2, 7 with a line feed in the instance label; a refused start changes nothing")
+start(5)
+tick(5)
+start(LATE + 1, 251, instance=b"two\nlines")
+start(LATE, 251, instance=b"two\nlines")
+start(LATE, 250, instance=b"two\nlines")
+claims()
+show("the instance label alone is judged so: any bytes in the host's, and in TXT strings")
+for label in (b"\n", b"\x7f", b"\0" * 63, b"\xff", b"\xc0\x80", b"\xed\xa0\x80", ACUTE[:1], bytes(range(63))):
+    start(host=label)
+    start(host=label, instance=label)
+start(txt=b"\4\n\0\x7f\xff")
+announced("an instance label of forms of all lengths: probes, announcements", instance=b"Caf" + ACUTE + b" " + COFFEE + CRAB)
+show("letters past ASCII do not fold: asked for with a capital E acute it is another name; with ASCII capitals it is the same")
+full = name(b"_voice", b"_tcp", b"local")
+recv(5000, query([question(labels(b"Caf" + "\u00c9".encode() + b" " + COFFEE + CRAB) + full, SRV)]))
+recv(5000, query([question(labels(b"CAF" + ACUTE + b" " + COFFEE + CRAB) + full, SRV)]))
+ODD = b"two\nlines\x7f\xc0\xff"
+odd = name(ODD, b"local")
+announced("a host label with a line feed, DEL and bytes that are no UTF-8 is probed for and announced", host=ODD)
+show("names with such bytes are received as before: questions, an instance of another, probes and conflicts")
+recv(5000, query([question(odd, A), question(labels(ODD) + full, SRV)]))
+recv(6000, response([record(full, PTR, labels(ODD) + full)], additional=[record(labels(ODD) + full, TXT, b"\1x")]))
+claims()
+recv(6000, query([question(odd)], authority=[record(odd, A, TEN)]))
+recv(7000, response([record(odd, A, b"\x0a\0\0\x08")]))
+claims()
 
 show("all bytes of the out buffer past a packet are kept; a refused call keeps them all")
 out(0, 400)

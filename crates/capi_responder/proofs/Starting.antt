@@ -8,7 +8,7 @@ use borrow.Author.Tests.{eq-eqb, ne-eqb, eqb-true}
 use lib.Dec.{eqb}
 use lib.ListN.{length}
 use Rattle.own.specs.declared.records.Setup.{Setup}
-use Rattle.own.specs.records.Setups.{validSetup, labelFits}
+use Rattle.own.specs.records.Setups.{validSetup, labelFits, instanceFits}
 use Rattle.responder.specs.declared.State.{State}
 use Rattle.responder.specs.declared.Started.{Started}
 use Rattle.responder.specs.Refusals.{startRefusal}
@@ -23,7 +23,7 @@ use Rattle.capi_responder.proofs.States.{told}
 
 -- no start accepts the set-up of the blank state
 blank-wrong : validSetup (blank .setup) ≡ false
-unfolding validSetup labelFits blank
+unfolding validSetup instanceFits labelFits blank
 blank-wrong = refl
 
 blank-start : (time draw : ℕ) → startRefusal (blank .setup) time draw ≡ 0 → ⊥

@@ -7,7 +7,8 @@ use Rattle.wire.specs.rdata.Rdata.{stringsFill, rdataIn, rdataAt}
 use Rattle.wire.specs.expansion.Equal.{sameBytes}
 use Rattle.wire.specs.Lists.{some}
 use Rattle.wire.specs.message.Layout.{questionRead, questionAt, recordRead, recordAt, listFrom, andThen, messageAt}
-use Rattle.own.specs.records.Setups.{labelFits, isLetter, isNameByte, allNameBytes, someLetter, hyphensApart, serviceRule, serviceFits, protocolFits, domainFits, txtFits, validSetup, serviceLabels, instanceLabels, hostLabels}
+use Rattle.own.specs.utf8.Utf8 as utf8
+use Rattle.own.specs.records.Setups.{labelFits, instanceFits, isLetter, isNameByte, allNameBytes, someLetter, hyphensApart, serviceRule, serviceFits, protocolFits, domainFits, txtFits, validSetup, serviceLabels, instanceLabels, hostLabels}
 use Rattle.own.specs.records.Records.{hasRecord, ownLabels, ownName, ownRdata}
 use Rattle.claims.specs.Refusals.{multicastsKept, kept, wrongTime}
 use Rattle.claims.specs.records.Sets.{everyOf}
@@ -22,7 +23,7 @@ use Rattle.responder.specs.Causes.{isDue, hasCause}
 use Rattle.causes.specs.Witness.{query, Witness}
 
 pub witness : Witness
-unfolding query receiveRefusal wrongState wrongTime kept multicastsKept everyOf validSetup labelFits isLetter isNameByte allNameBytes someLetter hyphensApart serviceRule serviceFits protocolFits domainFits txtFits stringsFill sameBytes messageAt andThen listFrom questionAt questionRead recordAt recordRead nameAt fromRun readFrom pieceAt rdataAt rdataIn isDue hasCause isProbe isAsked isKnown some sameName hasRecord ownLabels ownName ownRdata serviceLabels instanceLabels hostLabels packetOf putName dataBytes dataPlaces putFields nameBytes namePlaces starts cutFrom placeOf standsAt
+unfolding query receiveRefusal wrongState wrongTime kept multicastsKept everyOf validSetup labelFits instanceFits utf8.isShown utf8.shownFrom utf8.mayStand utf8.behind utf8.starts utf8.following utf8.within isLetter isNameByte allNameBytes someLetter hyphensApart serviceRule serviceFits protocolFits domainFits txtFits stringsFill sameBytes messageAt andThen listFrom questionAt questionRead recordAt recordRead nameAt fromRun readFrom pieceAt rdataAt rdataIn isDue hasCause isProbe isAsked isKnown some sameName hasRecord ownLabels ownName ownRdata serviceLabels instanceLabels hostLabels packetOf putName dataBytes dataPlaces putFields nameBytes namePlaces starts cutFrom placeOf standsAt
 witness = record {
   known = record { accepted = refl; message = refl };
   left = refl;

@@ -9,7 +9,7 @@ use crate::records::Strings;
 ghost use mathlib.Core.Path.{_≡_};
 ghost use mathlib.Core.Bool.{true};
 ghost use Rattle.own.specs.records.Setups.{local, isLetter, isNameByte, allNameBytes, someLetter, hyphensApart};
-ghost use Rattle.own.specs.records.Setups.{serviceRule, labelFits, serviceFits, protocolFits, domainFits, txtFits, validSetup};
+ghost use Rattle.own.specs.records.Setups.{serviceRule, labelFits, instanceFits, serviceFits, protocolFits, domainFits, txtFits, validSetup};
 
 // An ASCII letter.
 fn letter(b: u8) -> bool
@@ -121,6 +121,21 @@ fn label_fits(l: Label) -> bool
     l.len <= MOST_LABEL
 }
 
+// The rule for an instance label: one that a screen can show.
+fn instance_fits(l: Label) -> bool
+    ensures { λ r. ⌜ r ≡ instanceFits l ⌝ }
+{
+    let bytes = l.bytes;
+    let len = l.len;
+    if len == 0 {
+        return false;
+    }
+    if MOST_LABEL < len {
+        return false;
+    }
+    crate::utf8::is_shown(&bytes[..len])
+}
+
 fn service_fits(l: Service) -> bool
     ensures { λ r. ⌜ r ≡ serviceFits l ⌝ }
 {
@@ -169,7 +184,7 @@ pub fn check_setup(s: Setup) -> bool
     ensures { λ r. ⌜ r ≡ validSetup s ⌝ }
 {
     let instance = s.instance;
-    if !label_fits(instance) {
+    if !instance_fits(instance) {
         return false;
     }
     let service = s.service;

@@ -2,3 +2,4 @@ pub mod Examples
 pub mod Starred
 pub mod States
 pub mod Subsets
+pub mod Labels

@@ -15,7 +15,8 @@ use Rattle.wire.specs.message.Layout.{questionRead, questionAt, recordRead, rec
 use Rattle.txt.specs.Txt.{stringsFrom, keyOf, valueOf, hasKey, firstWith}
 use Rattle.txt.specs.Lookup.{badKey, refusalOf, givenBy, inTxt, lookupOf}
 use Rattle.txt.specs.declared.Answer.the-variants.{Present}
-use Rattle.own.specs.records.Setups.{labelFits, isLetter, isNameByte, allNameBytes, someLetter, hyphensApart, serviceRule, serviceFits, protocolFits, domainFits, txtFits, validSetup, serviceLabels, instanceLabels, hostLabels}
+use Rattle.own.specs.utf8.Utf8 as utf8
+use Rattle.own.specs.records.Setups.{labelFits, instanceFits, isLetter, isNameByte, allNameBytes, someLetter, hyphensApart, serviceRule, serviceFits, protocolFits, domainFits, txtFits, validSetup, serviceLabels, instanceLabels, hostLabels}
 use Rattle.own.specs.records.Records.{hasRecord, ownLabels, ownName, srvRdata, ownRdata}
 use Rattle.facts.specs.tiebreak.Later.{numberOf, compareNumbers, inTurn, compareRecords, insertBy, sortBy, tie}
 use Rattle.wire.specs.Lists.{some}
@@ -68,5 +69,5 @@ Starred =
     × (responsePacket example (record { ptr = false; srv = false; txt = false; a = true; aaaa = true }) ≡ announcement)
 
 pub starred : Starred
-unfolding example asking cached announced tie sortBy insertBy compareRecords inTurn compareNumbers some isProbe listUnder isAsked isKnown theirsLater queryFacts factsOf holding sameName sameBytes hasRecord ownLabels ownName srvRdata ownRdata serviceLabels instanceLabels hostLabels rule1 each flushed liveOf isOf soon lookupOf refusalOf badKey stringsFill inTxt firstWith stringsFrom hasKey keyOf valueOf givenBy messageAt andThen listFrom questionAt questionRead recordAt recordRead nameAt fromRun readFrom pieceAt rdataAt rdataIn responsePacket responseRecords picked responseOf styles.ownRecord receiveOf receivedPacket packetFor receiveRefusal wrongState wrongTime kept multicastsKept everyOf validSetup labelFits isLetter isNameByte allNameBytes someLetter hyphensApart serviceRule serviceFits protocolFits domainFits txtFits answers.receiveOf answers.wantedOf answers.heardOf atOnce markedAll afterMs packetOf putName dataBytes dataPlaces putFields nameBytes namePlaces starts cutFrom placeOf standsAt
+unfolding example asking cached announced tie sortBy insertBy compareRecords inTurn compareNumbers some isProbe listUnder isAsked isKnown theirsLater queryFacts factsOf holding sameName sameBytes hasRecord ownLabels ownName srvRdata ownRdata serviceLabels instanceLabels hostLabels rule1 each flushed liveOf isOf soon lookupOf refusalOf badKey stringsFill inTxt firstWith stringsFrom hasKey keyOf valueOf givenBy messageAt andThen listFrom questionAt questionRead recordAt recordRead nameAt fromRun readFrom pieceAt rdataAt rdataIn responsePacket responseRecords picked responseOf styles.ownRecord receiveOf receivedPacket packetFor receiveRefusal wrongState wrongTime kept multicastsKept everyOf validSetup labelFits instanceFits utf8.isShown utf8.shownFrom utf8.mayStand utf8.behind utf8.starts utf8.following utf8.within isLetter isNameByte allNameBytes someLetter hyphensApart serviceRule serviceFits protocolFits domainFits txtFits answers.receiveOf answers.wantedOf answers.heardOf atOnce markedAll afterMs packetOf putName dataBytes dataPlaces putFields nameBytes namePlaces starts cutFrom placeOf standsAt
 starred = (refl, refl, refl, refl, refl, refl, refl, refl, refl, refl, refl, refl)

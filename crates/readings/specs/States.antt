@@ -7,7 +7,8 @@ use mathlib.Core.List.{List, [], _∷_}
 use Rattle.wire.specs.rdata.Rdata.{stringsFill}
 use Rattle.wire.specs.expansion.Equal.{sameBytes}
 use Rattle.wire.specs.message.Layout.{listFrom, andThen, messageAt}
-use Rattle.own.specs.records.Setups.{labelFits, isLetter, isNameByte, allNameBytes, someLetter, hyphensApart, serviceRule, serviceFits, protocolFits, domainFits, txtFits, validSetup}
+use Rattle.own.specs.utf8.Utf8 as utf8
+use Rattle.own.specs.records.Setups.{labelFits, instanceFits, isLetter, isNameByte, allNameBytes, someLetter, hyphensApart, serviceRule, serviceFits, protocolFits, domainFits, txtFits, validSetup}
 use Rattle.claims.specs.Refusals.{multicastsKept, kept, wrongTime}
 use Rattle.claims.specs.records.Own.{has}
 use Rattle.claims.specs.records.Sets.{noRecord, only, everyOf, atOnce}
@@ -104,5 +105,5 @@ HandedIn =
     × (has A (receiveOf (lived Held (At 5000) Never 0 0) 6000 20 (asksA false) false .answers) ≡ true)
 
 pub handed-in : HandedIn
-unfolding example tickRefusal receiveRefusal startRefusal wrongState wrongTime kept multicastsKept validSetup labelFits isLetter isNameByte allNameBytes someLetter hyphensApart serviceRule serviceFits protocolFits domainFits txtFits stringsFill sameBytes messageAt andThen listFrom receiveOf wantedOf only markedAll atOnce everyOf
+unfolding example tickRefusal receiveRefusal startRefusal wrongState wrongTime kept multicastsKept validSetup labelFits instanceFits utf8.isShown utf8.shownFrom utf8.mayStand utf8.behind utf8.starts utf8.following utf8.within isLetter isNameByte allNameBytes someLetter hyphensApart serviceRule serviceFits protocolFits domainFits txtFits stringsFill sameBytes messageAt andThen listFrom receiveOf wantedOf only markedAll atOnce everyOf
 handed-in = (refl, refl, refl, refl, refl, refl, refl, refl, refl, refl, refl, refl, refl, refl, refl, refl, refl, refl, refl, refl, refl, refl, refl, refl, refl, refl)

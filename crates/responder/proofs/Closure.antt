@@ -11,7 +11,9 @@ use mathlib.Mathlib.Data.Bool.Basic.{or-eq-false-eq-eq-false-and-eq-false as nei
 use Rattle.wire.specs.message.Layout.{Reads, read, refused, wrongLength, wrongHeader, messageAt}
 use Rattle.wire.specs.message.Refusals.{wrongPort, isMalformed}
 use Rattle.own.specs.declared.records.Setup.{Setup}
-use Rattle.own.specs.records.Setups.{validSetup}
+use Rattle.own.specs.records.Setups.{validSetup, labelHeld}
+use Rattle.own.specs.utf8.Grammar.{Octets, NoControl}
+use Rattle.own.proofs.records.Valid.{valid, shown-label}
 use Rattle.claims.specs.Claims as claims
 use Rattle.claims.specs.Refusals.{lateStart, wrongTime, wrongStartDraw, wrongReplyDraw, kept}
 use Rattle.claims.specs.declared.Progress.{Progress}
@@ -68,6 +70,11 @@ sound-never-7 s (received a) h e =
     never-7 (wrongTime (s .progress) (a .time)) (wrongReplyDraw (a .draw)) (smallBuffer (a .room)) (wrongLength (a .packet))
     (wrongHeader (a .packet) || wrongPort (a .port)) (isMalformed (a .packet)) (rw (h .right) at e)
 sound-never-7 s (ticked t) h e = never-7 (wrongTime (s .progress) (t .time)) false (smallBuffer (t .room)) false false false (rw (h .right) at e)
+
+-- the instance label of a state that keeps the rules, as that of every accepted call does before and after it, is one that a screen can show
+pub right-shown : (s : State) → wrongState s ≡ false → Octets (labelHeld (s .setup .instance)) × NoControl (labelHeld (s .setup .instance))
+unfolding wrongState
+right-shown s h = shown-label (s .setup) (valid (s .setup) (not-in _ (neither (not (validSetup (s .setup))) (wrongStartDraw (s .progress .draw)) .0 h .0)))
 
 -- ---- what an accepted call says of the numbers
 

@@ -12,7 +12,7 @@ use lib.ListN.{length}
 use Rattle.wire.specs.message.Layout.{wrongLength, wrongHeader}
 use Rattle.wire.specs.message.Refusals.{wrongPort, isMalformed, messageRefusal}
 use Rattle.own.specs.declared.records.Setup.{Setup}
-use Rattle.own.specs.records.Setups.{validSetup, labelFits}
+use Rattle.own.specs.records.Setups.{validSetup, labelFits, instanceFits}
 use Rattle.claims.specs.Refusals.{lateStart, wrongTime, wrongStartDraw, wrongReplyDraw}
 use Rattle.writer.specs.own_packets.Own.{unlessRefused}
 use Rattle.responder.specs.Handed.{Arrival, Tick}
@@ -152,7 +152,7 @@ unfolding startOf
 start-refused-blank setup time draw h = simp h
 
 pub blank-wrong : wrongState blank ≡ true
-unfolding wrongState blank validSetup labelFits
+unfolding wrongState blank validSetup instanceFits labelFits
 blank-wrong = refl
 
 -- a call that is accepted has a state that keeps the rules

@@ -6,7 +6,8 @@ use Rattle.wire.specs.rdata.Rdata.{stringsFill}
 use Rattle.wire.specs.expansion.Equal.{sameBytes}
 use Rattle.writer.specs.compression.Compression.{standsAt, placeOf, cutFrom, nameBytes, namePlaces}
 use Rattle.wire.specs.labels.Counted.{starts}
-use Rattle.own.specs.records.Setups.{labelFits, isLetter, isNameByte, allNameBytes, someLetter, hyphensApart, serviceRule, serviceFits, protocolFits}
+use Rattle.own.specs.utf8.Utf8 as utf8
+use Rattle.own.specs.records.Setups.{labelFits, instanceFits, isLetter, isNameByte, allNameBytes, someLetter, hyphensApart, serviceRule, serviceFits, protocolFits}
 use Rattle.own.specs.records.Setups.{domainFits, txtFits, validSetup, serviceLabels, instanceLabels, hostLabels}
 use Rattle.own.specs.records.Records.{hasRecord, ownLabels, ownName, srvRdata, ownRdata}
 use Rattle.claims.specs.records.Sets.{picked, recordsOf}
@@ -17,7 +18,7 @@ use Rattle.writer.specs.own_packets.Own.{responseRecords, probeRecords, respons
 use Rattle.roundtrip.specs.Cases.{SampleValid, Announced, Probed, InstanceProbed}
 
 pub sample-valid : SampleValid
-unfolding labelFits isLetter isNameByte allNameBytes someLetter hyphensApart serviceRule serviceFits protocolFits domainFits txtFits validSetup
+unfolding labelFits instanceFits utf8.isShown utf8.shownFrom utf8.mayStand utf8.behind utf8.starts utf8.following utf8.within isLetter isNameByte allNameBytes someLetter hyphensApart serviceRule serviceFits protocolFits domainFits txtFits validSetup
     stringsFill sameBytes
 sample-valid = refl
 

@@ -18,7 +18,8 @@ use Rattle.wire.specs.message.Layout.{questionRead, recordRead, questionAt, rec
 use Rattle.writer.specs.compression.Compression.{standsAt, placeOf, cutFrom, nameBytes, namePlaces}
 use Rattle.wire.specs.labels.Counted.{starts}
 use Rattle.own.specs.declared.records.Setup.{Setup}
-use Rattle.own.specs.records.Setups.{labelFits, isLetter, isNameByte, allNameBytes, someLetter, hyphensApart, serviceRule, serviceFits, protocolFits, domainFits, txtFits, validSetup, serviceLabels, instanceLabels, hostLabels}
+use Rattle.own.specs.utf8.Utf8 as utf8
+use Rattle.own.specs.records.Setups.{labelFits, instanceFits, isLetter, isNameByte, allNameBytes, someLetter, hyphensApart, serviceRule, serviceFits, protocolFits, domainFits, txtFits, validSetup, serviceLabels, instanceLabels, hostLabels}
 use Rattle.own.specs.records.Records.{hasRecord, ownLabels, ownName, srvRdata, ownRdata}
 use Rattle.claims.specs.Time.{afterMs, markedAll}
 use Rattle.claims.specs.Claims as claims
@@ -119,7 +120,7 @@ Seen =
     × (runs responder three 30 (length three) ≡ true)
 
 seen : Seen
-unfolding setupOf alone contest rivals three ptrQuery holds writes hears anyOf respondsFor conflictsWith defeatsOf responds conflicts defeats meets ordered atOneRate owed taken allDelivered allOnTime every someBelow allOf samePackets entry clockOf ownerOf setupIn reply returned called after isAccepted parcelsOf heardIn start tick receive dueTimes due blank startOf packetFor receivedPacket receiveOf tickedPacket tickOf wrongState startRefusal receiveRefusal tickRefusal ownRecord responseRecords probeRecords responseOf probeOf responsePacket probePacket putName dataBytes dataPlaces putFields packetOf isAsked isKnown conflicted theirsLater responseFacts queryFacts factsOf answers.heardOf answers.wantedOf answers.receiveOf listUnder someOf isProbe compareNumbers inTurn compareRecords insertBy sortBy tie steps.sends steps.actionTurn steps.claimTurn steps.ptrReply steps.replyTurn steps.stepTurn steps.walked steps.endedOf steps.tickOf moreDue actionOf unsentOf sets.someOf sets.everyOf sets.picked sets.only sets.anyOf sets.atOnce sets.recordsOf multicastsKept kept wrongTime claims.begunAt afterMs markedAll hasRecord ownLabels ownName srvRdata ownRdata labelFits isLetter isNameByte allNameBytes someLetter hyphensApart serviceRule serviceFits protocolFits domainFits txtFits validSetup serviceLabels instanceLabels hostLabels standsAt placeOf cutFrom nameBytes starts namePlaces questionRead recordRead questionAt recordAt listFrom messageAt andThen sameBytes stringsFill nameAt fromRun readFrom pieceAt sameName rdataAt rdataIn
+unfolding setupOf alone contest rivals three ptrQuery holds writes hears anyOf respondsFor conflictsWith defeatsOf responds conflicts defeats meets ordered atOneRate owed taken allDelivered allOnTime every someBelow allOf samePackets entry clockOf ownerOf setupIn reply returned called after isAccepted parcelsOf heardIn start tick receive dueTimes due blank startOf packetFor receivedPacket receiveOf tickedPacket tickOf wrongState startRefusal receiveRefusal tickRefusal ownRecord responseRecords probeRecords responseOf probeOf responsePacket probePacket putName dataBytes dataPlaces putFields packetOf isAsked isKnown conflicted theirsLater responseFacts queryFacts factsOf answers.heardOf answers.wantedOf answers.receiveOf listUnder someOf isProbe compareNumbers inTurn compareRecords insertBy sortBy tie steps.sends steps.actionTurn steps.claimTurn steps.ptrReply steps.replyTurn steps.stepTurn steps.walked steps.endedOf steps.tickOf moreDue actionOf unsentOf sets.someOf sets.everyOf sets.picked sets.only sets.anyOf sets.atOnce sets.recordsOf multicastsKept kept wrongTime claims.begunAt afterMs markedAll hasRecord ownLabels ownName srvRdata ownRdata labelFits instanceFits utf8.isShown utf8.shownFrom utf8.mayStand utf8.behind utf8.starts utf8.following utf8.within isLetter isNameByte allNameBytes someLetter hyphensApart serviceRule serviceFits protocolFits domainFits txtFits validSetup serviceLabels instanceLabels hostLabels standsAt placeOf cutFrom nameBytes starts namePlaces questionRead recordRead questionAt recordAt listFrom messageAt andThen sameBytes stringsFill nameAt fromRun readFrom pieceAt sameName rdataAt rdataIn
 seen =
     (refl, (refl, refl, refl, refl, refl), (refl, refl, refl), (refl, refl, refl), refl, refl, refl, refl, refl, refl, (refl, refl, refl, refl, refl), (refl, refl, refl), (refl, refl, refl), refl, refl, refl, refl, refl, refl, refl, refl, refl, refl, refl, refl, refl, refl, refl, refl, refl, refl)
 

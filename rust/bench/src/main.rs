@@ -3,7 +3,7 @@
 use std::hint::black_box;
 
 use bench::packets;
-use bench::responders::{proved, query, reference, Calls};
+use bench::responders::{proved, query, reference, Calls, LONG, WIDE};
 use bench::timing;
 
 /// Prints the least times of the two and their ratio.
@@ -20,8 +20,8 @@ fn read(name: &str, packets: &[Vec<u8>], repeat: usize) {
 }
 
 /// Both responders, each of which holds its names.
-fn call(name: &str, sends: bool, call: impl Fn(&mut dyn Calls) -> usize) {
-    let (mut proved, mut reference) = (proved(), reference());
+fn call(name: &str, instance: &str, sends: bool, call: impl Fn(&mut dyn Calls) -> usize) {
+    let (mut proved, mut reference) = (proved(instance), reference(instance));
     call(&mut proved);
     call(&mut reference);
     assert_eq!(
@@ -64,18 +64,27 @@ fn main() {
     let (query, full) = (query(), packets::full());
     call(
         "receive: a query that is answered at once",
+        "booth",
         true,
         |responder| responder.receive(1000, &query),
     );
     call(
         "receive: the same asked again at once, left out",
+        "booth",
         false,
         |responder| responder.receive(0, &query),
     );
     call(
         "receive: a response with 1,452 bytes of PTR records",
+        "booth",
         false,
         |responder| responder.receive(10, &full),
     );
-    call("tick: nothing due", false, |responder| responder.tick(10));
+    for (name, instance) in [
+        ("tick: nothing due", "booth"),
+        ("tick: nothing due, a label of 63 bytes", LONG),
+        ("tick: nothing due, 21 characters of three bytes", WIDE),
+    ] {
+        call(name, instance, false, |responder| responder.tick(10));
+    }
 }

@@ -67,9 +67,13 @@ fn settled<C: Calls>(mut calls: C) -> C {
     calls
 }
 
-pub fn proved() -> Proved {
+/// The labels of instances that idle ticks are timed with: one of 63 bytes of ASCII, and one of 21 characters of three bytes.
+pub const LONG: &str = "the third interpreter booth of the great hall, first floor left";
+pub const WIDE: &str = "第三同声传译室在大会堂一层左侧入口处旁边间";
+
+pub fn proved(instance: &str) -> Proved {
     let setup = Setup::new(
-        "booth",
+        instance,
         "_voice",
         "_tcp",
         "dock",
@@ -86,9 +90,9 @@ pub fn proved() -> Proved {
     })
 }
 
-pub fn reference() -> Reference {
+pub fn reference(instance: &str) -> Reference {
     let setup = ReferenceSetup {
-        instance: b"booth".to_vec(),
+        instance: instance.as_bytes().to_vec(),
         service: b"_voice".to_vec(),
         protocol: b"_tcp".to_vec(),
         host: b"dock".to_vec(),

@@ -46,7 +46,7 @@ fn the_message_that_takes_longest() {
 #[test]
 fn a_responder_that_receives_each() {
     in_64_kib(|| {
-        let mut responder = bench::responders::proved();
+        let mut responder = bench::responders::proved("booth");
         for packet in [
             packets::longest_chain().0,
             packets::label_by_label().0,

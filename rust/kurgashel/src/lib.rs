@@ -49,7 +49,7 @@ pub enum Refusal {
     Header,
     /// 6: a malformed message, TXT or looked-up name.
     Malformed,
-    /// 7: a set-up or a state that breaks the rules.
+    /// 7: a set-up or a state that breaks the rules ([`Setup::new`]), such as an instance label that is not UTF-8 or has a control character.
     Setup,
     /// 8: a cache of another size, or with an entry that breaks the rules.
     Cache,

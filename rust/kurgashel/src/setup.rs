@@ -10,8 +10,9 @@ pub struct Setup {
 }
 
 impl Setup {
-    /// `instance` and `host` are labels of 1 to 63 bytes, `service` is "_" and a name by RFC 6335, `protocol` "_tcp" or "_udp"; `txt` is 1 to 400 bytes
-    /// of strings, each behind its length byte (one zero byte for none). The domain is "local".
+    /// `instance` is a label of 1 to 63 bytes that a screen can show: UTF-8 (RFC 3629) with none of the bytes 00 to 1F and 7F, so no line feed. `host` is a
+    /// label of 1 to 63 bytes, `service` is "_" and a name by RFC 6335, `protocol` "_tcp" or "_udp"; `txt` is 1 to 400 bytes of strings, each behind its
+    /// length byte (one zero byte for none). The domain is "local". What breaks these rules is [`Refusal::Setup`](crate::Refusal::Setup) at the start.
     #[allow(clippy::too_many_arguments)]
     pub fn new(
         instance: impl AsRef<[u8]>,

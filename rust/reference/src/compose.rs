@@ -181,7 +181,8 @@ mod tests {
 
     #[test]
     fn suffixes_are_whole_labels_and_case_counts() {
-        // the instance label holds the bytes of "local." but not as a label
+        // the instance label holds the bytes of "local." but not as a label (a
+        // set-up with it is refused, but a writer should be right of itself)
         let mut setup = example();
         setup.instance = b"\x05local\x00".to_vec();
         let probe = probe(&setup, ClaimName::Instance);

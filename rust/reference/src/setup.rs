@@ -118,10 +118,43 @@ fn is_service_label(label: &[u8]) -> bool {
         && !service.windows(2).any(|pair| pair == b"--")
 }
 
+/// The length of the UTF-8 form that `bytes` begin with, by the syntax of RFC
+/// 3629, section 4: no overlong form, no surrogate, nothing past U+10FFFF.
+fn utf8_form(bytes: &[u8]) -> Option<usize> {
+    match bytes {
+        [0x00..=0x7F, ..] => Some(1),
+        [0xC2..=0xDF, 0x80..=0xBF, ..] => Some(2),
+        [0xE0, 0xA0..=0xBF, 0x80..=0xBF, ..] => Some(3),
+        [0xE1..=0xEC, 0x80..=0xBF, 0x80..=0xBF, ..] => Some(3),
+        [0xED, 0x80..=0x9F, 0x80..=0xBF, ..] => Some(3),
+        [0xEE..=0xEF, 0x80..=0xBF, 0x80..=0xBF, ..] => Some(3),
+        [0xF0, 0x90..=0xBF, 0x80..=0xBF, 0x80..=0xBF, ..] => Some(4),
+        [0xF1..=0xF3, 0x80..=0xBF, 0x80..=0xBF, 0x80..=0xBF, ..] => Some(4),
+        [0xF4, 0x80..=0x8F, 0x80..=0xBF, 0x80..=0xBF, ..] => Some(4),
+        _ => None,
+    }
+}
+
+/// An instance label "is valid UTF-8 by RFC 3629 [...] and has no byte
+/// 0x00..0x1F or 0x7F, as RFC 6763 section 4.1.1 asks".
+fn can_be_shown(mut label: &[u8]) -> bool {
+    while let Some(first) = label.first() {
+        if matches!(first, 0x00..=0x1F | 0x7F) {
+            return false;
+        }
+        match utf8_form(label) {
+            Some(length) => label = &label[length..],
+            None => return false,
+        }
+    }
+    true
+}
+
 impl Setup {
     /// Whether names and data keep the rules of "Own records".
     pub fn is_legal(&self) -> bool {
         (1..=MOST_LABEL).contains(&self.instance.len())
+            && can_be_shown(&self.instance)
             && (1..=MOST_LABEL).contains(&self.host.len())
             && is_service_label(&self.service)
             && (self.protocol == b"_tcp" || self.protocol == b"_udp")
@@ -230,6 +263,59 @@ pub mod tests {
         }
     }
 
+    /// The bytes around every edge of the syntax.
+    const EDGES: [u8; 27] = [
+        0x20, 0x41, 0x7e, 0x80, 0x8f, 0x90, 0x9f, 0xa0, 0xbf, 0xc0, 0xc1, 0xc2, 0xdf, 0xe0, 0xe1,
+        0xec, 0xed, 0xee, 0xef, 0xf0, 0xf1, 0xf3, 0xf4, 0xf5, 0xf7, 0xf8, 0xff,
+    ];
+
+    #[test]
+    fn utf8_as_the_standard_library_has_it() {
+        let agree = |label: &[u8]| {
+            let valid = std::str::from_utf8(label).is_ok();
+            assert_eq!(can_be_shown(label), valid, "{label:02x?}");
+        };
+        for a in EDGES {
+            agree(&[a]);
+            for b in EDGES {
+                agree(&[a, b]);
+                for c in EDGES {
+                    agree(&[a, b, c]);
+                    for d in EDGES {
+                        agree(&[a, b, c, d]);
+                        agree(&[b'x', a, b, c, d, b'y']);
+                    }
+                }
+            }
+        }
+        for code in (0x20..=0x10_ffff).filter_map(char::from_u32) {
+            if code != '\x7f' {
+                agree(code.encode_utf8(&mut [0; 4]).as_bytes());
+            }
+        }
+    }
+
+    #[test]
+    fn control_bytes_alone_and_amid_text() {
+        for byte in 0x00..=0x7f_u8 {
+            let shown = (0x20..0x7f).contains(&byte);
+            assert_eq!(can_be_shown(&[byte]), shown);
+            assert_eq!(can_be_shown(&[b'a', byte]), shown);
+            assert_eq!(can_be_shown(&[0xc3, 0xa9, byte, b'b']), shown);
+        }
+        // C1 controls, U+FEFF and noncharacters are no such bytes
+        for text in [
+            "\u{80}",
+            "\u{9f}",
+            "\u{feff}",
+            "\u{fffe}",
+            "\u{ffff}",
+            "\u{10ffff}",
+        ] {
+            assert!(can_be_shown(text.as_bytes()));
+        }
+    }
+
     #[test]
     fn label_and_txt_lengths() {
         let with = |change: fn(&mut Setup)| {
@@ -239,9 +325,14 @@ pub mod tests {
         };
         assert!(with(|_| ()));
         assert!(!Setup::default().is_legal());
-        assert!(with(|s| s.instance = vec![0; 63]));
-        assert!(!with(|s| s.instance = vec![0; 64]));
+        assert!(with(|s| s.instance = vec![b'i'; 63]));
+        assert!(!with(|s| s.instance = vec![b'i'; 64]));
         assert!(!with(|s| s.instance = vec![]));
+        assert!(!with(|s| s.instance = b"two\nlines".to_vec()));
+        assert!(!with(|s| s.instance = b"caf\xe9".to_vec()));
+        assert!(with(|s| s.instance = "Café ☕ 🦀".into()));
+        // the host's label may have any bytes
+        assert!(with(|s| s.host = vec![0; 63]));
         assert!(with(|s| s.host = vec![0xff; 1]));
         assert!(!with(|s| s.host = vec![b'h'; 256 + 4]));
         assert!(with(|s| s.protocol = b"_udp".to_vec()));

@@ -28,9 +28,29 @@ impl Tally {
             let entries = words.next().and_then(|entries| entries.parse().ok());
             self.entries = entries.expect("a number of entries");
         }
-        for kind in kinds(call, answer, entries_kind(self.entries)) {
+        let mut kinds = kinds(call, answer, entries_kind(self.entries));
+        if call == "start" && matches!(answer, "started" | "refused 7") {
+            let label = line.split(' ').nth(3).unwrap_or_default();
+            kinds.push(format!("start {answer} with {}", label_kind(label)));
+        }
+        for kind in kinds {
             *self.counts.entry(kind).or_insert(0) += 1;
         }
+    }
+}
+
+/// What kind of text an instance label in hex is.
+fn label_kind(label: &str) -> &'static str {
+    let digits = label.as_bytes().chunks(2);
+    let bytes = digits.map(|pair| u8::from_str_radix(&String::from_utf8_lossy(pair), 16));
+    let Ok(bytes) = bytes.collect::<Result<Vec<u8>, _>>() else {
+        return "no bytes"; // a hyphen
+    };
+    match String::from_utf8(bytes) {
+        Err(_) => "no UTF-8",
+        Ok(text) if text.bytes().any(|byte| byte.is_ascii_control()) => "a control byte",
+        Ok(text) if text.is_ascii() => "ASCII",
+        Ok(_) => "UTF-8",
     }
 }
 

@@ -19,7 +19,7 @@ fn meaning(refusal: Refusal) -> &'static str {
         Refusal::Header => "opcode or RCODE not zero, or the source port is not 5353",
         Refusal::Malformed => "a malformed message, TXT or name",
         Refusal::Setup => {
-            "names or data break the rules: instance and host are 1..63 bytes; a service is '_' and 1..15 letters, digits or single inner hyphens, one of them a letter, then '_tcp' or '_udp'; TXT is at most 400 bytes"
+            "names or data break the rules: an instance is 1..63 bytes of UTF-8 without control characters such as a line feed; a host is 1..63 bytes; a service is '_' and 1..15 letters, digits or single inner hyphens, one of them a letter, then '_tcp' or '_udp'; TXT is at most 400 bytes"
         }
         Refusal::Cache => "the cache table or its byte store has a wrong size",
         Refusal::Key => "a TXT key that is empty or has a byte that keys can't have",

@@ -99,4 +99,12 @@ fn help_and_errors() {
     }
     let mut refused = responder("_no--good._tcp", "no", 1, 1);
     assert_eq!(refused.wait().unwrap().code(), Some(1));
+    let words = "--instance a\nb --service _voice._tcp --host dock --port 1 --seconds 1";
+    let feed = Command::new(RESPONDER)
+        .args(words.split(' '))
+        .output()
+        .unwrap();
+    assert_eq!(feed.status.code(), Some(1));
+    assert!(String::from_utf8_lossy(&feed.stderr)
+        .contains("without control characters such as a line feed"));
 }

@@ -1,4 +1,5 @@
--- What a set-up that keeps the rules has: own names that are names, of few bytes, different for each kind, and rdata as its type asks. Assumes nothing.
+-- What a set-up that keeps the rules has: an instance label that a screen can show, own names that are names, of few bytes, different for each kind, and rdata
+-- as its type asks. Assumes nothing.
 use mathlib.Core.Path.{_≡_, refl, sym, ap, _∙_}
 use mathlib.Core.List.{List, [], _∷_, _++_}
 use mathlib.Core.Bool.{Bool, true, false, cond, _&&_, _||_}
@@ -18,12 +19,16 @@ use Rattle.wire.proofs.labels.Encoded.{is-name, same-count}
 use Rattle.claims.specs.declared.records.Own.{Own}
 use Rattle.claims.specs.declared.records.Own.the-variants.{Ptr, Srv, Txt, A, Aaaa}
 use Rattle.own.specs.declared.records.Setup.{Setup}
-use Rattle.own.specs.records.Setups.{tcp, udp, local, held, labelFits, serviceRule, serviceFits, protocolFits, domainFits, txtFits, validSetup, labelHeld, serviceHeld, protocolLabel, serviceLabels, instanceLabels, hostLabels}
+use Rattle.own.specs.utf8.Utf8.{isShown}
+use Rattle.own.specs.utf8.Grammar.{Octets, NoControl}
+use Rattle.own.proofs.utf8.Grammar.{shown-exactly}
+use Rattle.own.specs.records.Setups.{tcp, udp, local, held, labelFits, instanceFits, serviceRule, serviceFits, protocolFits, domainFits, txtFits, validSetup, labelHeld, serviceHeld, protocolLabel, serviceLabels, instanceLabels, hostLabels}
 use Rattle.own.specs.records.Records.{ownLabels, ownName, ownRdata}
 
 -- the facts behind the test
 pub record Valid (s : Setup) : Type 0 where
   pub instance : (1 ≤ length (labelHeld (s .instance))) × (length (labelHeld (s .instance)) < 64)
+  pub shown : isShown (labelHeld (s .instance)) ≡ true
   pub service : (2 ≤ length (serviceHeld (s .service))) × (length (serviceHeld (s .service)) ≤ 16)
   pub host : (1 ≤ length (labelHeld (s .host))) × (length (labelHeld (s .host)) < 64)
   pub txt : (1 ≤ length (take (s .txt .len) (s .txt .bytes))) × (length (take (s .txt .len) (s .txt .bytes)) ≤ 400)
@@ -52,16 +57,18 @@ all a b c d e f g h k =
     let k₇ = both g h .0 (k₆ .1) in (k₁ .0, k₂ .0, k₄ .0, k₆ .0, k₇ .0, k₇ .1)
 
 pub valid : (s : Setup) → validSetup s ≡ true → Valid s
-unfolding validSetup labelFits serviceFits txtFits
+unfolding validSetup instanceFits labelFits serviceFits txtFits
 valid s h =
     let f =
-    all (labelFits (s .instance)) (serviceFits (s .service)) (protocolFits (s .protocol)) (labelFits (s .host)) (domainFits (s .domain)) (txtFits (s .txt)) (eqb (length (s .a)) 4) (eqb (length (s .aaaa)) 16) h in
-    let i = held-length 1 63 (s .instance .len) (s .instance .bytes) (f .0) in
+    all (instanceFits (s .instance)) (serviceFits (s .service)) (protocolFits (s .protocol)) (labelFits (s .host)) (domainFits (s .domain)) (txtFits (s .txt)) (eqb (length (s .a)) 4) (eqb (length (s .aaaa)) 16) h in
+    let l = both (held 1 63 (s .instance .len) (s .instance .bytes)) (isShown (labelHeld (s .instance))) .0 (f .0) in
+    let i = held-length 1 63 (s .instance .len) (s .instance .bytes) (l .0) in
     let v = both (held 2 16 (s .service .len) (s .service .bytes)) (serviceRule (serviceHeld (s .service))) .0 (f .1) in
     let m = held-length 1 63 (s .host .len) (s .host .bytes) (f .2) in
     let t = both (held 1 400 (s .txt .len) (s .txt .bytes)) (stringsFill 0 (take (s .txt .len) (s .txt .bytes))) .0 (f .3) in
     record {
       instance = (i .0, omega (arith, i .1));
+      shown = l .1;
       service = held-length 2 16 (s .service .len) (s .service .bytes) (v .0);
       host = (m .0, omega (arith, m .1));
       txt = held-length 1 400 (s .txt .len) (s .txt .bytes) (t .0);
@@ -69,6 +76,10 @@ valid s h =
       four = eqb-true _ _ (f .4);
       sixteen = eqb-true _ _ (f .5);
     }
+
+-- its instance label is one that a screen can show, by RFC 3629's grammar
+pub shown-label : (s : Setup) → Valid s → Octets (labelHeld (s .instance)) × NoControl (labelHeld (s .instance))
+shown-label s ok = shown-exactly (labelHeld (s .instance)) .only (ok .shown)
 
 protocol-four : (p : List ℕ) → length (protocolLabel p) ≡ 4
 protocol-four p = go (sameBytes p udp)

@@ -15,7 +15,8 @@ use Rattle.own.specs.declared.records.Label.{Label}
 use Rattle.own.specs.declared.records.Service.{Service}
 use Rattle.own.specs.declared.records.Strings.{Strings}
 use Rattle.own.specs.declared.records.Setup.{Setup}
-use Rattle.own.specs.records.Setups.{tcp, udp, held, labelFits, isLetter, isNameByte, allNameBytes, someLetter, hyphensApart, serviceRule, serviceFits, protocolFits, domainFits, txtFits, validSetup}
+use Rattle.own.specs.utf8.Utf8.{isShown}
+use Rattle.own.specs.records.Setups.{tcp, udp, held, labelFits, instanceFits, isLetter, isNameByte, allNameBytes, someLetter, hyphensApart, serviceRule, serviceFits, protocolFits, domainFits, txtFits, validSetup}
 
 -- a letter
 module _ (b : ℕ) where
@@ -157,6 +158,18 @@ pub label-most : (l : Label) → (l .len ≡ 0 → ⊥) → length (l .bytes) �
 unfolding labelFits
 label-most l h e = let g : 1 ≤ l .len = omega arith in sym (simp (le-leb _ _ g, eq-eqb _ _ e) (and-true (leb (l .len) 63)))
 
+pub instance-few : (l : Label) → l .len ≡ 0 → false ≡ instanceFits l
+unfolding instanceFits labelFits
+instance-few l h = let g : l .len < 1 = omega arith in sym (simp (held-few 1 63 (l .len) (l .bytes) g))
+
+pub instance-many : (l : Label) → (l .len ≡ 0 → ⊥) → 63 < l .len → false ≡ instanceFits l
+unfolding instanceFits labelFits
+instance-many l h k = let g : 1 ≤ l .len = omega arith in sym (simp (held-many 1 63 (l .len) (l .bytes) g k))
+
+pub instance-so : (l : Label) → (l .len ≡ 0 → ⊥) → l .len ≤ 63 → length (l .bytes) ≡ 63 → (v : Bool) → v ≡ isShown (take (l .len) (l .bytes)) → v ≡ instanceFits l
+unfolding instanceFits labelFits
+instance-so l h k e v is = let g : 1 ≤ l .len = omega arith in sym (simp (held-so 1 63 (l .len) (l .bytes) g k e) (sym is))
+
 pub service-few : (l : Service) → l .len < 2 → false ≡ serviceFits l
 unfolding serviceFits
 service-few l h = sym (simp (held-few 2 16 (l .len) (l .bytes) h))
@@ -194,7 +207,7 @@ module _ (s : Setup) where
   abbrev sizes : Bool
   sizes = eqb (length (s .a)) 4 && eqb (length (s .aaaa)) 16
 
-  module _ (v₁ : Bool) (e₁ : v₁ ≡ labelFits (s .instance)) where
+  module _ (v₁ : Bool) (e₁ : v₁ ≡ instanceFits (s .instance)) where
     pub not-instance : v₁ ≡ false → false ≡ validSetup s
     unfolding validSetup
     not-instance t = sym (simp (sym e₁ ∙ t))

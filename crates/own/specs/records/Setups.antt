@@ -6,6 +6,7 @@ use lib.ListN.{length, take}
 use lib.Dec.{leb, eqb}
 use Rattle.wire.specs.rdata.Rdata.{stringsFill}
 use Rattle.wire.specs.expansion.Equal.{sameBytes}
+use Rattle.own.specs.utf8.Utf8.{isShown}
 use Rattle.own.specs.declared.records.Label.{Label}
 use Rattle.own.specs.declared.records.Service.{Service}
 use Rattle.own.specs.declared.records.Strings.{Strings}
@@ -28,6 +29,10 @@ held least most len bytes = leb least len && leb len most && eqb (length bytes) 
 -- "Instance label and host label 1..63 bytes."
 unfoldable pub labelFits : Label → Bool
 labelFits l = held 1 63 (l .len) (l .bytes)
+
+-- "valid UTF-8 by RFC 3629 (no overlong form, no surrogate, nothing past U+10FFFF) and has no byte 0x00..0x1F or 0x7F"
+unfoldable pub instanceFits : Label → Bool
+instanceFits l = labelFits l && isShown (take (l .len) (l .bytes))
 
 -- 'A' to 'Z' and 'a' to 'z'
 unfoldable pub isLetter : ℕ → Bool
@@ -75,7 +80,7 @@ txtFits t = held 1 400 (t .len) (t .bytes) && stringsFill 0 (take (t .len) (t .b
 -- The set-up keeps the rules: its labels, its TXT, and addresses of 4 and 16 bytes.
 unfoldable pub validSetup : Setup → Bool
 validSetup s =
-    labelFits (s .instance)
+    instanceFits (s .instance)
     && (serviceFits (s .service)
     && (protocolFits (s .protocol)
     && (labelFits (s .host)

@@ -30,11 +30,11 @@ pub fn script(seed: u64, count: usize) -> Vec<Vec<u8>> {
     script.blank_responder();
     while script.lines.len() < count {
         match script.random.below(100) {
-            0..=34 => script.life(),
-            35..=64 => script.store(),
-            65..=74 => script.txt_lookups(),
-            75..=89 => script.readings(),
-            90..=93 => script.starts(),
+            0..=33 => script.life(),
+            34..=62 => script.store(),
+            63..=71 => script.txt_lookups(),
+            72..=86 => script.readings(),
+            87..=93 => script.starts(),
             _ => script.bad_lines(),
         }
     }
@@ -126,7 +126,7 @@ mod tests {
     fn scripts_reach_every_kind_of_answer() {
         let mut console = Console::default();
         let mut tally = Tally::default();
-        for line in script(7, 20_000) {
+        for line in script(7, 60_000) {
             if let Some(answer) = console.answer(&line) {
                 tally.count(&line, &answer);
             }
@@ -159,7 +159,9 @@ mod tests {
             "read SRV target of 1 label",
             "look owner of 127 labels",
             "recv refused 7",
-            "start refused 7",
+            "start refused 7 with no UTF-8",
+            "start refused 7 with a control byte",
+            "start started with UTF-8",
             "txt refused 9",
             "bad line",
         ] {

@@ -319,6 +319,8 @@ pub fn some_name(random: &mut Random) -> Vec<u8> {
         b"\x06_voice\x04_tcp\x05local\x00",
         b"\x02[{\x02\xc3\x89\x05local\x00",
         b"\x01a\x01b\x01c\x00",
+        b"\x09two\nlines\x06_voice\x04_tcp\x05local\x00",
+        b"\x04\x7f\xc0\x80\xff\x05local\x00",
     ]);
     if random.chance(40) {
         return random.recase(name);

@@ -9,6 +9,83 @@ use crate::setup::{ClaimName, Kind, OwnRecord, Setup};
 use crate::{rtype, MOST_TIME};
 
 const PROTOCOLS: [&[u8]; 2] = [b"_tcp", b"_udp"];
+/// Forms of UTF-8, the first and the last of each kind, and some that are
+/// seldom met: C1 controls, U+FEFF, noncharacters.
+const GOOD_FORMS: [&[u8]; 24] = [
+    b" ",
+    b"a",
+    b"Z",
+    b"~",
+    b"\xc2\x80",
+    b"\xc2\x85",
+    b"\xc2\x9f",
+    b"\xc3\xa9",
+    b"\xdf\xbf",
+    b"\xe0\xa0\x80",
+    b"\xe0\xbf\xbf",
+    b"\xe1\x80\x80",
+    b"\xec\xbf\xbf",
+    b"\xed\x80\x80",
+    b"\xed\x9f\xbf",
+    b"\xee\x80\x80",
+    b"\xef\xbb\xbf",
+    b"\xef\xbf\xbe",
+    b"\xef\xbf\xbf",
+    b"\xf0\x90\x80\x80",
+    b"\xf1\x80\x80\x80",
+    b"\xf3\xbf\xbf\xbf",
+    b"\xf4\x80\x80\x80",
+    b"\xf4\x8f\xbf\xbf",
+];
+/// What is no form of UTF-8, for its first byte or another.
+const BAD_FORMS: [&[u8]; 46] = [
+    b"\x80",
+    b"\x8f",
+    b"\xa0",
+    b"\xbf",
+    b"\xc0\x80",
+    b"\xc0\xbf",
+    b"\xc1\x80",
+    b"\xc1\xbf",
+    b"\xc2",
+    b"\xc2\xc0",
+    b"\xc2 ",
+    b"\xdf",
+    b"\xdf\x7e",
+    b"\xe0",
+    b"\xe0\x80\x80",
+    b"\xe0\x9f\xbf",
+    b"\xe0\xa0",
+    b"\xe0\xa0\xc0",
+    b"\xe1\x80",
+    b"\xe1\x80a",
+    b"\xe1\xc0\x80",
+    b"\xec\xbf",
+    b"\xed\xa0\x80",
+    b"\xed\xbf\xbf",
+    b"\xed\x9f",
+    b"\xef",
+    b"\xef\xbf",
+    b"\xef\xbf\xc0",
+    b"\xf0",
+    b"\xf0\x80\x80\x80",
+    b"\xf0\x8f\xbf\xbf",
+    b"\xf0\x90\x80",
+    b"\xf1\x80\x80",
+    b"\xf1\x80\x80a",
+    b"\xf1\x80a\x80",
+    b"\xf3\xc0\x80\x80",
+    b"\xf4\x8f\xbf",
+    b"\xf4\x90\x80\x80",
+    b"\xf4\xbf\xbf\xbf",
+    b"\xf5\x80\x80\x80",
+    b"\xf5\x80\x80\x80",
+    b"\xf5\xbf\xbf\xbf",
+    b"\xf7\xbf\xbf\xbf",
+    b"\xf8\x88\x80\x80\x80",
+    b"\xfe",
+    b"\xff",
+];
 
 impl Script {
     /// Calls before the first start, on the blank state.
@@ -677,6 +754,72 @@ impl Script {
         label.to_vec()
     }
 
+    /// An instance label that is legal: well known, or forms of UTF-8.
+    fn instance_label(&mut self) -> Vec<u8> {
+        if self.random.chance(50) {
+            let label: &[u8] = self.random.pick(&[
+                &b"booth"[..],
+                b"Dock",
+                b"_tcp",
+                b"_TCP",
+                b"_udp",
+                b"local",
+                b"Local",
+                b"_voice",
+                b"x",
+                b" ~",
+                b"Caf\xc3\xa9 Bar.2",
+                b"x._voice._tcp.local",
+            ]);
+            return label.to_vec();
+        }
+        let length = self.random.pick(&[1, 2, 3, 4, 5, 10, 62, 63]);
+        self.utf8_of(length)
+    }
+
+    /// UTF-8 of `length` bytes, most of its forms at an edge of what is legal.
+    fn utf8_of(&mut self, length: usize) -> Vec<u8> {
+        let mut text = Vec::new();
+        while text.len() < length {
+            let form = self.random.pick(&GOOD_FORMS);
+            if text.len() + form.len() <= length {
+                text.extend(form);
+            }
+        }
+        text
+    }
+
+    /// A label with a bad form or byte in front, within or at the end of legal ones.
+    fn bad_utf8(&mut self) -> Vec<u8> {
+        let mut label = match self.random.below(4) {
+            0 => vec![],
+            1 => vec![b'i'; self.random.below(60)],
+            _ => {
+                let length = self.random.below(60);
+                self.utf8_of(length)
+            }
+        };
+        let control = [self
+            .random
+            .pick(b"\x00\x01\t\n\n\r\x1b\x1e\x1f\x1f\x7f\x7f")];
+        let bad = if self.random.chance(30) {
+            &control
+        } else {
+            self.random.pick(&BAD_FORMS)
+        };
+        let starts: Vec<usize> = (0..=label.len())
+            .filter(|at| label.get(*at).is_none_or(|byte| byte & 0xc0 != 0x80))
+            .collect();
+        let within = self.random.pick(&starts);
+        let at = self.random.pick(&[0, within, label.len(), label.len()]);
+        label.splice(at..at, bad.iter().copied());
+        if self.random.chance(20) {
+            // up to the longest label, so that a form is cut at its end
+            label.truncate(63);
+        }
+        label
+    }
+
     fn legal_setup(&mut self) -> Setup {
         let service: &[u8] = self.random.pick(&[
             &b"_voice"[..],
@@ -711,7 +854,7 @@ impl Script {
             address
         });
         Setup {
-            instance: self.label(),
+            instance: self.instance_label(),
             service: service.to_vec(),
             protocol: self.random.pick(&PROTOCOLS).to_vec(),
             host: self.label(),
@@ -728,7 +871,7 @@ impl Script {
         let mut setup = self.legal_setup();
         let (mut now, mut draw) = (self.model.responder.last, 100);
         for _ in 0..self.random.pick(&[1, 1, 1, 2]) {
-            match self.random.below(9) {
+            match self.random.below(14) {
                 0 => {
                     now = self
                         .random
@@ -808,9 +951,23 @@ impl Script {
                         _ => vec![0; 65_536 / 16],
                     };
                 }
-                _ => {
+                8 => {
                     setup.instance = long_name(&mut self.random, 64);
                 }
+                9 if !setup.instance.is_empty() => {
+                    // a byte changed, which may be as legal
+                    let at = self.random.below(setup.instance.len());
+                    let byte = self.random.byte();
+                    let edge = self
+                        .random
+                        .pick(&[0x0a, 0x1f, 0x20, 0x7e, 0x7f, 0x80, 0xbf, 0xc2]);
+                    setup.instance[at] = self.random.pick(&[byte, edge]);
+                }
+                10 => {
+                    let length = self.random.within(1..=64) as usize;
+                    setup.instance = self.utf8_of(length);
+                }
+                _ => setup.instance = self.bad_utf8(),
             }
         }
         self.say_start(now, draw, &setup);

@@ -178,8 +178,8 @@ impl Script {
     }
 
     fn owner(&mut self) -> Vec<u8> {
-        if self.random.chance(5) {
-            let count = self.random.pick(&[1, 3, 64, 127]);
+        if self.random.chance(10) {
+            let count = self.random.pick(&[1, 3, 64, 127, 127]);
             return labelled_name(&mut self.random, count);
         }
         let owner = self.random.pick(&OWNERS);

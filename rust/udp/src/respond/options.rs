@@ -12,7 +12,7 @@ responder: claims an instance name and a host name by Multicast DNS and answers 
 
 usage: responder --instance LABEL --service TYPE --host LABEL --port NUMBER [options]
 
-  --instance LABEL     the instance's label, such as 'booth'
+  --instance LABEL     the instance's label, such as 'booth': 1..63 bytes, no control characters
   --service TYPE       the service, such as '_voice._tcp'
   --host LABEL         the host's label, such as 'dock' for dock.local
   --port NUMBER        the port that the service listens on (in SRV)

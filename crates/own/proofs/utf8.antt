@@ -1,0 +1,3 @@
+-- Laws of what a screen can show. For callers: Grammar (it is RFC 3629's).
+mod Bytes
+pub mod Grammar
