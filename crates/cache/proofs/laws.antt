@@ -7,3 +7,4 @@ pub mod Found
 pub mod Evict
 pub mod Whole
 pub mod Counts
+pub mod Order

@@ -5,3 +5,4 @@ pub mod Flush
 pub mod Found
 pub mod Evict
 pub mod Counts
+pub mod Order

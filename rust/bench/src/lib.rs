@@ -1,5 +1,6 @@
 //! The proved library beside the reference program, and the packets that both read.
 
+pub mod lookups;
 pub mod packets;
 pub mod responders;
 pub mod timing;

@@ -2,6 +2,7 @@
 
 use std::hint::black_box;
 
+use bench::lookups::Lookups;
 use bench::packets;
 use bench::responders::{proved, query, reference, Calls, LONG, WIDE};
 use bench::timing;
@@ -36,6 +37,18 @@ fn call(name: &str, instance: &str, sends: bool, call: impl Fn(&mut dyn Calls) -
             || _ = black_box(call(&mut proved)),
             || _ = black_box(call(&mut reference)),
         ),
+    );
+}
+
+/// How a lookup grows with the table: where it is found, and by which test every entry fails.
+fn look_up(entries: usize, repeat: usize) {
+    let among = Lookups::among(entries);
+    let [none, letter] = among.medians(repeat, &among.other_length_and_type, &among.other_letter);
+    let [rtype, _] = among.medians(repeat, &among.other_type, &among.other_letter);
+    let [first, last] = among.medians(repeat, &among.first, &among.last);
+    println!(
+        "{entries:>7} {first:>11.0} {last:>11.0} {rtype:>11.0} {none:>17.0} {letter:>15.0} {:>7.3}",
+        none / letter
     );
 }
 
@@ -86,5 +99,19 @@ fn main() {
         ("tick: nothing due, 21 characters of three bytes", WIDE),
     ] {
         call(name, instance, false, |responder| responder.tick(10));
+    }
+    println!("\nlookup among live entries of 200-byte names, ns (median)");
+    println!(
+        "{:>7} {:>11} {:>11} {:>11} {:>17} {:>15} {:>7}",
+        "entries",
+        "first slot",
+        "last slot",
+        "other type",
+        "type and length",
+        "middle letter",
+        "ratio"
+    );
+    for (entries, repeat) in [(1, 5_000), (64, 200), (512, 50)] {
+        look_up(entries, repeat);
     }
 }

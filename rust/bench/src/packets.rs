@@ -66,6 +66,29 @@ pub fn address_of(number: u16) -> Vec<u8> {
     p
 }
 
+/// A name of so many bytes, its zero byte with them, with a letter in its middle.
+pub fn long_name(bytes: usize, middle: u8) -> Vec<u8> {
+    let mut name = Vec::new();
+    while name.len() + 1 < bytes {
+        let left = bytes - 1 - name.len() - 1;
+        // no label of length 0 is left at the end
+        let length = if left > 63 { 49.min(left - 2) } else { left };
+        label(&mut name, &vec![b'a'; length]);
+    }
+    name.push(0);
+    name[bytes / 2 + 7] = middle;
+    name
+}
+
+/// A response with an address, the four bytes of a number, of a name that others may have too.
+pub fn shared_address(owner: &[u8], address: u32) -> Vec<u8> {
+    let mut p = response(1);
+    p.extend(owner);
+    fields(&mut p, 1, 1, 120, 4);
+    p.extend(address.to_be_bytes());
+    p
+}
+
 /// The announcement of a service: PTR, SRV, TXT and A, names compressed.
 pub fn service() -> Vec<u8> {
     let mut p = response(4);

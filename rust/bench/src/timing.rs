@@ -4,6 +4,7 @@ use std::hint::black_box;
 use std::time::Instant;
 
 const ROUNDS: usize = 25;
+const MEDIAN_ROUNDS: usize = 101;
 
 /// The time of `repeat` calls, in nanoseconds a call.
 fn time(repeat: usize, call: &mut dyn FnMut()) -> f64 {
@@ -22,6 +23,19 @@ pub fn least(repeat: usize, mut ours: impl FnMut(), mut reference: impl FnMut())
         least[1] = least[1].min(time(repeat, &mut reference));
     }
     least
+}
+
+/// The median times of the two, in nanoseconds a call; their rounds take turns.
+pub fn medians(repeat: usize, mut a: impl FnMut(), mut b: impl FnMut()) -> [f64; 2] {
+    let mut times = [Vec::new(), Vec::new()];
+    for _ in 0..MEDIAN_ROUNDS {
+        times[0].push(time(repeat, &mut a));
+        times[1].push(time(repeat, &mut b));
+    }
+    times.map(|mut times| {
+        times.sort_by(f64::total_cmp);
+        times[times.len() / 2]
+    })
 }
 
 /// Both readers over all packets: the least times, in nanoseconds a packet.

@@ -1,4 +1,4 @@
--- The refusals that both calls begin with, those of a table. Assumes nothing.
+-- The refusals that both calls begin with, those of a table, and what a lookup that is not refused has passed. Assumes nothing.
 use mathlib.Core.Path.{_≡_, refl}
 use mathlib.Core.List.{List, _++_}
 use mathlib.Core.Bool.{Bool, true, false, cond, not, _&&_, _||_}
@@ -9,8 +9,9 @@ use lib.Dec.{ltb, leb, eqb}
 use borrow.Author.Tests.{ltb-false, leb-true}
 use Rattle.cache.specs.entries.Entries.{heardAhead, tooLong}
 use Rattle.wire.specs.Lists.{some}
+use Rattle.wire.specs.names.Names.{isName}
 use Rattle.wire.specs.refusals.Numbers.{firstRefusal}
-use Rattle.cache.specs.entries.Cache.{isSize, badTime, badTable, tableTests, entriesRefusal}
+use Rattle.cache.specs.entries.Cache.{isSize, badTime, badTable, badStore, tableTests, entriesRefusal, lookRefusal}
 use Rattle.cache.specs.declared.entries.Entry.{Entry}
 
 -- what a size is
@@ -62,3 +63,16 @@ table-first now es tests = go (badTime now es) (badTable es)
     go true b = refl
     go false true = refl
     go false false = refl
+
+-- a lookup that is not refused: of a good table, with its store, for a name
+pub look-accepted : (now : ℕ) (es : List Entry) (store name : List ℕ) → lookRefusal now es store name ≡ 0
+    → (badTable es ≡ false) × (badStore es store ≡ false) × (isName name ≡ true)
+unfolding lookRefusal
+look-accepted now es store name h = go (badTime now es) (badTable es) (badStore es store) (isName name) h
+  where
+    go : (a b c d : Bool) → _≡_ {A = ℕ} (cond a 1 (cond b 8 (cond c 8 (cond (not d) 6 0)))) 0 → (b ≡ false) × (c ≡ false) × (d ≡ true)
+    go true b c d k = absurd (omega arith)
+    go false true c d k = absurd (omega arith)
+    go false false true d k = absurd (omega arith)
+    go false false false true k = (refl, refl, refl)
+    go false false false false k = absurd (omega arith)
