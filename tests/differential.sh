@@ -35,6 +35,9 @@ start refused 7 with no UTF-8
 start refused 7 with a control byte
 recv quiet
 recv sent response of 4
+recv sent response of 6
+recv sent response with 1 NSEC
+recv sent response with 2 NSEC
 recv refused 7
 tick sent probe more
 tick sent response of 3 more
@@ -59,6 +62,8 @@ put turned away by a table of 64
 put turned away by a table of 65 to 511
 put turned away by a table of 512
 put cached with passed over
+put cached with a restricted NSEC
+put cached with another NSEC
 put refused 1
 put refused 4
 put refused 5
@@ -70,6 +75,7 @@ look slot in a table of 64
 look slot in a table of 65 to 511
 look slot in a table of 512
 look slot past 99
+look slot of NSEC
 look owner of no label
 look owner of 1 label
 look owner of 2 to 126 labels
@@ -79,6 +85,7 @@ look refused 1
 look refused 6
 look refused 8
 slot used
+slot used by NSEC
 slot unused
 clear cleared
 txt value received
@@ -96,5 +103,11 @@ read PTR target of 127 labels
 read SRV target of no label
 read SRV target of 1 label
 read SRV target of 127 labels
+read NSEC next name of no label
+read NSEC next name of 1 label
+read NSEC next name of 2 to 126 labels
+read NSEC next name of 127 labels
+read another NSEC owner of no label
+read another NSEC owner of 2 to 126 labels
 KINDS
 exit "$missing"

@@ -35,7 +35,7 @@ enum {
 };
 
 #define KURGASHEL_PORT 5353          /* the port that packets come from and go to */
-#define KURGASHEL_STATE_BYTES 667    /* a responder's state */
+#define KURGASHEL_STATE_BYTES 685    /* a responder's state */
 #define KURGASHEL_SETUP_BYTES 579    /* sizeof (struct kurgashel_setup) */
 #define KURGASHEL_OUT_BYTES 1452     /* the least out buffer; no packet is longer */
 #define KURGASHEL_MOST_ENTRIES 512   /* the most entries of a cache; the least is 1 */
@@ -189,6 +189,18 @@ struct kurgashel_srv {
     size_t target, target_length, target_labels, target_first_label;
 };
 struct kurgashel_srv kurgashel_srv(const uint8_t *message, size_t message_bytes, size_t rdata, size_t rdata_length);
+
+/* The NSEC (type 47) of the restricted kind in the rdata of one, for the record whose owner stands at an offset: the offset of its next name, the uncompressed
+ * length of that and its labels; and where its window block starts and how long it is. All is 0 where none is found: any other NSEC says nothing here. Of an
+ * entry of the cache the rdata itself is the message, and the owner, which the next name equals, stands at 0 too. */
+struct kurgashel_nsec {
+    bool found;
+    size_t next, next_length, next_labels, next_first_label, block, block_length;
+};
+struct kurgashel_nsec kurgashel_nsec(const uint8_t *message, size_t message_bytes, size_t owner, size_t rdata, size_t rdata_length);
+
+/* Whether a window block says that the name has records of a type. What it does not name does not exist there. */
+bool kurgashel_nsec_names(const uint8_t *block, size_t block_bytes, uint16_t rtype);
 
 /* The string at a place of a TXT, which is the rdata of one: where its text starts, how long that is, and where the next string starts. From the TXT's end on
  * none is found. Refusal 6 where the string runs past the end, which does not happen in a message that is not refused. */

@@ -1,5 +1,5 @@
-// The exported readers of rdata from C, over the reader's archive alone: an announcement by hand, its SRV, TXT, A and AAAA, and parts that are none of them.
-// Says what fails, and the count. Run by tests/capi.sh.
+// The exported readers of rdata from C, over the reader's archive alone: an announcement by hand, its SRV, TXT, A and AAAA, an NSEC, and parts that are none of
+// them. Says what fails, and the count. Run by tests/capi.sh.
 #include "kurgashel.h"
 #include <stdio.h>
 #include <string.h>
@@ -101,12 +101,44 @@ static void strings(void) {
     expect(!kurgashel_txt_string(NULL, 0, 0).found && !kurgashel_txt_string(NULL, 0, 0).refusal, "no TXT");
 }
 
+// the owner at 12, "local" in it at 17; the rdata at 34, with a pointer at 39 and the window block at 41
+static const uint8_t absent[] = "\0\0\x84\0\0\0\0\1\0\0\0\0" "\4dock\5local\0" "\0\x2f\x80\1\0\0\0\x78\0\x0a" "\4DOCK\xc0\x11" "\0\1\x40";
+enum { ABSENT = sizeof absent - 1 };
+
+static int nothing(struct kurgashel_nsec n) {
+    return !n.found && !n.next && !n.next_length && !n.next_labels && !n.next_first_label && !n.block && !n.block_length;
+}
+static struct kurgashel_nsec nsec(size_t owner, size_t at, size_t length) { return kurgashel_nsec(absent, ABSENT, owner, at, length); }
+
+// with one byte changed, whether the message is well formed and its NSEC is not of the restricted kind
+static int stepped_over(size_t at, uint8_t byte) {
+    uint8_t other[ABSENT];
+    memcpy(other, absent, ABSENT);
+    other[at] = byte;
+    return !kurgashel_message_refusal(other, ABSENT) && nothing(kurgashel_nsec(other, ABSENT, 12, 34, 10));
+}
+
+static void denials(void) {
+    struct kurgashel_nsec n = nsec(12, 34, 10);
+    expect(ABSENT == 44 && !kurgashel_message_refusal(absent, ABSENT) && n.found, "an NSEC of the restricted kind");
+    expect(n.next == 34 && n.next_length == 12 && n.next_labels == 2 && n.next_first_label == 4, "its next name");
+    expect(n.block == 41 && n.block_length == 3, "its window block");
+    expect(kurgashel_nsec_names(absent + 41, 3, A) && !kurgashel_nsec_names(absent + 41, 3, AAAA), "an A and no AAAA");
+    expect(!kurgashel_nsec_names(absent + 41, 3, 0) && !kurgashel_nsec_names(absent + 41, 3, 2) && !kurgashel_nsec_names(absent + 41, 3, 65535), "no more");
+    expect(!kurgashel_nsec_names(NULL, 0, A), "no block");
+    expect(stepped_over(13, 'e') && stepped_over(41, 1) && stepped_over(42, 0) && stepped_over(42, 2) && stepped_over(42, 33), "near misses are stepped over");
+    expect(stepped_over(40, 0x22) && stepped_over(40, 0x0b) && stepped_over(39, 0x80), "so is a bad pointer");
+    expect(nothing(nsec(12, 34, 9)) && nothing(nsec(17, 34, 10)) && nothing(nsec(12, 35, 9)) && nothing(nsec(SIZE_MAX, 34, 10)), "less, or another owner");
+    expect(nothing(nsec(12, 34, SIZE_MAX)) && nothing(nsec(12, SIZE_MAX, 10)) && nothing(kurgashel_nsec(NULL, 0, 0, 0, 0)), "a part past the message");
+}
+
 int main(void) {
     walk();
     services();
     names();
     addresses();
     strings();
+    denials();
     printf("reader: %d cases, %d failed\n", cases, failed);
     return failed != 0;
 }

@@ -90,6 +90,12 @@ static void life(void) {
     expect(is(kurgashel_receive(state, KURGASHEL_STATE_BYTES, 800, 5353, 20, query, 11, out, KURGASHEL_OUT_BYTES), 4), "11 bytes");
     a = kurgashel_receive(state, KURGASHEL_STATE_BYTES, 1750, 5353, 20, query, 28, out, KURGASHEL_OUT_BYTES);
     expect(!a.refusal && a.length == 38 && !memcmp(out, announcement, 38), "the host's address, asked for");
+    static const uint8_t nsec[39] = "\0\0\x84\0\0\0\0\1\0\0\0\0\4dock\5local\0\0\x2f\x80\1\0\0\0\x78\0\5\xc0\x0c\0\1\x40";
+    query[25] = 28;
+    a = kurgashel_receive(state, KURGASHEL_STATE_BYTES, 1750, 5353, 20, query, 28, out, KURGASHEL_OUT_BYTES);
+    expect(!a.refusal && a.length == 39 && !memcmp(out, nsec, 39), "AAAA, which the host lacks: NSEC says that it has A alone");
+    a = kurgashel_receive(state, KURGASHEL_STATE_BYTES, 1799, 5353, 20, query, 28, out, KURGASHEL_OUT_BYTES);
+    expect(!a.refusal && !a.length, "and not again within 1,000 ms");
     uint8_t theirs[38]; memcpy(theirs, announcement, 38); theirs[37] = 8;
     a = kurgashel_receive(state, KURGASHEL_STATE_BYTES, 1800, 5353, 20, theirs, 38, out, KURGASHEL_OUT_BYTES);
     expect(!a.refusal && !a.length && claim(KURGASHEL_HOST) == KURGASHEL_WAITING, "a conflict: back to waiting");
@@ -97,15 +103,15 @@ static void life(void) {
     expect(due(1750), "the instance's second step is overdue");
     a = tick(1800);
     expect(a.length && a.more && due(1800), "it sends, and the host's first probe is due");
-    state[579] = 6; state[588] = 7; state[642] = 0;
+    state[579] = 6; state[588] = 7; state[660] = 0;
     expect(!kurgashel_due(state, KURGASHEL_STATE_BYTES).due, "held for good and lost: no step to come");
 }
 
 // the times and the draw below 256
 static void small_numbers(void) {
-    for (size_t i = 0; i < 8; i++) memset(state + 579 + 9 * i + 1, 0, 7);
-    memset(state + 651, 0, 7);
-    memset(state + 659, 0, 7);
+    for (size_t i = 0; i < 10; i++) memset(state + 579 + 9 * i + 1, 0, 7);
+    memset(state + 669, 0, 7);
+    memset(state + 677, 0, 7);
 }
 
 // every buffer of the right length is a state: a case beyond the last is lost, a flag counts by its low bit

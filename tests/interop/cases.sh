@@ -1,6 +1,6 @@
 # The cases. Each prints what was seen and answers 0 where it is as it should be.
 
-cases="avahi_finds_us zeroconf_finds_us we_find_avahi we_find_zeroconf
+cases="avahi_finds_us zeroconf_finds_us we_find_avahi we_find_zeroconf says_that_there_is_no_aaaa
     yields_the_instance_to_avahi yields_the_host_to_avahi yields_the_instance_to_zeroconf
     keeps_the_instance_against_avahi keeps_the_host_against_avahi keeps_the_instance_against_zeroconf
     two_of_ours_by_chance two_of_ours_in_step"
@@ -98,6 +98,25 @@ we_find_zeroconf() {
     seen=$(cat "$work/ours")
     has "$seen" '^found +Hall, west$' && has "$seen" '^  host +hall\.local$' && has "$seen" '^  port +4002$' &&
         has "$seen" '^  address +10\.77\.0\.3$' && has "$seen" '^  txt +room=9$'
+}
+
+# A host without AAAA: what its NSEC changes for those who ask. Avahi 0.8 and python-zeroconf 0.47 ask for both kinds of address; how long each takes is shown.
+says_that_there_is_no_aaaa() {
+    local seen begun
+    start_responder a ours --instance booth --service $service --host dock --port 4000 --txt room=3
+    wait_for 5 ours "held +$booth" && wait_for 5 ours 'held +dock.local' && sleep 1.2 || return 1
+    start_browser b peer --service $service
+    wait_for 8 peer 'no IPv6' && has "$(cat "$work/peer")" 'no IPv6' || return 1
+    kill "$last"
+    begun=$(date +%s%N)
+    seen=$(on c "$python" "$root/tests/interop/zeroconf_find.py" 10.77.0.3 $service.local. booth 2>&1)
+    echo "    zeroconf: $((($(date +%s%N) - begun) / 1000000)) ms"
+    has "$seen" '^address 10\.77\.0\.1$' && ! grep -q 'address fd77' <<<"$seen" || return 1
+    avahi_is_up other || return 1
+    begun=$(date +%s%N)
+    seen=$(on b avahi-resolve -6 -n dock.local 2>&1)
+    echo "    avahi-resolve -6: $((($(date +%s%N) - begun) / 1000000)) ms"
+    has "$seen" 'Failed to resolve host name'
 }
 
 yields_the_instance_to_avahi() {

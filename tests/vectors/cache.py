@@ -305,6 +305,104 @@ clear()
 put(0, response(address(1), authority=[address(2)], additional=[address(3)], flags=0))
 slot(0)
 
+# --- NSEC ---------------------------------------------------------------------------------------------------------------
+
+ADDRESS = window(0x40)
+BOTH = window(0x40, 0, 0, 8)
+SHOUTED = name(b"DESK", b"local")
+
+
+def negative(next=DESK, bits=ADDRESS, owner=DESK, cls=1, ttl=120):
+    return record(owner, NSEC, next + bits, cls, ttl)
+
+
+show("NSEC of the restricted form is taken as a sixth type: its next name expanded, found by type 47 alone")
+clear()
+put(0, response(negative(pointer(12))))
+put(0, response(record(BOOTH, NSEC, labels(b"booth") + pointer(18) + window(0, 0, 0x80, 0, 0x40), FLUSH, 120)))
+slot(0, 1, 2)
+look(0, DESK, NSEC)
+look(0, SHOUTED, NSEC)
+look(0, BOOTH, NSEC)
+look(0, DESK, NSEC, 1)
+for rtype in (A, AAAA, 46, 48, 255, 65536 + NSEC):
+    look(0, DESK, rtype)
+show("the same by other pointers, and whole, in any spelling of the owner: one entry, refreshed")
+for now, packet in ((10, response(negative())), (20, response(negative(labels(b"desk") + pointer(17)))), (30, response(negative(owner=SHOUTED))),
+                    (40, header(qd=1, an=1) + question(DESK) + negative(pointer(12), owner=SHOUTED))):
+    put(now, packet)
+    slot(0, 2)
+show("case counts in the next name, and every byte of the bitmap, trailing zeros too: entries of their own")
+clear()
+forms = [negative(), negative(SHOUTED), negative(bits=BOTH), negative(bits=window(0x40, 0)), negative(bits=window(0)),
+         negative(bits=window(*[0x40] * 5, *[0] * 27)), negative(pointer(12), owner=SHOUTED)]
+for packet in map(response, forms):
+    put(0, packet)
+slot(*range(7))
+for start in range(7):
+    look(0, DESK, NSEC, start)
+show("none of these is taken nor counted: another next name, windows 1 and 255, lengths 0 and 33, a byte more or less, the NSEC bit, bad pointers, no rdata")
+clear()
+misses = [pointer(17) + ADDRESS, HOST + ADDRESS, b"\0" + ADDRESS, DESK + window(0x40, number=1), DESK + window(0x40, number=255), DESK + window(),
+          DESK + window(*[0x40] * 33), DESK + window(0x40, 0, length=1), DESK + window(0x40, length=2), DESK + window(0, 0, 0, 0, 0, 1),
+          DESK + ADDRESS + window(0x40, number=1), pointer(0) + ADDRESS, pointer(11) + ADDRESS, pointer(12 + len(DESK) + 10) + ADDRESS, pointer(4000) + ADDRESS,
+          b"\x40" + ADDRESS, DESK, b"", b"nsec"]
+for rdata in misses:
+    put(0, response(record(DESK, NSEC, rdata, FLUSH)))
+put(0, response(*(record(DESK, NSEC, rdata) for rdata in misses), address(1)))
+slot(0, 1)
+look(0, DESK, NSEC)
+show("nor do they flush or end an entry of that name; one of the form does")
+clear()
+put(0, response(negative()))
+put(5000, response(*(record(DESK, NSEC, rdata, FLUSH, 0) for rdata in misses)))
+slot(0)
+put(5000, response(negative(bits=BOTH, cls=FLUSH)))
+slot(0, 1)
+show("classes other than 1, Authority, a query: not taken")
+clear()
+put(0, response(negative(cls=3), negative(cls=255), negative(cls=0x8003)))
+put(0, response(authority=[negative()]))
+put(0, response(negative(), flags=0))
+slot(0)
+put(0, response(additional=[negative()]))
+slot(0)
+show("goodbyes, a TTL with its top bit, expiry, and a full table")
+clear()
+put(0, response(negative(), negative(bits=BOTH)))
+put(10, response(negative(ttl=0)))
+put(10, response(negative(SHOUTED, BOTH, ttl=0)))
+slot(0, 1)
+put(20, response(negative(bits=BOTH, ttl=0x80000078)))
+slot(1)
+look(1009, DESK, NSEC)
+look(1010, DESK, NSEC)
+look(1020, DESK, NSEC)
+table(1)
+put(0, response(negative(), negative(bits=BOTH), negative(SHOUTED), record(DESK, NSEC, b"nsec")))
+put(0, response(address(1), negative(ttl=1)))
+slot(0)
+show("addresses and NSEC of one name flush each other not")
+table(64)
+put(0, response(address(1), negative()))
+put(5000, response(negative(cls=FLUSH), address(2)))
+slot(0, 1, 2)
+put(9000, response(address(1, cls=FLUSH)))
+slot(0, 1, 2)
+show("the flush spares what came within 1,000 ms")
+for received in (4000, 3999):
+    clear()
+    put(received, response(negative()))
+    put(5000, response(negative(bits=BOTH, cls=FLUSH)))
+    slot(0)
+show("the longest: an owner of 255 bytes, a bitmap of 32; and the root's")
+clear()
+put(0, response(record(filled(255), NSEC, filled(255) + window(*[0x40] * 32)), record(b"\0", NSEC, b"\0" + ADDRESS)))
+put(0, response(record(filled(255), NSEC, pointer(12) + window(*[0x40] * 32))))
+slot(0, 1, 2)
+look(0, filled(255), NSEC)
+look(0, b"\0", NSEC)
+
 # --- refusals -----------------------------------------------------------------------------------------------------------
 
 show("a message malformed in its last record: refused as 6, and nothing has changed")

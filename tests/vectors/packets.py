@@ -1,6 +1,6 @@
 # Packets for vectors, piece by piece: header, names, questions, records (RFC 1035, 4).
 
-A, PTR, TXT, AAAA, SRV = 1, 12, 16, 28, 33
+A, PTR, TXT, AAAA, SRV, NSEC = 1, 12, 16, 28, 33, 47
 
 
 def header(qd=0, an=0, ns=0, ar=0, flags=0x8400, ident=0):
@@ -37,6 +37,11 @@ def filled(n):
         left -= 64
     parts.append(b"b" * (left - 1))
     return name(*parts)
+
+
+def window(*bits, number=0, length=None):
+    """The window block of an NSEC with these bytes of a bitmap (RFC 4034, 4.1.2)."""
+    return bytes([number, len(bits) if length is None else length, *bits])
 
 
 HOST = name(b"dock", b"local")

@@ -279,6 +279,128 @@ show("a TTL with its top bit set counts as 0")
 for ttl in (0, 1, 4500, 0x7FFFFFFF, 0x80000000, 0x80000078, 0xFFFFFFFF):
     read(header(an=1) + record(HOST, A, bytes(4), ttl=ttl))
 
+# --- NSEC -------------------------------------------------------------------------------------------------------------
+
+ADDRESS = window(0x40)
+BOTH = window(0x40, 0, 0, 8)
+SERVICES = window(0, 0, 0x80, 0, 0x40)
+
+
+def nsec(rdata, owner=HOST, after=b"", **fields):
+    read(header(an=1) + record(owner, NSEC, rdata, **fields) + after)
+
+
+show("NSEC of the restricted form, with each of our bitmaps: the next name whole, by a pointer, by a label and one; expanded, its labels behind")
+for bits in (ADDRESS, BOTH, SERVICES):
+    for next in (HOST, pointer(12), labels(b"dock") + pointer(17)):
+        nsec(next + bits)
+booth = name(b"booth", b"_voice", b"_tcp", b"local")
+for next in (booth, pointer(12), labels(b"booth") + pointer(18), labels(b"booth", b"_voice") + pointer(25)):
+    nsec(next + SERVICES, owner=booth)
+
+show("in every section, of any class and TTL, of a query and of a response")
+for section in ((0, 1, 0, 0), (0, 0, 1, 0), (0, 0, 0, 1)):
+    for cls in (1, 0x8001, 3, 255, 0, 65535):
+        for flags in (0, 0x8400):
+            read(header(*section, flags=flags) + record(HOST, NSEC, pointer(12) + ADDRESS, cls=cls, ttl=0x80000000 if cls == 0 else 120))
+
+show("a next name in other case is equal, and shown as it is; through a pointer that is the owner's, or another's")
+for next in (name(b"DOCK", b"local"), name(b"dock", b"LOCAL"), labels(b"Dock") + pointer(17), name(b"DOCK", b"LOCAL")):
+    nsec(next + ADDRESS)
+nsec(pointer(12) + ADDRESS, owner=name(b"DoCK", b"locAL"))
+read(header(qd=1, an=1) + question(name(b"DOCK", b"LOCAL")) + record(HOST, NSEC, pointer(12) + ADDRESS))
+
+show("next names of other labels: the root, a suffix, one label more, another label, a prefix; letters past ASCII and [ { do not fold")
+for next in (b"\0", pointer(17), name(b"local"), labels(b"x") + pointer(12), labels(b"deck") + pointer(17), name(b"dock"), name(b"doc", b"local"),
+             name(b"dockk", b"local"), name(b"dock", b"local", b"x")):
+    nsec(next + ADDRESS)
+nsec(name(b"[") + ADDRESS, owner=name(b"{"))
+nsec(name(b"@") + ADDRESS, owner=name(b"`"))
+nsec(name("\u00e9".encode()) + ADDRESS, owner=name("\u00c9".encode()))
+
+show("owners of no label, of one, of 63 bytes of one, of 127 labels, of 255 bytes: whole and by a pointer")
+for owner in (b"\0", name(b"a"), name(b"a" * 63), MANY, filled(255)):
+    nsec(owner + SERVICES, owner=owner)
+    nsec(pointer(12) + SERVICES, owner=owner)
+show("the next name is longer than 255 bytes: unknown")
+nsec(labels(b"a") + pointer(12) + ADDRESS, owner=filled(254))
+nsec(labels(b"a") + pointer(12) + ADDRESS, owner=filled(255))
+nsec(filled(256) + ADDRESS)
+
+show("window 0 alone: 1, 2, 128 and 255 are unknown; two windows are")
+for number in (0, 1, 2, 128, 255):
+    nsec(pointer(12) + window(0x40, number=number))
+for more in (window(0x40, number=1), window(0x40), window(1)):
+    nsec(pointer(12) + ADDRESS + more)
+nsec(pointer(12) + window(0x40, number=1) + ADDRESS)
+
+show("bitmaps of 0 to 34 bytes: 1 to 32 are of the form")
+for n in range(35):
+    nsec(pointer(12) + window(*[0x40] * n))
+
+show("a byte more or less than the length says, for lengths of 1, 4, 5, 31, 32, 33 and 255; a length byte of 0 with bytes behind it")
+for n in (1, 4, 5, 31, 32, 33, 255):
+    for there in (n - 1, n + 1):
+        nsec(pointer(12) + window(*[0x40] * there, length=n))
+nsec(pointer(12) + window(0x40, length=0))
+nsec(pointer(12) + window(0x40, length=2), after=b"\0\0")
+nsec(pointer(12) + ADDRESS, length=4, after=b"\0")
+nsec(pointer(12) + ADDRESS, length=6, after=b"\0")
+
+show("rdata of none, of a name alone, of a name and a window's number, of a name, number and length")
+nsec(b"")
+for cut in (0, 1, 2):
+    nsec(pointer(12) + ADDRESS[:cut])
+    nsec(HOST + ADDRESS[:cut])
+
+show("the bit of NSEC itself, the lowest of the sixth byte: in bitmaps of 6, 7 and 32 bytes, alone and with others; every other bit of six bytes is free")
+for n in (6, 7, 32):
+    for byte in (1, 0xFF, 0x81):
+        bits = [0x40] * n
+        bits[5] = byte
+        nsec(pointer(12) + window(*bits))
+for bit in range(48):
+    bits = [0] * 6
+    bits[bit // 8] = 0x80 >> bit % 8
+    nsec(pointer(12) + window(*bits))
+nsec(pointer(12) + window(*[0xFF] * 5, 0xFE, *[0xFF] * 26))
+nsec(pointer(12) + window(*[0xFF] * 5))
+
+show("trailing zero bytes, and zeros alone, are of the form")
+for bits in ((0x40, 0), (0x40, 0, 0, 8, 0, 0), (0x40, *[0] * 31), (0,), (0, 0), (0,) * 6, (0,) * 32):
+    nsec(pointer(12) + window(*bits))
+
+show("a bad name before the bitmap is no reason to refuse: pointers to 0, 11, itself, into its own run, forwards, past the end; bytes 0x40 to 0xbf")
+at = 12 + len(HOST) + 10
+for next in (pointer(0), pointer(11), pointer(at), pointer(at + 1), pointer(at + 2), pointer(at + 5), pointer(0x3FFF), labels(b"dock") + pointer(at),
+             labels(b"dock") + pointer(at + 2), b"\x40", b"\x80", b"\xbf", b"\x3f", labels(b"dock") + b"\x40"):
+    nsec(next + ADDRESS)
+    nsec(next + ADDRESS, after=bytes(80))
+
+show("a name that the end of the rdata cuts, with bytes behind it that would make it whole, and with none")
+for rdata in (b"\xc0", labels(b"dock") + b"\xc0", HOST[:-1], HOST[:5], HOST[:3], b"\4"):
+    nsec(rdata)
+    nsec(rdata, after=b"\x0c\0\1\x40" + bytes(9))
+
+show("unknown ones among others: the records before and behind are read; a record that is malformed is still refused as 6")
+good, odd = record(HOST, NSEC, pointer(12) + ADDRESS), record(HOST, NSEC, pointer(4) + ADDRESS)
+read(header(0, 2, 1, 1) + good + odd + odd + record(HOST, A, bytes(4)))
+read(header(0, 2, 0, 0) + odd + record(HOST, A, bytes(3)))
+read(header(0, 1, 0, 0) + record(HOST, NSEC, pointer(12) + ADDRESS, length=6))
+read(header(0, 1, 0, 0) + record(HOST, NSEC, pointer(12) + ADDRESS, length=65535))
+for cut in range(1, 17):
+    read(header(0, 1, 0, 0) + good[:-cut])
+
+show("pointers into the next name of an NSEC, of the form or not, and into its bitmap, where a name reads")
+deep = record(b"\0", NSEC, name(b"deep", b"er") + window(1, 0x78, 0))
+for target in (12 + 11, 12 + 16, 12 + 21, 12 + 22):
+    read(header(0, 1, 0, 1) + deep + record(pointer(target), A, bytes(4)))
+read(header(0, 1, 0, 1) + record(HOST, NSEC, HOST + ADDRESS) + record(pointer(at), NSEC, pointer(12) + ADDRESS))
+
+show("other types with rdata of the same form stay as they are")
+for rtype in (46, 48, 50, 255, 303, 65535):
+    read(header(an=1) + record(HOST, rtype, pointer(12) + ADDRESS))
+
 # --- refusals 4 and 5, and their order --------------------------------------------------------------------------------
 
 show("0, 1, 11 and 12 bytes: refused with 4 below 12")

@@ -184,7 +184,7 @@ claims()
 tick(now + 20119)
 tick(now + 20120)
 claims()
-show("every subset of SRV, TXT, A and AAAA asked for at once, with and without an AAAA")
+show("every subset of SRV, TXT, A and AAAA asked for at once, with an AAAA and without, where the host's NSEC stands in its place")
 for aaaa in (SIX, b""):
     now = state("held", aaaa=aaaa)
     for subset in range(1, 16):
@@ -228,6 +228,166 @@ for which in STATES:
     now = state(which)
     recv(now + 5000, query([question(HOST), question(INSTANCE), question(SERVICE)]))
     claims()
+
+# --- what doesn't exist -------------------------------------------------------------------------------------------------
+
+ADDRESS = window(0x40)
+BOTH = window(0x40, 0, 0, 8)
+SERVICES = window(0, 0, 0x80, 0, 0x40)
+NAMES = (HOST, INSTANCE, SERVICE)
+TYPES = (1, 12, 16, 28, 33, 47, 255, 256, 65535)
+
+
+def negative(owner=HOST, next=HOST, bits=ADDRESS, cls=1, ttl=120):
+    return record(owner, NSEC, next + bits, cls, ttl)
+
+
+show("a type that a held name has no record of is answered with its NSEC; each type at each name, with and without an AAAA; the service's name has none")
+for aaaa in (b"", SIX):
+    now = state("held", aaaa=aaaa)
+    for owner in NAMES:
+        for rtype in TYPES:
+            now += 2000
+            recv(now, query([question(owner, rtype)]))
+        claims()
+        tick(now + 1000)
+show("every type from 0 to 50 at both names, and those around 255 and 2^15; and those that are a present one in eight bits")
+now = state("held", aaaa=SIX)
+for rtype in (*range(51), 250, 251, 252, 253, 254, 255, 256, 32767, 32768, 256 + A, 256 + AAAA, 256 + TXT, 256 + SRV, 511, 65280 + A):
+    now += 1000
+    recv(now, query([question(HOST, rtype), question(INSTANCE, rtype)]))
+show("classes 1 and 255, with the unicast bit or without; class 3 and 0 ask for nothing; names in other case; names near")
+now = state("held")
+for cls in (255, 0x8001, 0x80FF, 3, 0, 0x8000):
+    now += 1000
+    recv(now, query([question(HOST, AAAA, cls)]))
+for owner in (name(b"DOCK", b"Local"), name(b"BOOTH", b"_VOICE", b"_TCP", b"LOCAL"), name(b"deck", b"local"), name(b"x", b"dock", b"local"),
+              name(b"local"), b"\0"):
+    now += 1000
+    recv(now, query([question(owner, AAAA)]))
+show("both in one packet, the instance's first, whatever the order of the questions; with the others, after AAAA; each once; PTR waits for its step")
+for aaaa in (b"", SIX):
+    now = state("held", aaaa=aaaa)
+    for qs in ([(HOST, 99), (INSTANCE, 99)], [(INSTANCE, A), (HOST, TXT), (INSTANCE, A), (HOST, NSEC)], [(HOST, A), (HOST, 99)], [(HOST, 99), (INSTANCE, SRV)],
+               [(INSTANCE, 99), (HOST, A)], [(INSTANCE, TXT), (HOST, AAAA)], [(HOST, 255), (HOST, 99), (INSTANCE, 255), (INSTANCE, 99), (SERVICE, PTR)]):
+        now += 2000
+        recv(now, query([question(*q) for q in qs]))
+        claims()
+        tick(now + 20)
+show("questions for what doesn't exist in each state: only a held claim answers")
+for which in STATES:
+    now = state(which)
+    recv(now + 5000, query([question(HOST, AAAA), question(INSTANCE, AAAA)]))
+show("one claim is held and the other not")
+for conflict in (record(HOST, A, b"\xff" * 4), record(INSTANCE, TXT, b"\1x")):
+    now = state("held")
+    recv(now, response([conflict]))
+    recv(now, query([question(HOST, AAAA), question(INSTANCE, AAAA)]))
+show("a question of a response, and one from another port, are not answered")
+now = state("held")
+recv(now, response(questions=[question(HOST, AAAA)]))
+recv(now, query([question(HOST, AAAA)]), port=5354)
+recv(now, query([question(HOST, AAAA)]), out=(1451,))
+recv(now, query([question(HOST, AAAA)]), out=(1452,))
+show("known at TTL 60 and above it is omitted, at 59 not; a TTL with its top bit counts as 0; class 0x8001 is class 1; the host's and the instance's")
+for ttl in (60, 59, 0, 1, 61, 119, 120, 4500, 0x7FFFFFFF, 0x8000003C, 0xFFFFFFFF):
+    now = state("held")
+    recv(now + 2000, query([question(HOST, AAAA)], [negative(ttl=ttl)]))
+    recv(now + 2000, query([question(INSTANCE, AAAA)], [negative(INSTANCE, INSTANCE, SERVICES, 0x8001, ttl)]))
+show("the known one by a pointer, its owner in other case: omitted; other class, section, owner, next name, bitmap, or none of the form: not")
+def absent_known(known=(), authority=(), additional=()):
+    now = state("held")
+    sections = (known, authority, additional)
+    recv(now + 2000, header(1, *map(len, sections), flags=0) + question(HOST, AAAA) + b"".join(r for section in sections for r in section))
+
+
+SHOUTED = name(b"Dock", b"local")
+for known in (negative(next=pointer(12)), negative(name(b"DOCK", b"LOCAL")), negative(cls=3), negative(cls=255), negative(INSTANCE, INSTANCE),
+              negative(next=SHOUTED), negative(SHOUTED, SHOUTED), negative(bits=window(0x40, 0)), negative(bits=BOTH), negative(bits=window(0x60)),
+              negative(bits=window(0x40, number=1)), negative(next=pointer(0)), negative(next=b"\0"), record(HOST, 46, HOST + ADDRESS), record(HOST, A, TEN)):
+    absent_known([known])
+absent_known(authority=[negative()])
+absent_known(additional=[negative()])
+absent_known([negative(bits=BOTH), negative(ttl=59), negative()])
+show("with an AAAA: known with both bits it is omitted, with the bit of A alone not; the instance's and its near misses")
+for bits in (BOTH, ADDRESS, window(0x40, 0, 0, 8, 0)):
+    now = state("held", aaaa=SIX)
+    recv(now + 2000, query([question(HOST, TXT)], [negative(bits=bits)]))
+for bits in (SERVICES, window(0, 0, 0x80, 0, 0x40, 0), window(0, 0, 0x80), window(0, 8, 0x80, 0, 0x40), window(0, 0, 0x80, 0, 0x40, 1)):
+    now = state("held", aaaa=SIX)
+    recv(now + 2000, query([question(INSTANCE, PTR)], [negative(INSTANCE, INSTANCE, bits)]))
+show("a known NSEC omits no other record, and a known record no NSEC")
+now = state("held")
+recv(now + 2000, query([question(HOST, A), question(HOST, AAAA)], [negative()]))
+recv(now + 4000, query([question(HOST, A), question(HOST, AAAA)], [record(HOST, A, TEN)]))
+show("asked again after 999 ms: omitted; after 1,000 ms: sent; by a probe for its claim 249 and 250 ms")
+for gap in (0, 1, 249, 250, 999, 1000, 1001):
+    now = state("held") + 5000
+    recv(now, query([question(HOST, AAAA), question(INSTANCE, AAAA)]))
+    recv(now + gap, query([question(HOST, AAAA)]))
+    recv(now + gap, query([question(INSTANCE, AAAA)]))
+for gap in (0, 249, 250, 251, 999, 1000):
+    now = state("held") + 5000
+    recv(now, query([question(HOST, AAAA), question(INSTANCE, AAAA)]))
+    recv(now + gap, query([question(HOST), question(HOST, AAAA), question(INSTANCE, AAAA)], authority=[record(HOST, A, TEN)]))
+    recv(now + gap, query([question(INSTANCE, AAAA), question(INSTANCE)], authority=[record(INSTANCE, TXT, b"\0")]))
+show("a probe alone, of type 255, asks for no NSEC; a question of another type with Authority records is no probe")
+now = state("held") + 5000
+recv(now, query([question(HOST, AAAA)]))
+recv(now + 500, probe(HOST, record(HOST, A, TEN)))
+recv(now + 999, query([question(HOST, AAAA)], authority=[record(HOST, A, TEN)]))
+show("the gap is its own: announced just now, the records' own gaps do not omit it; nor does it them; the host's and the instance's are two")
+now = state("announced")
+recv(now, query([question(HOST), question(HOST, AAAA), question(INSTANCE), question(INSTANCE, A)]))
+recv(now + 999, query([question(HOST, AAAA), question(INSTANCE, A)]))
+now = state("held") + 5000
+for owner, rtype in ((HOST, AAAA), (HOST, A), (INSTANCE, A), (INSTANCE, SRV), (INSTANCE, TXT), (HOST, AAAA), (INSTANCE, A)):
+    recv(now, query([question(owner, rtype)]))
+recv(now + 999, query([question(INSTANCE, PTR), question(HOST, PTR), question(SERVICE, PTR)]))
+recv(now + 1000, query([question(INSTANCE, PTR), question(HOST, PTR), question(SERVICE, PTR)]))
+tick(now + 1020)
+show("not in announcements nor in second steps, sent before or not; the second step does not count as its multicast, nor does a probe")
+state("announced", aaaa=SIX)
+recv(1700, query([question(HOST, 99), question(INSTANCE, 99)]))
+for t in (1750, 1750, 1750):
+    tick(t)
+recv(2699, query([question(HOST, 99), question(INSTANCE, 99)]))
+recv(2700, query([question(HOST, 99), question(INSTANCE, 99)]))
+show("won again after a conflict: its last multicast is still known")
+start()
+for t in (0, 0, 250, 250, 500, 500, 750, 750):
+    tick(t)
+recv(760, query([question(HOST, AAAA), question(INSTANCE, AAAA)]))
+recv(760, response([record(HOST, A, b"\xff" * 4)]))
+recv(760, query([question(HOST, AAAA)]))
+for t in (760, 1010, 1260, 1510):
+    tick(t)
+recv(1759, query([question(HOST, AAAA)]))
+recv(1760, query([question(HOST, AAAA)]))
+show("an NSEC never conflicts: of other bitmaps, of other types, of the form or not, with any TTL, in each state")
+for which in STATES:
+    now = state(which)
+    others = [negative(bits=window(0x60)), negative(bits=BOTH, cls=0x8001), negative(INSTANCE, INSTANCE, window(0))]
+    recv(now, response(others, [negative(next=b"\0")], [negative(next=pointer(0)), negative(ttl=1)]))
+    claims()
+show("in a probe it is one more record: of type 47, behind those of the claims; alone it makes a probe too; the probe question alone asks for none")
+own_a, earlier_a = record(HOST, A, TEN), record(HOST, A, b"\x0a\0\0\6")
+for theirs in ([negative()], [own_a, negative()], [negative(next=pointer(12)), own_a], [record(HOST, NSEC, b"")], [earlier_a, negative()],
+               [negative(cls=0)], [own_a, negative(ttl=0)]):
+    for aaaa in (b"", SIX):
+        state("probing", aaaa=aaaa)
+        recv(1, probe(HOST, *theirs))
+        claims()
+now = state("held") + 5000
+recv(now, probe(HOST, negative()))
+recv(now + 250, query([question(HOST), question(HOST, AAAA)], authority=[negative(next=pointer(0))]))
+recv(now + 500, query([question(HOST), question(HOST, AAAA)], authority=[negative(next=pointer(0))]))
+show("our own NSEC comes back, as an answer and as a known one")
+now = state("held") + 5000
+recv(now, query([question(HOST, AAAA)]))
+recv(now, response([negative(next=pointer(12), cls=0x8001)]))
+claims()
+recv(now + 2000, query([question(HOST, AAAA)], [negative(pointer(12), pointer(12), cls=0x8001)]))
 
 # --- probes heard -------------------------------------------------------------------------------------------------------
 
@@ -423,19 +583,37 @@ def announced(what, **setup):
     claims()
 
 
+def absent(instance, host):
+    """Both NSEC alone, each with the other records of its name, and all that goes out at once."""
+    asked = [question(owner, rtype) for owner in (labels(instance) + SERVICE, name(host, b"local")) for rtype in (255, 99)]
+    for i, picked in enumerate(([1], [3], [1, 3], [0, 1], [2, 3], [0, 3], [0, 1, 2, 3])):
+        recv(3000 + 1000 * i, query([asked[k] for k in picked]))
+
+
 STRINGS = b"\xff" + b"x" * 255 + b"\x8f" + b"y" * 143
 LONGEST = dict(instance=bytes(range(0x20, 0x5F)), service=b"_" + b"s" * 15, protocol=b"_udp", host=b"h" * 63, txt=STRINGS, aaaa=SIX, port=65535)
 announced("longest labels and a TXT of 400 bytes: probes, announcements, and all that is asked for at once", **LONGEST)
 longest = [labels(LONGEST[k]) for k in ("instance", "service", "protocol", "host")]
-recv(5000, query([question(longest[3] + name(b"local")), question(longest[0] + longest[1] + longest[2] + name(b"local"))]))
+longest_host, longest_instance = longest[3] + name(b"local"), longest[0] + longest[1] + longest[2] + name(b"local")
+recv(5000, query([question(longest_host), question(longest_instance)]))
+show("the same with both NSEC; and these alone")
+recv(6000, query([question(longest_host), question(longest_instance), question(longest_host, 99), question(longest_instance, 99)]))
+recv(7000, query([question(longest_host, 99), question(longest_instance, 99)]))
+recv(8000, query([question(longest_host, 99)]))
+recv(9000, query([question(longest_instance, 99)]))
 announced("host label '_tcp': the service's name and the host's share '_tcp.local'", host=b"_tcp")
+absent(b"booth", b"_tcp")
 announced("host label '_voice' and instance label '_tcp'", host=b"_voice", instance=b"_tcp")
 announced("host and instance label the same", host=b"booth")
+absent(b"booth", b"booth")
 announced("labels that differ only in case are not pointed at: host 'Booth', instance 'booth'", host=b"Booth")
+absent(b"booth", b"Booth")
 announced("host label '_TCP' is not pointed at", host=b"_TCP")
 announced("labels with dots, bytes past ASCII, zero bytes and the bytes of 'local'", instance=b"a.b \xc3\xbf", host=b"\0\xff\5local\0")
 announced("host label 'local', instance label 'local'", instance=b"local", host=b"local")
+absent(b"local", b"local")
 announced("TXT with the bytes of a name is never pointed at", txt=b"\x0c" + HOST + b"\7\5local\0", host=b"dock")
+absent(b"booth", b"dock")
 announced("host label with the bytes of the labels of other names", host=b"x\6_voice\4_tcp\5local\0")
 announced("instance label that reads as the labels after it, with dots", instance=b"x._voice._tcp.local", host=b"x")
 show("names asked for in other case, and through pointers")

@@ -1,17 +1,19 @@
 // One record of a message as it lies, against one entry by value (specification, 'The cache'): its owner and rdata are compared with the packet in place.
 // What the rules do to the entries follows from what was seen of them.
 ghost use mathlib.Core.Path.{_≡_};
-ghost use Rattle.cache.specs.entries.Cache.{isCached};
+ghost use Rattle.cache.specs.entries.Cache.{cachedAs};
 ghost use Rattle.cache.specs.records.Heard.{heardAt, isTaken, isFlushing, isSought, isOfHeard, liveHeard, holdsHeard, flushedHeard};
 ghost use Rattle.cache.specs.records.Heard.{firstSlot, nothingSeen, freeNext, seenNext, chosenOf};
 use crate::entries::Entry;
 use crate::entries::Slot;
 
-// A record of a message as it lies; whether it is whole, and how many bytes its rdata has, names expanded.
+// A record of a message as it lies; whether it is whole, how many bytes its rdata has, names expanded, and whether it holds a name, which of an NSEC says
+// that it is of the restricted kind.
 pub struct Heard {
     pub whole: bool,
     pub at: wire::message::RecordAt,
     pub len: usize,
+    pub named: bool,
 }
 
 // What was seen of a table's entries: the lowest live equal entry, and, as long as there is none, the lowest entry not live.
@@ -39,9 +41,9 @@ pub const TURN_AWAY: u8 = 4;
 
 pub const PASS_OVER: u8 = 5;
 
-// Whether records of a class and a type are cached.
-pub fn is_cached(class: u16, rtype: u16) -> bool
-    ensures { λ r. ⌜ r ≡ isCached class rtype ⌝ }
+// Whether records of a class and a type are cached; of NSEC only the restricted kind is.
+pub fn is_cached(class: u16, rtype: u16, restricted: bool) -> bool
+    ensures { λ r. ⌜ r ≡ cachedAs class rtype restricted ⌝ }
 {
     if class % 32768 != 1 {
         return false;
@@ -58,7 +60,13 @@ pub fn is_cached(class: u16, rtype: u16) -> bool
     if rtype == wire::rdata::AAAA {
         return true;
     }
-    rtype == wire::rdata::SRV
+    if rtype == wire::rdata::SRV {
+        return true;
+    }
+    if rtype != wire::rdata::NSEC {
+        return false;
+    }
+    restricted
 }
 
 // The record at an offset.
@@ -70,10 +78,13 @@ pub fn hear(p: &[u8], at: usize) -> Heard
             let opened = wire::expansion::open(p, f);
             let bytes = opened.bytes;
             let content = wire::expansion::view(p, &bytes, opened.len, f);
+            let len = content.len();
+            let form = wire::rdata::form_at(p, f);
             Heard {
                 whole: true,
                 at: f,
-                len: content.len(),
+                len,
+                named: form.named,
             }
         }
         wire::message::RecordRead::Malformed => Heard {
@@ -94,6 +105,7 @@ pub fn hear(p: &[u8], at: usize) -> Heard
                 next: 0,
             },
             len: 0,
+            named: false,
         },
     }
 }
@@ -106,7 +118,7 @@ pub fn is_taken(h: Heard) -> bool
     if !h.whole {
         return false;
     }
-    is_cached(f.class, f.rtype)
+    is_cached(f.class, f.rtype, h.named)
 }
 
 // Whether rule 1 is for a record.

@@ -9,10 +9,14 @@ use lib.Seq.{sets}
 use lib.Dec.{eqb}
 use Rattle.wire.proofs.octets.Sets.{filled}
 use Rattle.wire.proofs.rdata.Parts.{address-short}
-use Rattle.wire.specs.rdata.Readers.{addressIn, srvIn}
+use Rattle.wire.specs.names.Names.{nameAt}
+use Rattle.wire.specs.declared.names.Name.{Name}
+use Rattle.wire.specs.rdata.Rdata.{nextForm}
+use Rattle.wire.specs.rdata.Readers.{addressIn, nameIn, srvIn}
+use Rattle.wire.specs.declared.rdata.Form.{Form}
 use Rattle.wire.specs.declared.rdata.SrvRead.{SrvRead}
 use Rattle.wire.specs.declared.rdata.SrvRead.the-variants as srv
-use Rattle.capi_reader_walk.specs.Parts.{partOf, addressAt, addressOf, srvAt, srvOf}
+use Rattle.capi_reader_walk.specs.Parts.{partOf, addressAt, addressOf, srvAt, srvOf, noNsec, nsecOf, nsecWith, nsecAt}
 use Rattle.capi_reader_walk.specs.declared.Address.{Address}
 
 module _ (p : List ℕ) (at len : ℕ) (d : List ℕ) (is : d ≡ take len (drop at p)) where
@@ -28,6 +32,23 @@ module _ (p : List ℕ) (at len : ℕ) (d : List ℕ) (is : d ≡ take len (drop
 
   pub srv-gone : (length d ≡ len → ⊥) → srvOf srv.Malformed ≡ srvOf (srvAt p at len)
   srv-gone e = sym (ap (λ (b : Bool). srvOf (cond b (srvIn p at (partOf p at len)) srv.Malformed)) (gone e))
+
+  module _ (owner : ℕ) where
+    pub nsec-gone : (length d ≡ len → ⊥) → noNsec ≡ nsecAt p owner at len
+    nsec-gone e = sym (ap (λ (b : Bool). cond b (nsecWith p at (partOf p at len) (nextForm p owner at (partOf p at len) (nameAt p at))) noNsec) (gone e))
+
+    module _ (e : length d ≡ len) (g : Form) (form : g ≡ nextForm p owner at d (nameAt p at)) where
+      nsec-there : nsecWith p at d g ≡ nsecAt p owner at len
+      nsec-there =
+          ap (nsecWith p at d) form ∙ ap (λ (l : List ℕ). nsecWith p at l (nextForm p owner at l (nameAt p at))) is
+          ∙ sym (ap (λ (b : Bool). cond b (nsecWith p at (partOf p at len) (nextForm p owner at (partOf p at len) (nameAt p at))) noNsec) (there e))
+
+      pub nsec-none : g .named ≡ false → noNsec ≡ nsecAt p owner at len
+      nsec-none t = sym (ap (λ (b : Bool). cond b (nsecOf at (g .behind) (nameIn p at d 0 (g .behind))) noNsec) t) ∙ nsec-there
+
+      pub nsec-found : g .named ≡ true → (r : Name) → r ≡ nameIn p at d 0 (g .behind) → (x : Name) → r ≡ x → nsecOf at (g .behind) x ≡ nsecAt p owner at len
+      nsec-found t r h x k =
+          ap (nsecOf at (g .behind)) (sym k ∙ h) ∙ sym (ap (λ (b : Bool). cond b (nsecOf at (g .behind) (nameIn p at d 0 (g .behind))) noNsec) t) ∙ nsec-there
 
   module _ (rtype : ℕ) where
     pub address-gone : (length d ≡ len → ⊥) → addressOf [] ≡ addressOf (addressAt p rtype at len)

@@ -6,13 +6,19 @@ use mathlib.Core.Bool.{true, false, cond}
 use lib.ListN.{length, take, drop, replicate}
 use lib.Dec.{eqb}
 use Rattle.wire.specs.refusals.Numbers.{MALFORMED}
-use Rattle.wire.specs.rdata.Readers.{addressIn, srvIn}
+use Rattle.wire.specs.names.Names.{nameAt}
+use Rattle.wire.specs.declared.names.Name.{Name}
+use Rattle.wire.specs.declared.names.Name.the-variants as nam
+use Rattle.wire.specs.rdata.Rdata.{nextForm}
+use Rattle.wire.specs.rdata.Readers.{addressIn, nameIn, srvIn}
+use Rattle.wire.specs.declared.rdata.Form.{Form}
 use Rattle.wire.specs.declared.rdata.StringRead.{StringRead}
 use Rattle.wire.specs.declared.rdata.StringRead.the-variants as str
 use Rattle.wire.specs.declared.rdata.SrvRead.{SrvRead}
 use Rattle.wire.specs.declared.rdata.SrvRead.the-variants as srv
 use Rattle.capi_reader_walk.specs.declared.Address.{Address}
 use Rattle.capi_reader_walk.specs.declared.Srv.{Srv}
+use Rattle.capi_reader_walk.specs.declared.Nsec.{Nsec}
 use Rattle.capi_reader_walk.specs.declared.Text.{Text}
 
 abbrev pub partOf : List ℕ → ℕ → ℕ → List ℕ
@@ -42,6 +48,29 @@ srvOf (srv.Found s) = record {
 }
 srvOf srv.Malformed =
     record { found = false; priority = 0; weight = 0; port = 0; target = 0; «target_length» = 0; «target_labels» = 0; «target_first_label» = 0 }
+
+-- the NSEC of the restricted kind in a part, for the owner at an offset: the next name, and the window block behind it; all is 0 where there is none
+abbrev pub noNsec : Nsec
+noNsec = record { found = false; next = 0; «next_length» = 0; «next_labels» = 0; «next_first_label» = 0; block = 0; «block_length» = 0 }
+
+abbrev pub nsecOf : ℕ → ℕ → Name → Nsec
+nsecOf at behind (nam.Found s) = record {
+  found = true;
+  next = at;
+  «next_length» = s .len;
+  «next_labels» = s .labels;
+  «next_first_label» = s .first;
+  block = s .end;
+  «block_length» = behind;
+}
+nsecOf at behind nam.Malformed = noNsec
+
+abbrev pub nsecWith : List ℕ → ℕ → List ℕ → Form → Nsec
+nsecWith p at d g = cond (g .named) (nsecOf at (g .behind) (nameIn p at d 0 (g .behind))) noNsec
+
+abbrev pub nsecAt : List ℕ → ℕ → ℕ → ℕ → Nsec
+nsecAt p owner at len =
+    cond (eqb (length (partOf p at len)) len) (nsecWith p at (partOf p at len) (nextForm p owner at (partOf p at len) (nameAt p at))) noNsec
 
 -- a string of a TXT, with the specification's number for each answer; all else is 0 where there is none
 abbrev pub stringOf : StringRead → Text

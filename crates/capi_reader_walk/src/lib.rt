@@ -1,11 +1,12 @@
 // A message that was read (crate `capi_reader`) is walked, from C and Rust: each section from its offset on, by as many questions or records as it has; and
-// the rdata of a record is read, as the part of the message where it lies. These functions are apart from the reading of a whole message, so that the compiler puts the reading of a record into its loop: a short message is then read
-// in half the time. c/include/kurgashel.h declares them.
+// the rdata of a record is read, as the part of the message where it lies. These functions are apart from the reading of a whole message, so that the compiler
+// puts the reading of a record into its loop: a short message is then read in half the time. c/include/kurgashel.h declares them.
 ghost use mathlib.Core.Path.{_≡_};
 ghost use Rattle.wire.specs.message.Layout.{questionRead, recordRead};
+ghost use Rattle.wire.specs.nsec.Nsec.{names};
 ghost use Rattle.wire.specs.rdata.Readers.{stringAt};
 ghost use Rattle.capi_reader_walk.specs.Walked.{walkedQuestion, walkedRecord};
-ghost use Rattle.capi_reader_walk.specs.Parts.{addressOf, addressAt, srvOf, srvAt, stringOf};
+ghost use Rattle.capi_reader_walk.specs.Parts.{addressOf, addressAt, srvOf, srvAt, nsecAt, stringOf};
 
 // A question: whether one is there, where its name starts, how long that is uncompressed, how many labels it has and how long the first is; its type and
 // class, and the offset past it.
@@ -57,6 +58,19 @@ pub struct Srv {
     pub target_length: usize,
     pub target_labels: usize,
     pub target_first_label: usize,
+}
+
+// An NSEC of the restricted kind: whether one is there; where its next name starts, how long that is uncompressed, how many labels it has and how long the
+// first is; and where its window block starts and how long it is.
+#[repr(C)]
+pub struct Nsec {
+    pub found: bool,
+    pub next: usize,
+    pub next_length: usize,
+    pub next_labels: usize,
+    pub next_first_label: usize,
+    pub block: usize,
+    pub block_length: usize,
 }
 
 // A string of a TXT: the refusal, whether one is there, where its text starts and how long that is, and where the next string starts.
@@ -191,6 +205,65 @@ pub extern "C" fn kurgashel_srv(message: &[u8], at: usize, len: usize) -> Srv
             target_first_label: 0,
         },
     }
+}
+
+// The NSEC of the restricted kind in the rdata that lies in a part of the message, for a record whose owner stands at an offset.
+#[no_mangle]
+pub extern "C" fn kurgashel_nsec(message: &[u8], owner: usize, at: usize, len: usize) -> Nsec
+    ensures { λ r. ⌜ r ≡ nsecAt (now (message .entry)) owner at len ⌝ }
+{
+    let d = wire::rdata::part(message, at, len);
+    if d.len() != len {
+        return Nsec {
+            found: false,
+            next: 0,
+            next_length: 0,
+            next_labels: 0,
+            next_first_label: 0,
+            block: 0,
+            block_length: 0,
+        };
+    }
+    let held = wire::rdata::next_form(message, owner, at, d);
+    if !held.named {
+        return Nsec {
+            found: false,
+            next: 0,
+            next_length: 0,
+            next_labels: 0,
+            next_first_label: 0,
+            block: 0,
+            block_length: 0,
+        };
+    }
+    match wire::rdata::name_in(message, at, d, 0, held.behind) {
+        wire::names::Name::Found(span) => Nsec {
+            found: true,
+            next: at,
+            next_length: span.len,
+            next_labels: span.labels,
+            next_first_label: span.first,
+            block: span.end,
+            block_length: held.behind,
+        },
+        wire::names::Name::Malformed => Nsec {
+            found: false,
+            next: 0,
+            next_length: 0,
+            next_labels: 0,
+            next_first_label: 0,
+            block: 0,
+            block_length: 0,
+        },
+    }
+}
+
+// Whether a window block says that its name has records of a type.
+#[no_mangle]
+pub extern "C" fn kurgashel_nsec_names(block: &[u8], rtype: u16) -> bool
+    ensures { λ r. ⌜ r ≡ names rtype (now (block .entry)) ⌝ }
+{
+    wire::nsec::names_type(block, rtype)
 }
 
 // The string at a place of a TXT: none from its end on, and refusal 6 for one that runs past it.

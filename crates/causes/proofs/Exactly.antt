@@ -2,7 +2,7 @@
 -- cause. Assumes nothing.
 use Prim.Native.Nat.{ℕ, _+_, _≤_}
 use mathlib.Core.Path.{_≡_, refl, sym, ap, _∙_}
-use mathlib.Core.Bool.{Bool, true, false, cond, not, _&&_, _||_, and-true, and-false}
+use mathlib.Core.Bool.{Bool, true, false, cond, not, _&&_, _||_, and-true, and-false, or-false}
 use mathlib.Core.List.{List, [], _∷_, map}
 use native.Mathlib.Omega.{arith}
 use lib.Dec.{eqb, ltb}
@@ -10,22 +10,25 @@ use lib.ListN.{length}
 use borrow.Author.Tests.{ltb-false}
 use mathlib.Mathlib.Data.Bool.Basic.{or-eq-false-eq-eq-false-and-eq-false as neither}
 use Rattle.wire.specs.Lists.{some}
+use Rattle.wire.specs.case_folding.Fold.{sameName}
 use Rattle.wire.specs.message.Message.{Record, Message, isResponse}
 use Rattle.wire.specs.message.Layout.{Reads, read, refused, messageAt}
 use Rattle.wire.specs.declared.message.Layout.{Layout}
 use Rattle.own.specs.declared.records.Setup.{Setup}
 use Rattle.own.specs.records.Setups.{validSetup}
-use Rattle.own.specs.records.Records.{hasRecord}
+use Rattle.own.specs.records.Records.{hasRecord, ownName}
+use Rattle.own.proofs.records.Valid.{valid}
+use Rattle.own.proofs.records.Apart.{apart}
 use Rattle.claims.specs.Claims.{heldNow, claimOf}
 use Rattle.claims.specs.Refusals.{kept, lateStart, wrongTime, wrongStartDraw, wrongReplyDraw}
-use Rattle.claims.specs.records.Own.{all, ownType, claimFor, goesAtOnce, has}
+use Rattle.claims.specs.records.Own.{all, indexOf, ownType, claimFor, goesAtOnce, has}
 use Rattle.claims.specs.records.Sets.{picked, atOnce}
 use Rattle.claims.specs.declared.records.Own.{Own}
-use Rattle.claims.specs.declared.records.Own.the-variants.{Ptr, Srv, Txt, A, Aaaa}
+use Rattle.claims.specs.declared.records.Own.the-variants.{Ptr}
 use Rattle.claims.specs.declared.records.Set.{Set}
 use Rattle.claims.specs.answers.Answers as answers
 use Rattle.claims.specs.answers.Answers.{wantedOf, setReply}
-use Rattle.claims.proofs.records.Sets.{has-each}
+use Rattle.claims.proofs.records.Sets.{by-record, has-each}
 use Rattle.claims.proofs.Times.{after-exact}
 use Rattle.facts.specs.Facts.{factsOf, isAsked}
 use Rattle.writer.specs.own_packets.Styles.{responseStyle, ownRecord}
@@ -38,10 +41,7 @@ use Rattle.responder.specs.Causes.{isDue, hasCause, isWanted}
 use Rattle.responder.specs.declared.State.{State}
 use Rattle.responder.proofs.Refusals.{ReceiveAccepted, receive-accepted}
 use Rattle.responder.proofs.Causes.{wanted-exactly}
-use Rattle.causes.specs.Statement.{answersOf, answersIn, Accepted, goesNow, hasType, Exactly, LeftOutExactly}
-
-clash : {A : Type 0} → _≡_ {A = Bool} false true → A
-clash e = let z : _≡_ {A = ℕ} 0 1 = cc in absurd (omega arith)
+use Rattle.causes.specs.Statement.{answersOf, answersIn, Accepted, goesNow, standsIn, Exactly, LeftOutExactly}
 
 -- ---- lists
 
@@ -61,6 +61,19 @@ some-picked test f g (x ∷ xs) = go (g x) (some-picked test f g xs)
         → some test (map f (cond b (x ∷ picked g xs) (picked g xs))) ≡ ((b && test (f x)) || some (λ y. g y && test (f y)) xs)
     go true e = ap (λ (v : Bool). test (f x) || v) e
     go false e = e
+
+some-same : {A : Type 0} (f g : A → Bool) → ((x : A) → f x ≡ g x) → (xs : List A) → some f xs ≡ some g xs
+unfolding some
+some-same f g e [] = refl
+some-same f g e (x ∷ xs) = rw (e x, some-same f g e xs)
+
+-- the record of an index
+one-of-all : (f : Own → Bool) (o : Own) → some (λ p. f p && eqb (indexOf p) (indexOf o)) all ≡ f o
+unfolding some
+one-of-all f =
+    by-record (λ o. some (λ p. f p && eqb (indexOf p) (indexOf o)) all ≡ f o) (simp (and-false, and-true, or-false)) (simp (and-false, and-true, or-false))
+    (simp (and-false, and-true, or-false)) (simp (and-false, and-true, or-false)) (simp (and-false, and-true, or-false))
+    (simp (and-false, and-true, or-false)) (simp (and-false, and-true, or-false))
 
 -- ---- the packet
 
@@ -124,36 +137,17 @@ module _ (s : State) (a : Arrival) (l : Layout) (m : Message) (ok : Accepted s a
       ∙ (answers-back (s .setup) (atOnce wanted) right
       ∙ ap (map (ownRecord (s .setup) responseStyle)) (picked-same (λ o. has o (atOnce wanted) && hasRecord (s .setup) o) (goesNow s (a .time) m) goes-once all))
 
-  -- of five records the one of a type
-  goes : (o : Own) → goesAtOnce o ≡ true → hasType o (answersIn (receivedPacket s a)) ≡ isWanted s (a .time) m o
-  unfolding some ownRecord
-  goes o g = ap (hasType o) answered ∙ (some-picked (λ (r : Record). eqb (r .rtype) (ownType o)) (ownRecord (s .setup) responseStyle) (goesNow s (a .time) m) all ∙ one o g)
-    where
-      want : Own → Bool
-      want p = isWanted s (a .time) m p
-
-      last : (p : Bool) → ((p && true) || false) ≡ p
-      last true = refl
-      last false = refl
-
-      one : (p : Own) → goesAtOnce p ≡ true → some (λ q. goesNow s (a .time) m q && eqb (ownRecord (s .setup) responseStyle q .rtype) (ownType p)) all ≡ want p
-      one Ptr e = clash e
-      one Srv e = go (want Srv) (want Txt) (want A) (want Aaaa)
-        where
-          go : (b c d f : Bool) → ((b && true) || ((c && false) || ((d && false) || ((f && false) || false)))) ≡ b
-          go b c d f = simp (and-false c, and-false d, and-false f) (last b)
-      one Txt e = go (want Srv) (want Txt) (want A) (want Aaaa)
-        where
-          go : (b c d f : Bool) → ((b && false) || ((c && true) || ((d && false) || ((f && false) || false)))) ≡ c
-          go b c d f = simp (and-false b, and-false d, and-false f) (last c)
-      one A e = go (want Srv) (want Txt) (want A) (want Aaaa)
-        where
-          go : (b c d f : Bool) → ((b && false) || ((c && false) || ((d && true) || ((f && false) || false)))) ≡ d
-          go b c d f = simp (and-false b, and-false c, and-false f) (last d)
-      one Aaaa e = go (want Srv) (want Txt) (want A) (want Aaaa)
-        where
-          go : (b c d f : Bool) → ((b && false) || ((c && false) || ((d && false) || ((f && true) || false)))) ≡ f
-          go b c d f = simp (and-false b, and-false c, and-false d) (last f)
+  -- of all own records the one of an owner and type
+  goes : (o : Own) → goesAtOnce o ≡ true → standsIn (s .setup) o (answersIn (receivedPacket s a)) ≡ isWanted s (a .time) m o
+  unfolding ownRecord
+  goes o g =
+      ap (standsIn (s .setup) o) answered
+      ∙ (some-picked (λ (r : Record). sameName (r .owner) (ownName (s .setup) o) && eqb (r .rtype) (ownType o)) (ownRecord (s .setup) responseStyle)
+      (goesNow s (a .time) m) all
+      ∙ (some-same (λ p. goesNow s (a .time) m p && (sameName (ownName (s .setup) p) (ownName (s .setup) o) && eqb (ownType p) (ownType o)))
+      (λ p. goesNow s (a .time) m p && eqb (indexOf p) (indexOf o))
+      (λ p. ap (λ (v : Bool). goesNow s (a .time) m p && v) (apart (s .setup) (valid (s .setup) right) p o)) all
+      ∙ (one-of-all (goesNow s (a .time) m) o ∙ ap (λ (v : Bool). v && isWanted s (a .time) m o) g)))
 
   replied : receiveOf s a .state .progress .reply ≡ setReply (isWanted s (a .time) m Ptr) (s .progress .reply) (a .time + a .draw)
   unfolding receiveOf answers.receiveOf wrongTime

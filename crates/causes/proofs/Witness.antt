@@ -3,7 +3,7 @@ use mathlib.Core.Path.{refl}
 use Rattle.wire.specs.case_folding.Fold.{sameName}
 use Rattle.wire.specs.name_pieces.Pieces.{pieceAt}
 use Rattle.wire.specs.names.Names.{readFrom, fromRun, nameAt}
-use Rattle.wire.specs.rdata.Rdata.{stringsFill, rdataIn, rdataAt}
+use Rattle.wire.specs.rdata.Rdata.{formIn, stringsFill, rdataIn, rdataAt}
 use Rattle.wire.specs.expansion.Equal.{sameBytes}
 use Rattle.wire.specs.Lists.{some}
 use Rattle.wire.specs.message.Layout.{questionRead, questionAt, recordRead, recordAt, listFrom, andThen, messageAt}
@@ -16,6 +16,7 @@ use Rattle.facts.specs.probe.Probe.{isProbe}
 use Rattle.facts.specs.Facts.{isAsked, isKnown}
 use Rattle.writer.specs.compression.Compression.{standsAt, placeOf, cutFrom, nameBytes, namePlaces}
 use Rattle.wire.specs.labels.Counted.{starts}
+use Rattle.writer.specs.Fit.{formFor}
 use Rattle.writer.specs.Items.{putName, dataBytes, dataPlaces, putFields}
 use Rattle.writer.specs.own_packets.Packets.{packetOf}
 use Rattle.responder.specs.Refusals.{wrongState, receiveRefusal}
@@ -23,7 +24,7 @@ use Rattle.responder.specs.Causes.{isDue, hasCause}
 use Rattle.causes.specs.Witness.{query, Witness}
 
 pub witness : Witness
-unfolding query receiveRefusal wrongState wrongTime kept multicastsKept everyOf validSetup labelFits instanceFits utf8.isShown utf8.shownFrom utf8.mayStand utf8.behind utf8.starts utf8.following utf8.within isLetter isNameByte allNameBytes someLetter hyphensApart serviceRule serviceFits protocolFits domainFits txtFits stringsFill sameBytes messageAt andThen listFrom questionAt questionRead recordAt recordRead nameAt fromRun readFrom pieceAt rdataAt rdataIn isDue hasCause isProbe isAsked isKnown some sameName hasRecord ownLabels ownName ownRdata serviceLabels instanceLabels hostLabels packetOf putName dataBytes dataPlaces putFields nameBytes namePlaces starts cutFrom placeOf standsAt
+unfolding query receiveRefusal wrongState wrongTime kept multicastsKept everyOf validSetup labelFits instanceFits utf8.isShown utf8.shownFrom utf8.mayStand utf8.behind utf8.starts utf8.following utf8.within isLetter isNameByte allNameBytes someLetter hyphensApart serviceRule serviceFits protocolFits domainFits txtFits stringsFill sameBytes messageAt andThen listFrom questionAt questionRead recordAt recordRead nameAt fromRun readFrom pieceAt rdataAt rdataIn isDue hasCause isProbe isAsked isKnown some sameName hasRecord ownLabels ownName ownRdata serviceLabels instanceLabels hostLabels packetOf putName dataBytes dataPlaces putFields nameBytes namePlaces starts cutFrom placeOf standsAt formIn formFor
 witness = record {
   known = record { accepted = refl; message = refl };
   left = refl;

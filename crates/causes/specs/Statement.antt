@@ -6,6 +6,7 @@ use mathlib.Core.Bool.{Bool, true, _&&_}
 use mathlib.Core.List.{List, [], map}
 use lib.Dec.{eqb}
 use Rattle.wire.specs.Lists.{some}
+use Rattle.wire.specs.case_folding.Fold.{sameName}
 use Rattle.wire.specs.message.Message.{Record, Message}
 use Rattle.wire.specs.message.Layout.{Reads, read, refused, messageAt}
 use Rattle.wire.specs.declared.message.Layout.{Layout}
@@ -14,6 +15,8 @@ use Rattle.claims.specs.records.Sets.{picked}
 use Rattle.claims.specs.declared.records.Own.{Own}
 use Rattle.claims.specs.declared.records.Own.the-variants.{Ptr}
 use Rattle.claims.specs.answers.Answers.{setReply}
+use Rattle.own.specs.declared.records.Setup.{Setup}
+use Rattle.own.specs.records.Records.{ownName}
 use Rattle.writer.specs.own_packets.Styles.{responseStyle, ownRecord}
 use Rattle.responder.specs.Handed.{Arrival}
 use Rattle.responder.specs.Refusals.{receiveRefusal}
@@ -34,19 +37,19 @@ pub record Accepted (s : State) (a : Arrival) (l : Layout) (m : Message) : Type 
   pub accepted : receiveRefusal s a ≡ 0
   pub message : messageAt (a .packet) ≡ read l m
 
--- the records that go out at once: "SRV, TXT, A, AAAA go out at once in one packet"
+-- the records that go out at once: "SRV, TXT, A, AAAA go out at once in one packet", and NSEC with them
 abbrev pub goesNow : State → ℕ → Message → Own → Bool
 goesNow s time m o = goesAtOnce o && isWanted s time m o
 
--- a record of the type of an own record stands among some
-abbrev pub hasType : Own → List Record → Bool
-hasType o rs = some (λ r. eqb (r .rtype) (ownType o)) rs
+-- a record of the owner and type of an own record stands among some
+abbrev pub standsIn : Setup → Own → List Record → Bool
+standsIn s o rs = some (λ r. sameName (r .owner) (ownName s o) && eqb (r .rtype) (ownType o)) rs
 
 pub record Exactly (s : State) (a : Arrival) (m : Message) : Type 0 where
   -- the answers read back from the packet that the call sends are the own records, each whole, that are due and have no cause, in the specification's order
   pub answers : answersIn (receivedPacket s a) ≡ map (ownRecord (s .setup) responseStyle) (picked (goesNow s (a .time) m) all)
   -- so a record other than PTR is among them exactly where it is due and no cause of the specification holds
-  pub goes : (o : Own) → goesAtOnce o ≡ true → hasType o (answersIn (receivedPacket s a)) ≡ isWanted s (a .time) m o
+  pub goes : (o : Own) → goesAtOnce o ≡ true → standsIn (s .setup) o (answersIn (receivedPacket s a)) ≡ isWanted s (a .time) m o
   -- "PTR is set for a reply at now plus the draw, unless one is already set", exactly where it is due and no cause holds
   pub reply : receiveOf s a .state .progress .reply ≡ setReply (isWanted s (a .time) m Ptr) (s .progress .reply) (a .time + a .draw)
 

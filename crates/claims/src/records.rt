@@ -3,7 +3,7 @@
 ghost use mathlib.Core.Path.{_≡_};
 ghost use mathlib.Core.Bool.{false, _&&_};
 ghost use lib.ListN.{getD};
-ghost use Rattle.claims.specs.records.Own.{indexOf, recordAt, ownType, ownClass, ownTtl, claimFor, sameClaim, present, goesAtOnce, firstOf, secondOf, has, each};
+ghost use Rattle.claims.specs.records.Own.{indexOf, recordAt, ownType, ownClass, ownTtl, claimFor, sameClaim, present, carriesData, goesAtOnce, firstOf, secondOf, has, each};
 ghost use Rattle.claims.specs.records.Sets.{noRecord, only, anyOf, atOnce, recordsOf};
 
 // The two claims: to the instance's name and to the host's.
@@ -12,17 +12,19 @@ pub enum Claim {
     Host,
 }
 
-// The own records, in the specification's order.
+// The own records, in the specification's order; the last two say which types the names of the claims have (NSEC, RFC 6762, section 6.1).
 pub enum Own {
     Ptr,
     Srv,
     Txt,
     A,
     Aaaa,
+    InstanceNsec,
+    HostNsec,
 }
 
 // How many own records there are.
-pub const RECORDS: usize = 5;
+pub const RECORDS: usize = 7;
 
 // The TTLs in seconds: of a record that names the host, and of any other (RFC 6762, section 10).
 const HOST_TTL: u32 = 120;
@@ -41,13 +43,23 @@ pub struct Set {
     pub txt: bool,
     pub a: bool,
     pub aaaa: bool,
+    pub instancensec: bool,
+    pub hostnsec: bool,
 }
 
 // The record of an index; past the end, the first.
 pub fn record_at(i: usize) -> Own
     ensures { λ r. ⌜ r ≡ recordAt i ⌝ }
 {
-    let all = [Own::Ptr, Own::Srv, Own::Txt, Own::A, Own::Aaaa];
+    let all = [
+        Own::Ptr,
+        Own::Srv,
+        Own::Txt,
+        Own::A,
+        Own::Aaaa,
+        Own::InstanceNsec,
+        Own::HostNsec,
+    ];
     if i < RECORDS {
         let o = all[i];
         return o;
@@ -64,6 +76,8 @@ pub fn index_of(o: Own) -> usize
         Own::Txt => 2,
         Own::A => 3,
         Own::Aaaa => 4,
+        Own::InstanceNsec => 5,
+        Own::HostNsec => 6,
     }
 }
 
@@ -76,6 +90,8 @@ pub fn own_type(o: Own) -> u16
         Own::Txt => 16,
         Own::A => 1,
         Own::Aaaa => 28,
+        Own::InstanceNsec => 47,
+        Own::HostNsec => 47,
     }
 }
 
@@ -88,6 +104,8 @@ pub fn own_class(o: Own) -> u16
         Own::Txt => UNIQUE,
         Own::A => UNIQUE,
         Own::Aaaa => UNIQUE,
+        Own::InstanceNsec => UNIQUE,
+        Own::HostNsec => UNIQUE,
     }
 }
 
@@ -100,6 +118,8 @@ pub fn own_ttl(o: Own) -> u32
         Own::Txt => OTHER_TTL,
         Own::A => HOST_TTL,
         Own::Aaaa => HOST_TTL,
+        Own::InstanceNsec => HOST_TTL,
+        Own::HostNsec => HOST_TTL,
     }
 }
 
@@ -113,6 +133,8 @@ pub fn claim_for(o: Own) -> Claim
         Own::Txt => Claim::Instance,
         Own::A => Claim::Host,
         Own::Aaaa => Claim::Host,
+        Own::InstanceNsec => Claim::Instance,
+        Own::HostNsec => Claim::Host,
     }
 }
 
@@ -126,6 +148,23 @@ pub fn is_present(o: Own, aaaa: bool) -> bool
         Own::Txt => true,
         Own::A => true,
         Own::Aaaa => aaaa,
+        Own::InstanceNsec => true,
+        Own::HostNsec => true,
+    }
+}
+
+// Does the record carry data? Those that do are announced and probed with, and may conflict; NSEC only says which types a name has.
+pub fn carries_data(o: Own) -> bool
+    ensures { λ r. ⌜ r ≡ carriesData o ⌝ }
+{
+    match o {
+        Own::Ptr => true,
+        Own::Srv => true,
+        Own::Txt => true,
+        Own::A => true,
+        Own::Aaaa => true,
+        Own::InstanceNsec => false,
+        Own::HostNsec => false,
     }
 }
 
@@ -139,10 +178,12 @@ pub fn goes_at_once(o: Own) -> bool
         Own::Txt => true,
         Own::A => true,
         Own::Aaaa => true,
+        Own::InstanceNsec => true,
+        Own::HostNsec => true,
     }
 }
 
-// The two records under a claim's name, by rising type; the first is always there.
+// The two records that carry data under a claim's name, by rising type; the first is always there.
 pub fn first_of(claim: Claim) -> Own
     ensures { λ r. ⌜ r ≡ firstOf claim ⌝ }
 {
@@ -195,6 +236,8 @@ pub fn is_in(o: Own, set: Set) -> bool
         Own::Txt => set.txt,
         Own::A => set.a,
         Own::Aaaa => set.aaaa,
+        Own::InstanceNsec => set.instancensec,
+        Own::HostNsec => set.hostnsec,
     }
 }
 
@@ -208,6 +251,8 @@ pub fn set_of(flags: [bool; RECORDS]) -> Set
         txt: flags[2],
         a: flags[3],
         aaaa: flags[4],
+        instancensec: flags[5],
+        hostnsec: flags[6],
     }
 }
 
@@ -256,7 +301,7 @@ pub fn at_once(set: Set) -> Set
     set_of(flags)
 }
 
-// The records that go with a claim.
+// The records that are announced for a claim.
 pub fn records_of(claim: Claim, aaaa: bool) -> Set
     ensures { λ r. ⌜ r ≡ recordsOf claim aaaa ⌝ }
 {
@@ -264,7 +309,10 @@ pub fn records_of(claim: Claim, aaaa: bool) -> Set
     let mut i = 0;
     while i < RECORDS {
         let o = record_at(i);
-        flags[i] = both(same_claim(claim_for(o), claim), is_present(o, aaaa));
+        flags[i] = both(
+            same_claim(claim_for(o), claim),
+            both(carries_data(o), is_present(o, aaaa)),
+        );
         i += 1;
     }
     set_of(flags)

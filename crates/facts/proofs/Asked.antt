@@ -10,19 +10,17 @@ use Rattle.wire.specs.message.Readable.{readable, messageIn, questionShown}
 use Rattle.wire.specs.declared.message.QuestionAt.{QuestionAt}
 use Rattle.wire.specs.declared.message.Layout.{Layout}
 use Rattle.wire.proofs.message.Walk.{walk-done, walk-broken, walk-on, QuestionMet}
-use Rattle.claims.specs.records.Own.{ownType, has, each}
+use Rattle.claims.specs.records.Own.{has, each}
 use Rattle.claims.specs.records.Sets.{noRecord}
 use Rattle.claims.specs.declared.records.Own.{Own}
 use Rattle.claims.specs.declared.records.Set.{Set}
 use Rattle.claims.proofs.records.Sets.{has-each}
 use Rattle.own.specs.declared.records.Setup.{Setup}
-use Rattle.own.specs.records.Records.{ownName}
-use Rattle.facts.specs.Questions.{asksFor}
-use Rattle.facts.specs.Facts.{isAsked}
+use Rattle.facts.specs.Facts.{asksOwn, isAsked}
 
 -- those asked for before, and those that a list of questions asks for
 abbrev pub askedIn : Setup → Set → List Question → Set
-askedIn s before qs = each (λ o. has o before || some (asksFor (ownName s o) (ownType o)) qs)
+askedIn s before qs = each (λ o. has o before || some (asksOwn s o) qs)
 
 -- one record
 module _ (before : Set) (o : Own) (v : Bool) (is : v ≡ has o before) where
@@ -46,14 +44,14 @@ module _ (p : List ℕ) (s : Setup) (all : Set) (n at : ℕ) (before : Set) (inv
   asked-broken e = none-more ∙ walk-broken (questionAt p) (askedIn s before) all n at inv e
 
   pub asked-turn : 0 < n → (f : QuestionAt) → QuestionMet p at f → (d : Set)
-      → d ≡ each (λ o. has o before || asksFor (ownName s o) (ownType o) (questionShown p f)) → all ≡ askedIn s d (readable (questionAt p) (n - 1) (f .next))
+      → d ≡ each (λ o. has o before || asksOwn s o (questionShown p f)) → all ≡ askedIn s d (readable (questionAt p) (n - 1) (f .next))
   unfolding some
   asked-turn lt f m d e =
       walk-on (questionAt p) (askedIn s before) all n at inv lt (questionShown p f) (f .next) (m .here)
-      ∙ (λ i. each (λ o. step o (some (asksFor (ownName s o) (ownType o)) (readable (questionAt p) (n - 1) (f .next))) i))
+      ∙ (λ i. each (λ o. step o (some (asksOwn s o) (readable (questionAt p) (n - 1) (f .next))) i))
     where
       here : Own → Bool
-      here o = asksFor (ownName s o) (ownType o) (questionShown p f)
+      here o = asksOwn s o (questionShown p f)
 
       step : (o : Own) (rest : Bool) → (has o before || (here o || rest)) ≡ (has o d || rest)
       step o rest = sym (or-assoc (has o before) (here o) rest) ∙ ap (λ (b : Bool). b || rest) (sym (ap (has o) e ∙ has-each (λ q. has q before || here q) o))

@@ -1,32 +1,82 @@
 -- The tests on a question or a record, one after the other. Assumes nothing.
-use mathlib.Core.Path.{_≡_, sym, ap, _∙_}
+use mathlib.Core.Path.{_≡_, refl, sym, ap, _∙_}
 use mathlib.Core.List.{List}
-use mathlib.Core.Bool.{Bool, true, false, not, and-false, and-true}
+use mathlib.Core.Bool.{Bool, true, false, cond, not, _&&_, _||_, and-false, and-true, or-false}
 use Prim.Native.Nat.{ℕ, _*_, _<_, _≤_}
 use borrow.Author.Tests.{eq-eqb, ne-eqb, le-leb, lt-leb}
 use Rattle.wire.specs.case_folding.Fold.{sameName}
 use Rattle.wire.specs.expansion.Equal.{sameBytes}
 use Rattle.wire.specs.message.Message.{Question, Record, classOf}
-use Rattle.facts.specs.Questions.{takesIn, asksFor}
-use Rattle.facts.specs.Facts.{suppresses, conflicts}
+use Rattle.wire.specs.Lists.{some}
+use Rattle.claims.specs.records.Own.{ownType, claimFor, carriesData, firstOf, secondOf}
+use Rattle.claims.specs.declared.records.Claim.{Claim}
+use Rattle.claims.specs.declared.records.Own.{Own}
+use Rattle.own.specs.declared.records.Setup.{Setup}
+use Rattle.own.specs.records.Records.{hasRecord, ownName}
+use Rattle.facts.specs.Questions.{takesIn, asksBy}
+use Rattle.facts.specs.Facts.{absent, typeAsks, asksOwn, suppresses, conflicts}
 
-module _ (name : List ℕ) (rtype : ℕ) (q : Question) where
-  pub asks-type : (v : Bool) → v ≡ takesIn (q .rtype) rtype → v ≡ false → false ≡ asksFor name rtype q
-  asks-type v e f =
-      let t : takesIn (q .rtype) rtype ≡ false = sym e ∙ f in
-      sym (rw t (and-false (sameName (q .name) name)))
+module _ (name : List ℕ) (takes : Bool) (q : Question) where
+  pub asks-type : takes ≡ false → false ≡ asksBy name takes q
+  asks-type f = sym (rw f (and-false (sameName (q .name) name)))
 
-  pub asks-class : (v : Bool) → v ≡ takesIn (classOf (q .class)) 1 → v ≡ false → false ≡ asksFor name rtype q
+  pub asks-class : (v : Bool) → v ≡ takesIn (classOf (q .class)) 1 → v ≡ false → false ≡ asksBy name takes q
   asks-class v e f =
       let t : takesIn (classOf (q .class)) 1 ≡ false = sym e ∙ f in
-      sym (rw (t, and-false (takesIn (q .rtype) rtype)) (and-false (sameName (q .name) name)))
+      sym (rw (t, and-false takes) (and-false (sameName (q .name) name)))
 
-  pub asks-name : (t c : Bool) → t ≡ takesIn (q .rtype) rtype → t ≡ true → c ≡ takesIn (classOf (q .class)) 1 → c ≡ true
-      → (v : Bool) → v ≡ sameName (q .name) name → v ≡ asksFor name rtype q
-  asks-name t c et it ec ic v e =
-      let y : takesIn (q .rtype) rtype ≡ true = sym et ∙ it in
+  pub asks-name : takes ≡ true → (c : Bool) → c ≡ takesIn (classOf (q .class)) 1 → c ≡ true → (v : Bool) → v ≡ sameName (q .name) name → v ≡ asksBy name takes q
+  asks-name y c ec ic v e =
       let z : takesIn (classOf (q .class)) 1 ≡ true = sym ec ∙ ic in
       rw (y, z) (e ∙ sym (and-true (sameName (q .name) name)))
+
+-- a type that does not ask for a record
+pub asks-not : (s : Setup) (o : Own) (q : Question) (takes : Bool) → takes ≡ typeAsks s o (q .rtype) → takes ≡ false → false ≡ asksOwn s o q
+asks-not s o q takes e f = asks-type (ownName s o) takes q f ∙ ap (λ (b : Bool). asksBy (ownName s o) b q) e
+
+-- a type that asks for an own record that is there
+module _ (s : Setup) (o : Own) (rtype : ℕ) (there : Bool) (e : there ≡ hasRecord s o) where
+  pub takes-there : there ≡ true → (v : Bool) → v ≡ takesIn rtype (ownType o) → v ≡ (hasRecord s o && takesIn rtype (ownType o))
+  takes-there t v h = h ∙ sym (ap (λ (b : Bool). b && takesIn rtype (ownType o)) (sym e ∙ t))
+
+  pub takes-none : there ≡ false → false ≡ (hasRecord s o && takesIn rtype (ownType o))
+  takes-none f = sym (ap (λ (b : Bool). b && takesIn rtype (ownType o)) (sym e ∙ f))
+
+-- a type that asks for an own record
+module _ (s : Setup) (o : Own) (rtype : ℕ) (carries : Bool) (e : carries ≡ carriesData o) where
+  pub asks-data : carries ≡ true → (v : Bool) → v ≡ takesIn rtype (ownType o) → v ≡ typeAsks s o rtype
+  asks-data t v h = h ∙ sym (ap (λ (b : Bool). cond b (takesIn rtype (ownType o)) (absent s (claimFor o) rtype)) (sym e ∙ t))
+
+  module _ (f : carries ≡ false) where
+    is-absent : (a b : Bool) → a ≡ (hasRecord s (firstOf (claimFor o)) && takesIn rtype (ownType (firstOf (claimFor o))))
+        → b ≡ (hasRecord s (secondOf (claimFor o)) && takesIn rtype (ownType (secondOf (claimFor o)))) → not (a || (b || false)) ≡ typeAsks s o rtype
+    unfolding some
+    is-absent a b ea eb =
+        (λ i. not (ea i || (eb i || false)))
+        ∙ sym (ap (λ (b : Bool). cond b (takesIn rtype (ownType o)) (absent s (claimFor o) rtype)) (sym e ∙ f))
+
+    module _ (claim : Claim) (ec : claim ≡ claimFor o) where
+      first-is : (r : Own) → r ≡ firstOf claim → (a : Bool) → a ≡ (hasRecord s r && takesIn rtype (ownType r))
+          → a ≡ (hasRecord s (firstOf (claimFor o)) && takesIn rtype (ownType (firstOf (claimFor o))))
+      first-is r er a h = h ∙ ap (λ (x : Own). hasRecord s x && takesIn rtype (ownType x)) (er ∙ ap firstOf ec)
+
+      second-is : (r : Own) → r ≡ secondOf claim → (a : Bool) → a ≡ (hasRecord s r && takesIn rtype (ownType r))
+          → a ≡ (hasRecord s (secondOf (claimFor o)) && takesIn rtype (ownType (secondOf (claimFor o))))
+      second-is r er a h = h ∙ ap (λ (x : Own). hasRecord s x && takesIn rtype (ownType x)) (er ∙ ap secondOf ec)
+
+      -- the first record of the claim is asked for
+      pub first-asked : (r : Own) → r ≡ firstOf claim → (a : Bool) → a ≡ (hasRecord s r && takesIn rtype (ownType r)) → a ≡ true → false ≡ typeAsks s o rtype
+      first-asked r er a h t =
+          sym (ap (λ (x : Bool). not (x || (second || false))) t) ∙ is-absent a second (first-is r er a h) refl
+        where
+          second : Bool
+          second = hasRecord s (secondOf (claimFor o)) && takesIn rtype (ownType (secondOf (claimFor o)))
+
+      -- it is not, and the second decides
+      pub second-asked : (r x : Own) → r ≡ firstOf claim → x ≡ secondOf claim → (a b : Bool) → a ≡ (hasRecord s r && takesIn rtype (ownType r)) → a ≡ false
+          → b ≡ (hasRecord s x && takesIn rtype (ownType x)) → not b ≡ typeAsks s o rtype
+      second-asked r x er ex a b ha f hb =
+          ap not (sym (or-false b)) ∙ sym (ap (λ (x : Bool). not (x || (b || false))) f) ∙ is-absent a b (first-is r er a ha) (second-is x ex b hb)
 
 module _ (name : List ℕ) (rtype : ℕ) (own : List ℕ) (r : Record) where
   pub conflicts-type : (r .rtype ≡ rtype → ⊥) → false ≡ conflicts name rtype own r

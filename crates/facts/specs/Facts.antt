@@ -6,8 +6,8 @@ use mathlib.Core.Bool.{Bool, true, false, cond, not, _&&_}
 use lib.Dec.{leb, eqb}
 use Rattle.wire.specs.case_folding.Fold.{sameName}
 use Rattle.wire.specs.expansion.Equal.{sameBytes}
-use Rattle.wire.specs.message.Message.{Record, Message, classOf, isResponse, allRecords}
-use Rattle.claims.specs.records.Own.{ownType, ownTtl, firstOf, secondOf, claimed, each}
+use Rattle.wire.specs.message.Message.{Question, Record, Message, classOf, isResponse, allRecords}
+use Rattle.claims.specs.records.Own.{ownType, ownTtl, claimFor, carriesData, firstOf, secondOf, claimed, each}
 use Rattle.claims.specs.records.Sets.{noRecord}
 use Rattle.claims.specs.declared.records.Claim.{Claim}
 use Rattle.claims.specs.declared.records.Claim.the-variants.{Instance, Host}
@@ -15,16 +15,27 @@ use Rattle.claims.specs.declared.records.Own.{Own}
 use Rattle.own.specs.declared.records.Setup.{Setup}
 use Rattle.own.specs.records.Records.{hasRecord, ownName, ownRdata}
 use Rattle.wire.specs.Lists.{some}
-use Rattle.facts.specs.Questions.{asksFor}
+use Rattle.facts.specs.Questions.{takesIn, asksBy}
 use Rattle.facts.specs.tiebreak.Later.{TieRecord, tie, isLater}
 use Rattle.facts.specs.probe.Probe.{isProbe}
 use Rattle.facts.specs.tiebreak.Lists.{theirs, ownList}
 use Rattle.claims.specs.declared.answers.Heard.{Heard}
 use Rattle.claims.specs.declared.answers.Facts.{Facts}
 
+-- a type that asks for none of the claim's records: "a type other than 255 absent there", as 255 asks for all
+abbrev pub absent : Setup → Claim → ℕ → Bool
+absent s c rtype = not (some (λ o. hasRecord s o && takesIn rtype (ownType o)) (claimed c))
+
+-- a type that asks for the record: "its type or 255"; for an NSEC, any that is absent from its claim
+abbrev pub typeAsks : Setup → Own → ℕ → Bool
+typeAsks s o rtype = cond (carriesData o) (takesIn rtype (ownType o)) (absent s (claimFor o) rtype)
+
 -- "a question of a query has its name, its type or 255, and class 1 or 255"
+abbrev pub asksOwn : Setup → Own → Question → Bool
+asksOwn s o q = asksBy (ownName s o) (typeAsks s o (q .rtype)) q
+
 unfoldable pub isAsked : Setup → Own → Message → Bool
-isAsked s o m = some (asksFor (ownName s o) (ownType o)) (m .questions)
+isAsked s o m = some (asksOwn s o) (m .questions)
 
 -- "an Answer record in the query has equal name, class, type and rdata and twice its TTL is at least our own TTL"; the class of own records is 1
 abbrev pub suppresses : List ℕ → ℕ → List ℕ → ℕ → Record → Bool

@@ -10,6 +10,10 @@ use Rattle.wire.specs.message.Message.{Question, classOf}
 abbrev pub takesIn : ℕ → ℕ → Bool
 takesIn asked own = eqb asked own || eqb asked 255
 
--- "a question of a query has its name, its type or 255, and class 1 or 255"; "The unicast bit in questions is ignored."
+-- a question of a name and of "class 1 or 255", whose type takes in what is asked about or not; "The unicast bit in questions is ignored."
+abbrev pub asksBy : List ℕ → Bool → Question → Bool
+asksBy name takes q = sameName (q .name) name && (takes && takesIn (classOf (q .class)) 1)
+
+-- "a question of a query has its name, its type or 255, and class 1 or 255"
 abbrev pub asksFor : List ℕ → ℕ → Question → Bool
-asksFor name rtype q = sameName (q .name) name && (takesIn (q .rtype) rtype && takesIn (classOf (q .class)) 1)
+asksFor name rtype q = asksBy name (takesIn (q .rtype) rtype) q

@@ -5,17 +5,17 @@ pub mod probe;
 pub mod tiebreak;
 
 ghost use mathlib.Core.Path.{_≡_};
-ghost use mathlib.Core.Bool.{Bool, _||_};
+ghost use mathlib.Core.Bool.{Bool, _&&_, _||_};
 ghost use Rattle.wire.specs.Lists.{some};
 ghost use Rattle.wire.specs.message.Message.{Record, allRecords};
 ghost use Rattle.wire.specs.message.Layout.{recordAt};
 ghost use Rattle.wire.specs.message.Readable.{readable, messageIn, questionShown, recordShown};
 ghost use Rattle.claims.specs.records.Own.{ownType, has, each};
-ghost use Rattle.own.specs.records.Records.{ownName};
-ghost use Rattle.facts.specs.Questions.{takesIn, asksFor};
+ghost use Rattle.own.specs.records.Records.{hasRecord};
+ghost use Rattle.facts.specs.Questions.{takesIn, asksBy};
 ghost use Rattle.facts.specs.Found.{QuestionFound, RecordFound};
 ghost use Rattle.facts.specs.tiebreak.Later.{isLater};
-ghost use Rattle.facts.specs.Facts.{isAsked, isKnown, suppresses, conflicts, conflicted, theirsLater, responseTo, queryTo, factsOf};
+ghost use Rattle.facts.specs.Facts.{typeAsks, asksOwn, isAsked, isKnown, suppresses, conflicts, conflicted, theirsLater, responseTo, queryTo, factsOf};
 use claims::answers::Facts;
 use claims::answers::Heard;
 use claims::records::Claim;
@@ -40,12 +40,12 @@ fn takes_in(asked: u16, own: u16) -> bool
     asked == ANY
 }
 
-// Whether a question asks for a record of a name and type.
-fn asks(p: &[u8], q: wire::message::QuestionAt, name: &[u8], rtype: u16) -> bool
+// Whether a question asks for what a name has, where its type takes that in or not.
+fn asks(p: &[u8], q: wire::message::QuestionAt, name: &[u8], takes: bool) -> bool
     requires { ⌜ QuestionFound (now p) q ⌝ }
-    ensures { λ r. ⌜ r ≡ asksFor (now (name .entry)) rtype (questionShown (now (p .entry)) q) ⌝ }
+    ensures { λ r. ⌜ r ≡ asksBy (now (name .entry)) takes (questionShown (now (p .entry)) q) ⌝ }
 {
-    if !takes_in(q.rtype, rtype) {
+    if !takes {
         return false;
     }
     if !takes_in(q.class % 32768, INTERNET) {
@@ -54,29 +54,52 @@ fn asks(p: &[u8], q: wire::message::QuestionAt, name: &[u8], rtype: u16) -> bool
     wire::names::name_is(p, q.name, name)
 }
 
+// Whether a type asks for an own record that is there.
+fn takes_own(setup: Setup, o: Own, rtype: u16) -> bool
+    ensures { λ r. ⌜ r ≡ hasRecord setup o && takesIn rtype (ownType o) ⌝ }
+{
+    if own::records::has_record(setup, o) {
+        return takes_in(rtype, claims::records::own_type(o));
+    }
+    false
+}
+
+// Whether a type asks for an own record; an NSEC is asked for by a type that asks for none of its claim's records.
+fn type_asks(setup: Setup, o: Own, rtype: u16) -> bool
+    ensures { λ r. ⌜ r ≡ typeAsks setup o rtype ⌝ }
+{
+    if claims::records::carries_data(o) {
+        return takes_in(rtype, claims::records::own_type(o));
+    }
+    let claim = claims::records::claim_for(o);
+    if takes_own(setup, claims::records::first_of(claim), rtype) {
+        return false;
+    }
+    !takes_own(setup, claims::records::second_of(claim), rtype)
+}
+
 // Whether an own record is among those asked for before, or a question asks for it.
 fn is_asked(p: &[u8], q: wire::message::QuestionAt, setup: Setup, asked: Set, o: Own) -> bool
     requires { ⌜ QuestionFound (now p) q ⌝ }
-    ensures { λ r. ⌜ r ≡ has o asked || asksFor (ownName setup o) (ownType o) (questionShown (now (p .entry)) q) ⌝ }
+    ensures { λ r. ⌜ r ≡ has o asked || asksOwn setup o (questionShown (now (p .entry)) q) ⌝ }
 {
     if claims::records::is_in(o, asked) {
         return true;
     }
+    let takes = type_asks(setup, o, q.rtype);
+    if !takes {
+        return false;
+    }
     let own = own::records::own_name(setup, o);
     let bytes = own.bytes;
     let len = own.len;
-    asks(
-        p,
-        q,
-        wire::rdata::part(&bytes, 0, len),
-        claims::records::own_type(o),
-    )
+    asks(p, q, wire::rdata::part(&bytes, 0, len), takes)
 }
 
 // The own records asked for before, and those that a question asks for.
 fn asked_with(p: &[u8], q: wire::message::QuestionAt, setup: Setup, asked: Set) -> Set
     requires { ⌜ QuestionFound (now p) q ⌝ }
-    ensures { λ r. ⌜ r ≡ each (λ o. has o asked || asksFor (ownName setup o) (ownType o) (questionShown (now (p .entry)) q)) ⌝ }
+    ensures { λ r. ⌜ r ≡ each (λ o. has o asked || asksOwn setup o (questionShown (now (p .entry)) q)) ⌝ }
 {
     let mut flags = [false; RECORDS];
     let mut i = 0;

@@ -15,7 +15,7 @@ fn some_asks(p: &[u8], s: wire::message::Section, name: &[u8]) -> bool
     while 0 < left {
         match wire::message::question_at(p, here) {
             wire::message::QuestionRead::Found(q) => {
-                if crate::asks(p, q, name, crate::ANY) {
+                if crate::asks(p, q, name, crate::takes_in(q.rtype, crate::ANY)) {
                     return true;
                 }
                 here = q.next;

@@ -2,13 +2,13 @@
 // `claims::records`, and whether a set-up keeps the rules in `setups`.
 ghost use mathlib.Core.Path.{_≡_};
 ghost use mathlib.Core.Bool.{true};
-ghost use mathlib.Core.List.{_∷_, []};
+ghost use mathlib.Core.List.{_∷_, [], _++_};
 ghost use Prim.Native.Nat.{_+_, _≤_, _<_};
 ghost use lib.ListN.{length, take};
 ghost use lib.Seq.{sets};
 ghost use Rattle.wire.specs.labels.Labels.{encode};
 ghost use Rattle.own.specs.records.Setups.{local, protocolLabel, serviceLabels, instanceLabels, hostLabels};
-ghost use Rattle.own.specs.records.Records.{labelBytes, Laid, ownOf, hasRecord, ownName, ownRdata, srvRdata};
+ghost use Rattle.own.specs.records.Records.{labelBytes, Laid, ownOf, hasRecord, ownName, ownRdata, srvRdata, instanceTypes, hostTypes};
 use claims::records::Own;
 
 // The most bytes of a label, of a service label with its "_", and of a TXT record.
@@ -178,6 +178,8 @@ pub fn own_name(s: Setup, o: Own) -> OwnBytes
         Own::Txt => instance_name(s),
         Own::A => host_name(s),
         Own::Aaaa => host_name(s),
+        Own::InstanceNsec => instance_name(s),
+        Own::HostNsec => host_name(s),
     }
 }
 
@@ -227,6 +229,49 @@ fn aaaa_rdata(a: [u8; 16]) -> OwnBytes
     OwnBytes { bytes, len: 16 }
 }
 
+// Writes the types that a name has behind it, and answers the offset past them.
+fn put_types(out: &mut [u8; 400], at: usize, types: &[u8]) -> usize
+    requires { ⌜ at + length (now types) ≤ 400 ⌝ }
+    ensures { λ r. ⌜ Laid at (now (types .entry)) (length (now (types .entry))) (now (out .entry)) r (now (out .exit)) ⌝ }
+{
+    wire::buffer::put(out, at, types);
+    at + types.len()
+}
+
+// The types of the host's name: A, and AAAA where there is one. Window 0, how many bytes, and a bit for each type.
+fn put_host_types(out: &mut [u8; 400], at: usize, aaaa: bool) -> usize
+    requires { ⌜ at + 6 ≤ 400 ⌝ }
+    ensures { λ r. ⌜ Laid at (hostTypes aaaa) 6 (now (out .entry)) r (now (out .exit)) ⌝ }
+{
+    if aaaa {
+        let both = [0u8, 4, 0x40, 0, 0, 0x08];
+        return put_types(out, at, &both);
+    }
+    let one = [0u8, 1, 0x40];
+    put_types(out, at, &one)
+}
+
+// The instance's name, and that it has TXT and SRV.
+fn instance_nsec(s: Setup) -> OwnBytes
+    ensures { λ r. ⌜ r ≡ ownOf (encode (instanceLabels s) ++ instanceTypes) ⌝ }
+{
+    let mut bytes = [0u8; 400];
+    let types = [0u8, 5, 0, 0, 0x80, 0, 0x40];
+    let end = put_instance_name(&mut bytes, 0, s);
+    let len = put_types(&mut bytes, end, &types);
+    OwnBytes { bytes, len }
+}
+
+// The host's name, and that it has A, and AAAA where there is one.
+fn host_nsec(s: Setup) -> OwnBytes
+    ensures { λ r. ⌜ r ≡ ownOf (encode (hostLabels s) ++ hostTypes (s .hasaaaa)) ⌝ }
+{
+    let mut bytes = [0u8; 400];
+    let end = put_host_name(&mut bytes, 0, s);
+    let len = put_host_types(&mut bytes, end, s.hasaaaa);
+    OwnBytes { bytes, len }
+}
+
 // The rdata of an own record, names expanded.
 pub fn own_rdata(s: Setup, o: Own) -> OwnBytes
     ensures { λ r. ⌜ r ≡ ownOf (ownRdata s o) ⌝ }
@@ -240,5 +285,7 @@ pub fn own_rdata(s: Setup, o: Own) -> OwnBytes
         Own::Txt => txt_rdata(txt),
         Own::A => a_rdata(a),
         Own::Aaaa => aaaa_rdata(aaaa),
+        Own::InstanceNsec => instance_nsec(s),
+        Own::HostNsec => host_nsec(s),
     }
 }

@@ -9,7 +9,7 @@ use lib.ListN.{length, replicate}
 use Rattle.wire.specs.case_folding.Fold.{sameName}
 use Rattle.wire.specs.name_pieces.Pieces.{pieceAt}
 use Rattle.wire.specs.names.Names.{readFrom, fromRun, nameAt}
-use Rattle.wire.specs.rdata.Rdata.{stringsFill, rdataIn, rdataAt}
+use Rattle.wire.specs.rdata.Rdata.{formIn, stringsFill, rdataIn, rdataAt}
 use Rattle.wire.specs.expansion.Equal.{sameBytes}
 use Rattle.wire.specs.message.Layout.{questionRead, questionAt, recordRead, recordAt, listFrom, refused, andThen, messageAt}
 use Rattle.txt.specs.Txt.{stringsFrom, keyOf, valueOf, hasKey, firstWith}
@@ -22,7 +22,8 @@ use Rattle.facts.specs.tiebreak.Later.{numberOf, compareNumbers, inTurn, compar
 use Rattle.wire.specs.Lists.{some}
 use Rattle.facts.specs.probe.Probe.{isProbe}
 use Rattle.facts.specs.tiebreak.Lists.{ownRecord, listUnder}
-use Rattle.claims.specs.records.Sets.{picked, everyOf, atOnce}
+use Rattle.claims.specs.records.Sets.{picked, everyOf, atOnce, recordsOf}
+use Rattle.claims.specs.declared.records.Claim.the-variants.{Host}
 use Rattle.claims.specs.declared.records.Own.the-variants.{Ptr, A}
 use Rattle.claims.specs.declared.When.the-variants.{Never, At}
 use Rattle.claims.specs.Refusals.{multicastsKept, kept, wrongTime}
@@ -36,6 +37,7 @@ use Rattle.cache.specs.entries.Entries.{isOf, liveOf, soon, flushed}
 use Rattle.cache.specs.entries.Cache.{rule1}
 use Rattle.writer.specs.compression.Compression.{standsAt, placeOf, cutFrom, nameBytes, namePlaces}
 use Rattle.wire.specs.labels.Counted.{starts}
+use Rattle.writer.specs.Fit.{formFor}
 use Rattle.writer.specs.Items.{putName, dataBytes, dataPlaces, putFields}
 use Rattle.writer.specs.own_packets.Packets.{packetOf}
 use Rattle.writer.specs.own_packets.Styles as styles
@@ -66,8 +68,8 @@ Starred =
     -- "Pointer at 12 to 12: refusal 6."
     × (messageAt selfPointing ≡ refused 6)
     -- "dock.local, 10.0.0.7 announced, 38 bytes"
-    × (responsePacket example (record { ptr = false; srv = false; txt = false; a = true; aaaa = true }) ≡ announcement)
+    × (responsePacket example (recordsOf Host true) ≡ announcement)
 
 pub starred : Starred
-unfolding example asking cached announced tie sortBy insertBy compareRecords inTurn compareNumbers some isProbe listUnder isAsked isKnown theirsLater queryFacts factsOf holding sameName sameBytes hasRecord ownLabels ownName srvRdata ownRdata serviceLabels instanceLabels hostLabels rule1 each flushed liveOf isOf soon lookupOf refusalOf badKey stringsFill inTxt firstWith stringsFrom hasKey keyOf valueOf givenBy messageAt andThen listFrom questionAt questionRead recordAt recordRead nameAt fromRun readFrom pieceAt rdataAt rdataIn responsePacket responseRecords picked responseOf styles.ownRecord receiveOf receivedPacket packetFor receiveRefusal wrongState wrongTime kept multicastsKept everyOf validSetup labelFits instanceFits utf8.isShown utf8.shownFrom utf8.mayStand utf8.behind utf8.starts utf8.following utf8.within isLetter isNameByte allNameBytes someLetter hyphensApart serviceRule serviceFits protocolFits domainFits txtFits answers.receiveOf answers.wantedOf answers.heardOf atOnce markedAll afterMs packetOf putName dataBytes dataPlaces putFields nameBytes namePlaces starts cutFrom placeOf standsAt
+unfolding example asking cached announced tie sortBy insertBy compareRecords inTurn compareNumbers some isProbe listUnder isAsked isKnown theirsLater queryFacts factsOf holding sameName sameBytes hasRecord ownLabels ownName srvRdata ownRdata serviceLabels instanceLabels hostLabels rule1 each flushed liveOf isOf soon lookupOf refusalOf badKey stringsFill inTxt firstWith stringsFrom hasKey keyOf valueOf givenBy messageAt andThen listFrom questionAt questionRead recordAt recordRead nameAt fromRun readFrom pieceAt rdataAt rdataIn responsePacket responseRecords picked responseOf styles.ownRecord receiveOf receivedPacket packetFor receiveRefusal wrongState wrongTime kept multicastsKept everyOf validSetup labelFits instanceFits utf8.isShown utf8.shownFrom utf8.mayStand utf8.behind utf8.starts utf8.following utf8.within isLetter isNameByte allNameBytes someLetter hyphensApart serviceRule serviceFits protocolFits domainFits txtFits answers.receiveOf answers.wantedOf answers.heardOf atOnce markedAll afterMs packetOf putName dataBytes dataPlaces putFields nameBytes namePlaces starts cutFrom placeOf standsAt formIn formFor recordsOf
 starred = (refl, refl, refl, refl, refl, refl, refl, refl, refl, refl, refl, refl)

@@ -11,6 +11,7 @@ use Rattle.own.specs.records.Setups.{labelFits, instanceFits, isLetter, isNameB
 use Rattle.own.specs.records.Setups.{domainFits, txtFits, validSetup, serviceLabels, instanceLabels, hostLabels}
 use Rattle.own.specs.records.Records.{hasRecord, ownLabels, ownName, srvRdata, ownRdata}
 use Rattle.claims.specs.records.Sets.{picked, recordsOf}
+use Rattle.writer.specs.Fit.{formFor}
 use Rattle.writer.specs.Items.{putName, dataBytes, dataPlaces, putFields}
 use Rattle.writer.specs.own_packets.Packets.{packetOf}
 use Rattle.writer.specs.own_packets.Styles.{ownRecord}
@@ -24,7 +25,7 @@ sample-valid = refl
 
 packets : Announced × Probed × InstanceProbed
 unfolding nameAt fromRun readFrom pieceAt sameBytes standsAt placeOf cutFrom nameBytes starts namePlaces serviceLabels instanceLabels hostLabels
-    hasRecord ownLabels ownName srvRdata ownRdata putName dataBytes dataPlaces putFields packetOf ownRecord picked recordsOf responseRecords
+    hasRecord ownLabels ownName srvRdata ownRdata putName formFor dataBytes dataPlaces putFields packetOf ownRecord picked recordsOf responseRecords
     probeRecords responseOf probeOf responsePacket probePacket
 packets = (refl, refl, refl)
 

@@ -9,16 +9,16 @@ use lib.Dec.{ltb}
 use lib.ListN.{length, take, drop}
 use Rattle.wire.specs.names.Names.{isName}
 use Rattle.wire.proofs.labels.Encoded.{made-of, encode-unique}
-use Rattle.wire.specs.rdata.Rdata.{formOf}
+use Rattle.wire.specs.declared.rdata.Form.{Form}
 use Rattle.wire.specs.message.Message.{Question, Record, Message}
 use Rattle.writer.specs.compression.Compression.{nameBytes, namePlaces, pointerTo}
 use Rattle.writer.specs.compression.Sentence.{Rising, empty, Stands, labelBytes, startsAt, Cuts, whole, cut}
 use Rattle.writer.proofs.compression.AsSaid.{is-cut}
-use Rattle.writer.specs.Fit.{isShaped}
+use Rattle.writer.specs.Fit.{formFor, heldName, heldBehind, holdsName}
 use Rattle.writer.specs.Items.{Writing, u16, fields, dataBytes, dataPlaces, searched, putBytes, putName, putFields, putRecord, putQuestion}
 use Rattle.writer.specs.own_packets.Packets.{putAll, header, written}
 use Rattle.writer.proofs.Fitting.{fit-parts}
-use Rattle.writer.proofs.Rdata.{target-fits, target-bytes, target-places, plain-bytes, plain-places}
+use Rattle.writer.proofs.Rdata.{shaped-holds, target-fits, target-bytes, target-places, plain-bytes, plain-places}
 use Rattle.roundtrip.specs.Writable.{IsRecord, IsQuestion, Each, none, one, Writable}
 use Rattle.roundtrip.specs.Composed.{behind, NameLaid, QuestionLaid, question, DataLaid, plain, target, RecordLaid, laid}
 use Rattle.roundtrip.specs.Composed.{AllLaid, no-more, one-more, MessageLaid}
@@ -39,27 +39,28 @@ name-laid w os {n} up at bs ok =
           (is-cut (w .bytes) 12 n os up at (m .0) (m .1 .labels));
     }
 
-data-laid : (uncut : Bool) (w : Writing) → Sound w → (k : ℕ) (d : List ℕ) → isShaped k d ≡ true
-    → DataLaid uncut w k d (dataBytes (w .bytes) (searched uncut k (w .places)) k d)
-    (dataPlaces (w .bytes) (searched uncut k (w .places)) (length (w .bytes) + 10) k d)
-data-laid uncut w sound k d h = go (formOf k .named) refl
+data-laid : (uncut : Bool) (w : Writing) → Sound w → (k : ℕ) (g : Form) (d : List ℕ) → (g .named ≡ true → holdsName g d ≡ true)
+    → DataLaid uncut w k g d (dataBytes (w .bytes) (searched uncut k (w .places)) g d)
+    (dataPlaces (w .bytes) (searched uncut k (w .places)) (length (w .bytes) + 10) g d)
+data-laid uncut w sound k g d h = go (g .named) refl
   where
     os : List ℕ
     os = searched uncut k (w .places)
 
-    go : (b : Bool) → formOf k .named ≡ b → DataLaid uncut w k d (dataBytes (w .bytes) os k d) (dataPlaces (w .bytes) os (length (w .bytes) + 10) k d)
+    go : (b : Bool) → g .named ≡ b → DataLaid uncut w k g d (dataBytes (w .bytes) os g d) (dataPlaces (w .bytes) os (length (w .bytes) + 10) g d)
     go true t =
-        let f = target-fits k d t h in
-        rw (target-bytes k d t (w .bytes) os, target-places k d t (w .bytes) os (length (w .bytes) + 10))
-        (target t (name-laid w os (searched-rising uncut k sound) (length (w .bytes) + 10 + formOf k .before) (drop (formOf k .before) d) (f .1)))
-    go false t = rw (plain-bytes k d t (w .bytes) os, plain-places k d t (w .bytes) os (length (w .bytes) + 10)) (plain t)
+        let f = target-fits g d (h t) in
+        rw (target-bytes g d t (w .bytes) os, target-places g d t (w .bytes) os (length (w .bytes) + 10))
+        (target t (name-laid w os (searched-rising uncut k sound) (length (w .bytes) + 10 + g .before) (heldName g d) (f .1)))
+    go false t = rw (plain-bytes g d t (w .bytes) os, plain-places g d t (w .bytes) os (length (w .bytes) + 10)) (plain t)
 
 record-laid : (uncut : Bool) (w : Writing) → Sound w → (r : Record) → IsRecord r → RecordLaid uncut w r (putRecord uncut w r)
 unfolding putName putFields
 record-laid uncut w sound r fit =
     let ok = fit-parts (r .owner) (r .rtype) (r .ttl) (r .rdata) fit in
     laid (name-laid w (w .places) sound (length (w .bytes)) (r .owner) (ok .0))
-    (data-laid uncut (putName w (r .owner)) (name-sound w sound (r .owner) (ok .0)) (r .rtype) (r .rdata) (ok .1))
+    (data-laid uncut (putName w (r .owner)) (name-sound w sound (r .owner) (ok .0)) (r .rtype) (formFor (r .owner) (r .rtype) (r .rdata)) (r .rdata)
+    (shaped-holds (r .owner) (r .rtype) (r .rdata) (ok .1)))
 
 question-laid : (w : Writing) → Sound w → (q : Question) → IsQuestion q → QuestionLaid w q (putQuestion w q)
 unfolding putName
@@ -113,20 +114,20 @@ question-unique {w} {q} (question x) (question y) =
     let f = name-unique x y in
     λ i. putBytes (behind w (f .0 i) (f .1 i)) (u16 (q .rtype) ++ u16 (q .class))
 
-data-unique : {uncut : Bool} {w : Writing} {k : ℕ} {d ds es ds′ es′ : List ℕ} → DataLaid uncut w k d ds es → DataLaid uncut w k d ds′ es′ → (ds ≡ ds′) ×
-    (es ≡ es′)
+data-unique : {uncut : Bool} {w : Writing} {k : ℕ} {g : Form} {d ds es ds′ es′ : List ℕ} → DataLaid uncut w k g d ds es → DataLaid uncut w k g d ds′ es′
+    → (ds ≡ ds′) × (es ≡ es′)
 data-unique (plain t) (plain u) = (refl, refl)
 data-unique (plain t) (target u y) = let z : _≡_ {A = ℕ} 0 1 = cc in absurd (omega arith)
 data-unique (target t x) (plain u) = let z : _≡_ {A = ℕ} 0 1 = cc in absurd (omega arith)
-data-unique {k = k} {d = d} (target t x) (target u y) =
+data-unique {g = g} {d = d} (target t x) (target u y) =
     let f = name-unique x y in
-    (ap (λ (b : List ℕ). take (formOf k .before) d ++ b) (f .0), f .1)
+    (ap (λ (b : List ℕ). take (g .before) d ++ (b ++ heldBehind g d)) (f .0), f .1)
 
 record-unique : {uncut : Bool} {w : Writing} {r : Record} {v v′ : Writing} → RecordLaid uncut w r v → RecordLaid uncut w r v′ → v ≡ v′
 record-unique {uncut} {w} {r} (laid {bs = bs} {ps = ps} x a) (laid {bs = bs′} {ps = ps′} {ds = ds′} {es = es′} y b) =
     let f = name-unique x y in
     let e : behind w bs ps ≡ behind w bs′ ps′ = λ i. behind w (f .0 i) (f .1 i) in
-    let g = data-unique a (subst (λ (v : Writing). DataLaid uncut v (r .rtype) (r .rdata) ds′ es′) (sym e) b) in
+    let g = data-unique a (subst (λ (v : Writing). DataLaid uncut v (r .rtype) (formFor (r .owner) (r .rtype) (r .rdata)) (r .rdata) ds′ es′) (sym e) b) in
     λ i. behind (behind w (f .0 i) (f .1 i)) (fields (r .rtype) (r .class) (r .ttl) (length (g .0 i)) ++ g .0 i) (g .1 i)
 
 module _ {A : Type 0} (Laid : Writing → A → Writing → Type 0) (unique : (w : Writing) (x : A) (v v′ : Writing) → Laid w x v → Laid w x v′ → v ≡ v′) where

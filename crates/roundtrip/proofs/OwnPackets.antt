@@ -86,10 +86,10 @@ module _ (s : Setup) (ok : Valid s) (style : Style) where
 unasked : false ≡ true → isName [] ≡ true
 unasked e = let z : _≡_ {A = ℕ} 0 1 = cc in absurd (omega arith)
 
-response-long : (s : Setup) → Valid s → (chosen : Set) → length (packetIn s responseStyle [] (responseRecords s chosen)) ≤ 1009
+response-long : (s : Setup) → Valid s → (chosen : Set) → length (packetIn s responseStyle [] (responseRecords s chosen)) ≤ 1370
 response-long s ok chosen = omega (arith, style-long s ok responseStyle [] unasked (responseRecords s chosen), response-size s ok chosen)
 
-probe-long : (s : Setup) → Valid s → (claim : Claim) → length (packetIn s probeStyle (ownName s (firstOf claim)) (probeRecords s claim)) ≤ 1009
+probe-long : (s : Setup) → Valid s → (claim : Claim) → length (packetIn s probeStyle (ownName s (firstOf claim)) (probeRecords s claim)) ≤ 1370
 probe-long s ok claim =
     omega (
       arith,
@@ -106,7 +106,7 @@ pub packets-fit : PacketsFit
 unfolding responsePacket probePacket
 packets-fit s h chosen claim = (go (responseRecords s chosen), probe-long s (valid s h) claim)
   where
-    go : (os : List Own) → length (noneIfEmpty os (packetIn s responseStyle [] (responseRecords s chosen))) ≤ 1009
+    go : (os : List Own) → length (noneIfEmpty os (packetIn s responseStyle [] (responseRecords s chosen))) ≤ 1370
     go [] = omega arith
     go (o ∷ os) = response-long s (valid s h) chosen
 

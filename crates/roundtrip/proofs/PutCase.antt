@@ -7,7 +7,7 @@ use Rattle.wire.specs.names.Names.{labelsFill, readFrom, fromRun, nameAt}
 use Rattle.writer.specs.compression.Compression.{standsAt, placeOf, cutFrom, nameBytes, namePlaces}
 use Rattle.wire.specs.labels.Counted.{starts}
 use Rattle.wire.specs.expansion.Equal.{sameBytes}
-use Rattle.writer.specs.Fit.{isShaped, fitRecord}
+use Rattle.writer.specs.Fit.{formFor, isShaped, fitRecord}
 use Rattle.writer.specs.Items.{putName, dataBytes, dataPlaces, putFields}
 use Rattle.writer.specs.own_packets.Packets.{header}
 use Rattle.writer.specs.Writer.{nameFits, recordFits, labelsFor}
@@ -15,15 +15,15 @@ use Rattle.roundtrip.specs.Puts.{held, QuestionPut, question-put, Record
 use Rattle.roundtrip.specs.PutCase.{question, address, probe, headed, asked, whole, PutCase}
 
 question-is-put : QuestionPut headed question asked
-unfolding sameBytes labelsFill isShaped nameAt fromRun readFrom pieceAt standsAt placeOf cutFrom nameBytes starts namePlaces fitRecord putName dataBytes dataPlaces putFields nameFits recordFits labelsFor
+unfolding sameBytes labelsFill formFor isShaped nameAt fromRun readFrom pieceAt standsAt placeOf cutFrom nameBytes starts namePlaces fitRecord putName dataBytes dataPlaces putFields nameFits recordFits labelsFor
 question-is-put = question-put (record { end = asked .at; count = asked .count }) (asked .out) (asked .places) (record { answer = refl; bytes = refl; places = refl })
 
 record-is-put : RecordPut false asked address whole
-unfolding sameBytes labelsFill isShaped nameAt fromRun readFrom pieceAt standsAt placeOf cutFrom nameBytes starts namePlaces fitRecord putName dataBytes dataPlaces putFields nameFits recordFits labelsFor
+unfolding sameBytes labelsFill formFor isShaped nameAt fromRun readFrom pieceAt standsAt placeOf cutFrom nameBytes starts namePlaces fitRecord putName dataBytes dataPlaces putFields nameFits recordFits labelsFor
 record-is-put = record-put (record { end = whole .at; count = whole .count }) (whole .out) (whole .places) (record { answer = refl; bytes = refl; places = refl })
 
 forty-four : whole .at ≡ 44
-unfolding sameBytes labelsFill isShaped nameAt fromRun readFrom pieceAt standsAt placeOf cutFrom nameBytes starts namePlaces fitRecord putName dataBytes dataPlaces putFields nameFits recordFits labelsFor
+unfolding sameBytes labelsFill formFor isShaped nameAt fromRun readFrom pieceAt standsAt placeOf cutFrom nameBytes starts namePlaces fitRecord putName dataBytes dataPlaces putFields nameFits recordFits labelsFor
 forty-four = refl
 
 begun : held headed ≡ header probe

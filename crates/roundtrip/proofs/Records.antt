@@ -18,7 +18,7 @@ use Rattle.writer.proofs.compression.Places.{rising-append}
 use Rattle.writer.proofs.compression.Written.{written-rising}
 use Rattle.wire.specs.message.Message.{Record, ttlOf}
 use Rattle.wire.specs.message.Layout.{recordFrom, recordRead, item, bytesOf, withRdata, recordMeant, recordAt}
-use Rattle.writer.specs.Fit.{isShaped}
+use Rattle.writer.specs.Fit.{formFor, isShaped}
 use Rattle.writer.specs.Items.{Writing, fields, dataBytes, searched, putName, putFields, putRecord}
 use Rattle.writer.proofs.Fitting.{fit-parts}
 use Rattle.roundtrip.specs.Writable.{IsRecord}
@@ -27,7 +27,7 @@ use Rattle.roundtrip.proofs.Sound.{Sound, searched-rising}
 
 -- a record from its parts
 assemble : (P o D : List ℕ) (at E k c t n : ℕ) → nameAt P at ≡ name o E → E + 10 + n ≤ length P → word16 P E ≡ k → word16 P (E + 2) ≡ c → word32 P (E + 4) ≡ t
-    → t < 2147483648 → word16 P (E + 8) ≡ n → ((o : ℕ) (s : Span) (c t x : ℕ) → rdataAt P (lying o s k c t (E + 10) n x) ≡ rdata D)
+    → t < 2147483648 → word16 P (E + 8) ≡ n → ((u : ℕ) (s : Span) (c t x : ℕ) → nameAt P u ≡ name o E → rdataAt P (lying u s k c t (E + 10) n x) ≡ rdata D)
     → recordAt P at ≡ item (record { owner = o; rtype = k; class = c; ttl = t; rdata = D }) (E + 10 + n)
 unfolding recordAt recordRead
 assemble P o D at E k c t n nm fits ek ec et st en ed =
@@ -39,19 +39,20 @@ assemble P o D at E k c t n nm fits ek ec et st en ed =
     (ap
     (withRdata o (lying at (spanOf o E) (word16 P E) (word16 P (E + 2)) (ttlOf (word32 P (E + 4))) (E + 10) (word16 P (E + 8)) (E + 10 + word16 P (E + 8))))
     (ap₂ (λ (x y : ℕ). rdataAt P (lying at (spanOf o E) x (word16 P (E + 2)) (ttlOf (word32 P (E + 4))) (E + 10) y (E + 10 + word16 P (E + 8)))) ek en
-    ∙ ed at (spanOf o E) (word16 P (E + 2)) (ttlOf (word32 P (E + 4))) (E + 10 + word16 P (E + 8)))
+    ∙ ed at (spanOf o E) (word16 P (E + 2)) (ttlOf (word32 P (E + 4))) (E + 10 + word16 P (E + 8)) nm)
     ∙ λ i. item (record { owner = o; rtype = ek i; class = ec i; ttl = et′ i; rdata = D }) (E + 10 + en i))
 
 -- what follows the owner's name
-fields-back : (p os : List ℕ) (m : ℕ) → Rising 12 m os → length p ≤ 16384 → (o post : List ℕ) (at k c t : ℕ) (d : List ℕ) → isShaped k d ≡ true → t < 2147483648
-    → nameAt (p ++ (fields k c t (length (dataBytes p os k d)) ++ (dataBytes p os k d ++ post))) at ≡ name o (length p)
-    → recordAt (p ++ (fields k c t (length (dataBytes p os k d)) ++ (dataBytes p os k d ++ post))) at
-    ≡ item (record { owner = o; rtype = k; class = c; ttl = t; rdata = d }) (length p + 10 + length (dataBytes p os k d))
+fields-back : (p os : List ℕ) (m : ℕ) → Rising 12 m os → length p ≤ 16384 → (o post : List ℕ) (at k c t : ℕ) (d : List ℕ)
+    → isShaped o k d ≡ true → t < 2147483648
+    → nameAt (p ++ (fields k c t (length (dataBytes p os (formFor o k d) d)) ++ (dataBytes p os (formFor o k d) d ++ post))) at ≡ name o (length p)
+    → recordAt (p ++ (fields k c t (length (dataBytes p os (formFor o k d) d)) ++ (dataBytes p os (formFor o k d) d ++ post))) at
+    ≡ item (record { owner = o; rtype = k; class = c; ttl = t; rdata = d }) (length p + 10 + length (dataBytes p os (formFor o k d) d))
 fields-back p os m low small o post at k c t d ok st nm =
-    assemble P o d at (length p) k c t (length D) nm long ek ec et st en (data-back p os m small low F post refl k d ok)
+    assemble P o d at (length p) k c t (length D) nm long ek ec et st en (data-back p os m small low o F post refl k d ok)
   where
     D : List ℕ
-    D = dataBytes p os k d
+    D = dataBytes p os (formFor o k d) d
 
     F : List ℕ
     F = fields k c t (length D)
@@ -91,7 +92,7 @@ record-there whole w sound r fit small post =
     (ok .3) owner-read
     ∙ ap (item r) total
   where
-    ok : (isName (r .owner) ≡ true) × (isShaped (r .rtype) (r .rdata) ≡ true) × (length (r .rdata) ≤ 65535) × (r .ttl < 2147483648)
+    ok : (isName (r .owner) ≡ true) × (isShaped (r .owner) (r .rtype) (r .rdata) ≡ true) × (length (r .rdata) ≤ 65535) × (r .ttl < 2147483648)
     ok = fit-parts (r .owner) (r .rtype) (r .ttl) (r .rdata) fit
 
     p : List ℕ
@@ -113,7 +114,7 @@ record-there whole w sound r fit small post =
     os₂ = searched whole (r .rtype) os₁
 
     D : List ℕ
-    D = dataBytes p₁ os₂ (r .rtype) (r .rdata)
+    D = dataBytes p₁ os₂ (formFor (r .owner) (r .rtype) (r .rdata)) (r .rdata)
 
     F : List ℕ
     F = fields (r .rtype) (r .class) (r .ttl) (length D)
@@ -135,5 +136,5 @@ pub record-back : (whole : Bool) (w : Writing) → Sound w → (r : Record) → 
 unfolding putFields
 record-back whole w sound r ok small post =
     let v : Writing = putName w (r .owner) in
-    let D : List ℕ = dataBytes (v .bytes) (searched whole (r .rtype) (v .places)) (r .rtype) (r .rdata) in
+    let D : List ℕ = dataBytes (v .bytes) (searched whole (r .rtype) (v .places)) (formFor (r .owner) (r .rtype) (r .rdata)) (r .rdata) in
     record-there whole w sound r ok (omega (arith, small, length-append (v .bytes) (fields (r .rtype) (r .class) (r .ttl) (length D) ++ D))) post

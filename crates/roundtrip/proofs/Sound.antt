@@ -13,11 +13,11 @@ use Rattle.writer.specs.compression.Sentence.{Rising, empty}
 use Rattle.writer.proofs.compression.Places.{rising-le, rising-from, rising-to, rising-append}
 use Rattle.writer.proofs.compression.Written.{written-rising}
 use Rattle.wire.specs.message.Message.{Question, Record}
-use Rattle.wire.specs.rdata.Rdata.{formOf}
-use Rattle.writer.specs.Fit.{isShaped}
+use Rattle.wire.specs.declared.rdata.Form.{Form}
+use Rattle.writer.specs.Fit.{formFor, heldName, heldBehind, holdsName}
 use Rattle.writer.specs.Items.{Writing, u16, fields, dataBytes, dataPlaces, searched, putBytes, putName, putFields, putRecord, putQuestion}
 use Rattle.writer.proofs.Fitting.{fit-parts}
-use Rattle.writer.proofs.Rdata.{target-fits, target-bytes, target-places, plain-bytes, plain-places}
+use Rattle.writer.proofs.Rdata.{shaped-holds, front-long, target-fits, target-bytes, target-places, plain-bytes, plain-places}
 use Rattle.roundtrip.specs.Writable.{IsRecord, IsQuestion}
 
 -- labels start at rising offsets past the header
@@ -33,19 +33,20 @@ searched-rising whole k {m} {n} {os} up = go (whole && eqb k 33)
     go false = up
 
 -- the labels in rdata start in the rdata
-data-rising : (p os : List ℕ) (at k : ℕ) (d : List ℕ) → isShaped k d ≡ true → Rising at (at + length (dataBytes p os k d)) (dataPlaces p os at k d)
-data-rising p os at k d h = go (formOf k .named) refl
+data-rising : (p os : List ℕ) (at : ℕ) (g : Form) (d : List ℕ) → (g .named ≡ true → holdsName g d ≡ true)
+    → Rising at (at + length (dataBytes p os g d)) (dataPlaces p os at g d)
+data-rising p os at g d h = go (g .named) refl
   where
-    go : (b : Bool) → formOf k .named ≡ b → Rising at (at + length (dataBytes p os k d)) (dataPlaces p os at k d)
+    go : (b : Bool) → g .named ≡ b → Rising at (at + length (dataBytes p os g d)) (dataPlaces p os at g d)
     go true t =
-        let f = target-fits k d t h in
-        let n : ℕ = formOf k .before in
-        let N : List ℕ = nameBytes p os (drop n d) in
-        rw (target-bytes k d t p os, target-places k d t p os at)
+        let n : ℕ = g .before in
+        let N : List ℕ = nameBytes p os (heldName g d) in
+        rw (target-bytes g d t p os, target-places g d t p os at)
         (rising-from at (omega arith)
-        (rising-to (at + length (take n d ++ N)) (omega (arith, length-append (take n d) N, length-take-le n d (f .0)))
-        (written-rising p os (drop n d) (f .1) (at + n))))
-    go false t = let g : at ≤ at + length d = omega arith in rw (plain-bytes k d t p os, plain-places k d t p os at) (empty g)
+        (rising-to (at + length (take n d ++ (N ++ heldBehind g d)))
+        (omega (arith, length-append (take n d) (N ++ heldBehind g d), length-append N (heldBehind g d), front-long g d (h t)))
+        (written-rising p os (heldName g d) (target-fits g d (h t) .1) (at + n))))
+    go false t = let e : at ≤ at + length d = omega arith in rw (plain-bytes g d t p os, plain-places g d t p os at) (empty e)
 
 pub name-sound : (w : Writing) → Sound w → (bs : List ℕ) → isName bs ≡ true → Sound (putName w bs)
 unfolding putName
@@ -58,13 +59,16 @@ fields-sound whole w sound r ok =
     rising-append sound
     (rising-from (length (w .bytes)) (omega arith)
     (rising-to (length (w .bytes ++ (F ++ D))) (omega (arith, length-append (w .bytes) (F ++ D)))
-    (data-rising (w .bytes) os (length (w .bytes) + 10) (r .rtype) (r .rdata) (fit-parts _ _ _ _ ok .1))))
+    (data-rising (w .bytes) os (length (w .bytes) + 10) g (r .rdata) (shaped-holds (r .owner) (r .rtype) (r .rdata) (fit-parts _ _ _ _ ok .1)))))
   where
     os : List ℕ
     os = searched whole (r .rtype) (w .places)
 
+    g : Form
+    g = formFor (r .owner) (r .rtype) (r .rdata)
+
     D : List ℕ
-    D = dataBytes (w .bytes) os (r .rtype) (r .rdata)
+    D = dataBytes (w .bytes) os g (r .rdata)
 
     F : List ℕ
     F = fields (r .rtype) (r .class) (r .ttl) (length D)

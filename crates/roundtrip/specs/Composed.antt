@@ -6,9 +6,10 @@ use Prim.Native.Nat.{ℕ, _+_}
 use mathlib.Core.Path.{_≡_}
 use mathlib.Core.List.{List, [], _∷_, _++_}
 use mathlib.Core.Bool.{Bool, true, false}
-use lib.ListN.{length, take, drop}
+use lib.ListN.{length, take}
 use Rattle.wire.specs.labels.Labels.{encode, Labels}
-use Rattle.wire.specs.rdata.Rdata.{formOf}
+use Rattle.wire.specs.declared.rdata.Form.{Form}
+use Rattle.writer.specs.Fit.{formFor, heldName, heldBehind}
 use Rattle.wire.specs.message.Message.{Question, Record, Message}
 use Rattle.writer.specs.compression.Sentence.{Cuts}
 use Rattle.writer.specs.Items.{Writing, u16, fields, searched, putBytes}
@@ -31,16 +32,17 @@ pub data QuestionLaid (w : Writing) (q : Question) : Writing → Type 0 where
   question : {bs ps : List ℕ} → NameLaid w (w .places) (length (w .bytes)) (q .name) bs ps
       → QuestionLaid w q (putBytes (behind w bs ps) (u16 (q .rtype) ++ u16 (q .class)))
 
--- rdata, ten bytes behind a packet: as it is, or bytes and a name, cut too, but with `whole` not in an SRV
-pub data DataLaid (whole : Bool) (w : Writing) (rtype : ℕ) (d : List ℕ) : List ℕ → List ℕ → Type 0 where
-  plain : formOf rtype .named ≡ false → DataLaid whole w rtype d d []
-  target : {bs ps : List ℕ} → formOf rtype .named ≡ true
-      → NameLaid w (searched whole rtype (w .places)) (length (w .bytes) + 10 + formOf rtype .before) (drop (formOf rtype .before) d) bs ps
-      → DataLaid whole w rtype d (take (formOf rtype .before) d ++ bs) ps
+-- rdata of a form, ten bytes behind a packet: as it is, or a name between bytes, cut too, but with `whole` not in an SRV
+pub data DataLaid (whole : Bool) (w : Writing) (rtype : ℕ) (g : Form) (d : List ℕ) : List ℕ → List ℕ → Type 0 where
+  plain : g .named ≡ false → DataLaid whole w rtype g d d []
+  target : {bs ps : List ℕ} → g .named ≡ true
+      → NameLaid w (searched whole rtype (w .places)) (length (w .bytes) + 10 + g .before) (heldName g d) bs ps
+      → DataLaid whole w rtype g d (take (g .before) d ++ (bs ++ heldBehind g d)) ps
 
 -- a record behind a packet: its owner, the ten bytes with the length of the rdata, and the rdata
 pub data RecordLaid (whole : Bool) (w : Writing) (r : Record) : Writing → Type 0 where
-  laid : {bs ps ds es : List ℕ} → NameLaid w (w .places) (length (w .bytes)) (r .owner) bs ps → DataLaid whole (behind w bs ps) (r .rtype) (r .rdata) ds es
+  laid : {bs ps ds es : List ℕ} → NameLaid w (w .places) (length (w .bytes)) (r .owner) bs ps
+      → DataLaid whole (behind w bs ps) (r .rtype) (formFor (r .owner) (r .rtype) (r .rdata)) (r .rdata) ds es
       → RecordLaid whole w r (behind (behind w bs ps) (fields (r .rtype) (r .class) (r .ttl) (length ds) ++ ds) es)
 
 -- one after the other

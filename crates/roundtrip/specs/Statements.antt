@@ -73,7 +73,8 @@ StyleBack =
     → (style .asks ≡ true → isName name ≡ true) → (os : List Own) → length (packetIn s style name os) ≤ 8972
     → messageAt (packetIn s style name os) ≡ read (layoutOf (style .whole) (styledMessage s style name os)) (styledMessage s style name os)
 
--- `response-back`: a response of any records that the set-up has, at least one, is read as exactly those, "in the order PTR, SRV, TXT, A, AAAA"
+-- `response-back`: a response of any records that the set-up has, at least one, is read as exactly those, "in the order PTR, SRV, TXT, A, AAAA" and
+-- then NSEC
 abbrev pub ResponseBack : Type 0
 ResponseBack =
     (s : Setup) → validSetup s ≡ true → (chosen : Set) → (responseRecords s chosen ≡ [] → ⊥)
@@ -83,11 +84,11 @@ ResponseBack =
 abbrev pub ProbeBack : Type 0
 ProbeBack = (s : Setup) → validSetup s ≡ true → (claim : Claim) → messageAt (probePacket s claim) ≡ read (layoutOf false (probeOf s claim)) (probeOf s claim)
 
--- `packets-fit`: "All five always fit in 1,452 bytes"; any response and any probe has at most 1,009
+-- `packets-fit`: "The largest packet must still fit 1,452 bytes"; any response and any probe has at most 1,370
 abbrev pub PacketsFit : Type 0
 PacketsFit =
     (s : Setup) → validSetup s ≡ true → (chosen : Set) (claim : Claim)
-    → (length (responsePacket s chosen) ≤ 1009) × (length (probePacket s claim) ≤ 1009)
+    → (length (responsePacket s chosen) ≤ 1370) × (length (probePacket s claim) ≤ 1370)
 
 -- `own-composed`: their names are cut as the sentence says
 abbrev pub OwnComposed : Type 0

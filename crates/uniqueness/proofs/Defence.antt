@@ -33,7 +33,7 @@ use Rattle.responder.specs.Handed.{Arrival}
 use Rattle.uniqueness.specs.Responder.{ownClaim, rdata, name, responder}
 use Rattle.uniqueness.specs.Rules.{told, claimAt, timeOf, timeIn, rules}
 use Rattle.uniqueness.proofs.Lists.{never}
-use Rattle.uniqueness.proofs.Owned.{Owned, owned, Has, has-data, own-claim, own-owner, own-at-once, is-present}
+use Rattle.uniqueness.proofs.Owned.{Owned, owned, Has, has-data, own-claim, own-owner, own-carries, own-at-once, is-present}
 use Rattle.uniqueness.proofs.Data.{no-response, is-probe}
 use Rattle.uniqueness.proofs.Hearing.{query-facts, query-heard}
 use Rattle.uniqueness.proofs.Facts.{held-stage}
@@ -60,7 +60,7 @@ type-any false = refl
 -- it asks for every record of the claim
 asks-all : (t s : Setup) (k : Claim) (type : ℕ) (r : Own) → Owned k type r → sameName (name t k) (name s k) ≡ true → isAsked s r (probeOf t (ownClaim k)) ≡ true
 unfolding isAsked probeOf someOf
-asks-all t s k type r o n = rw (own-owner s k type r o, n, type-any (eqb 255 (ownType r))) refl
+asks-all t s k type r o n = rw (own-owner s k type r o, own-carries k type r o, n, type-any (eqb 255 (ownType r))) refl
 
 -- a record that was multicast lately
 lately : (v : When) (now gap : ℕ) → recently v now gap ≡ true → (u : ℕ) × (timeOf v ≡ some u) × (now < u + gap)

@@ -1,7 +1,7 @@
 -- The lists of specs/Example.antt, evaluated: they meet the premises; alone, a responder holds both names 1,200 ms after its start and is one of whom the
 -- 1,200 ms are asked; of two that want one name with different data, one holds it and the other has lost it; one that gives its name up to a stranger comes
 -- to hold it again. Assumes nothing.
-use mathlib.Core.Path.{_≡_, refl, sym}
+use mathlib.Core.Path.{_≡_, refl, sym, ap, _∙_}
 use mathlib.Core.Bool.{Bool, true, false, not}
 use mathlib.Core.Option.{some}
 use mathlib.Core.List.{List, [], _∷_}
@@ -12,7 +12,7 @@ use borrow.Author.Tests.{leb-true, ltb-true}
 use Rattle.wire.specs.case_folding.Fold.{sameName}
 use Rattle.wire.specs.name_pieces.Pieces.{pieceAt}
 use Rattle.wire.specs.names.Names.{nameAt, fromRun, readFrom}
-use Rattle.wire.specs.rdata.Rdata.{stringsFill, rdataIn, rdataAt}
+use Rattle.wire.specs.rdata.Rdata.{formIn, stringsFill, rdataIn, rdataAt}
 use Rattle.wire.specs.expansion.Equal.{sameBytes}
 use Rattle.wire.specs.message.Layout.{questionRead, recordRead, questionAt, recordAt, listFrom, andThen, messageAt}
 use Rattle.writer.specs.compression.Compression.{standsAt, placeOf, cutFrom, nameBytes, namePlaces}
@@ -37,6 +37,7 @@ use Rattle.facts.specs.probe.Probe.{isProbe}
 use Rattle.facts.specs.tiebreak.Lists.{listUnder}
 use Rattle.claims.specs.answers.Answers as answers
 use Rattle.facts.specs.Facts.{isAsked, isKnown, conflicted, theirsLater, responseFacts, queryFacts, factsOf}
+use Rattle.writer.specs.Fit.{formFor}
 use Rattle.writer.specs.Items.{putName, dataBytes, dataPlaces, putFields}
 use Rattle.writer.specs.own_packets.Packets.{packetOf}
 use Rattle.writer.specs.own_packets.Styles.{ownRecord}
@@ -84,7 +85,7 @@ Asked es d s n =
     × (ltb (timeAt responder es d + holdingTime) (timeAt responder es n) ≡ true)
     × (runs responder es d n ≡ true)
 
--- everything that the checker computes of the lists
+-- everything that the checker computes of the lists: of the first three, and of the last
 abbrev Seen : Type 0
 Seen =
     (meets responder alone ≡ true)
@@ -106,23 +107,29 @@ Seen =
     × (isAnd lostBy (after responder rivals 30 (length rivals)) ≡ true)
     × (acceptedAt responder rivals 10 ≡ false)
     × (acceptedAt responder rivals 35 ≡ false)
-    × (meets responder three ≡ true)
+
+abbrev SeenThree : Type 0
+SeenThree =
+    (meets responder three ≡ true)
     × (holds responder three 0 other instance 17 ≡ true)
     × (holds responder three 0 other instance 18 ≡ false)
     × (holds responder three 0 other instance (length three) ≡ true)
     × (acceptedAt responder three 3 ≡ true)
     × (acceptedAt responder three 10 ≡ true)
     × (acceptedAt responder three 15 ≡ true)
-    × (sentAt responder three 14 ≡ sends (responsePacket other (only Ptr)))
     × (isAnd lostBy (after responder three 16 (length three)) ≡ true)
     × (runs responder three 0 (length three) ≡ true)
     × (runs responder three 16 (length three) ≡ true)
     × (runs responder three 30 (length three) ≡ true)
 
 seen : Seen
-unfolding setupOf alone contest rivals three ptrQuery holds writes hears anyOf respondsFor conflictsWith defeatsOf responds conflicts defeats meets ordered atOneRate owed taken allDelivered allOnTime every someBelow allOf samePackets entry clockOf ownerOf setupIn reply returned called after isAccepted parcelsOf heardIn start tick receive dueTimes due blank startOf packetFor receivedPacket receiveOf tickedPacket tickOf wrongState startRefusal receiveRefusal tickRefusal ownRecord responseRecords probeRecords responseOf probeOf responsePacket probePacket putName dataBytes dataPlaces putFields packetOf isAsked isKnown conflicted theirsLater responseFacts queryFacts factsOf answers.heardOf answers.wantedOf answers.receiveOf listUnder someOf isProbe compareNumbers inTurn compareRecords insertBy sortBy tie steps.sends steps.actionTurn steps.claimTurn steps.ptrReply steps.replyTurn steps.stepTurn steps.walked steps.endedOf steps.tickOf moreDue actionOf unsentOf sets.someOf sets.everyOf sets.picked sets.only sets.anyOf sets.atOnce sets.recordsOf multicastsKept kept wrongTime claims.begunAt afterMs markedAll hasRecord ownLabels ownName srvRdata ownRdata labelFits instanceFits utf8.isShown utf8.shownFrom utf8.mayStand utf8.behind utf8.starts utf8.following utf8.within isLetter isNameByte allNameBytes someLetter hyphensApart serviceRule serviceFits protocolFits domainFits txtFits validSetup serviceLabels instanceLabels hostLabels standsAt placeOf cutFrom nameBytes starts namePlaces questionRead recordRead questionAt recordAt listFrom messageAt andThen sameBytes stringsFill nameAt fromRun readFrom pieceAt sameName rdataAt rdataIn
+unfolding setupOf alone contest rivals three ptrQuery holds writes hears anyOf respondsFor conflictsWith defeatsOf responds conflicts defeats meets ordered atOneRate owed taken allDelivered allOnTime every someBelow allOf samePackets entry clockOf ownerOf setupIn reply returned called after isAccepted parcelsOf heardIn start tick receive dueTimes due blank startOf packetFor receivedPacket receiveOf tickedPacket tickOf wrongState startRefusal receiveRefusal tickRefusal ownRecord responseRecords probeRecords responseOf probeOf responsePacket probePacket putName dataBytes dataPlaces putFields packetOf isAsked isKnown conflicted theirsLater responseFacts queryFacts factsOf answers.heardOf answers.wantedOf answers.receiveOf listUnder someOf isProbe compareNumbers inTurn compareRecords insertBy sortBy tie steps.sends steps.actionTurn steps.claimTurn steps.ptrReply steps.replyTurn steps.stepTurn steps.walked steps.endedOf steps.tickOf moreDue actionOf unsentOf sets.someOf sets.everyOf sets.picked sets.only sets.anyOf sets.atOnce sets.recordsOf multicastsKept kept wrongTime claims.begunAt afterMs markedAll hasRecord ownLabels ownName srvRdata ownRdata labelFits instanceFits utf8.isShown utf8.shownFrom utf8.mayStand utf8.behind utf8.starts utf8.following utf8.within isLetter isNameByte allNameBytes someLetter hyphensApart serviceRule serviceFits protocolFits domainFits txtFits validSetup serviceLabels instanceLabels hostLabels standsAt placeOf cutFrom nameBytes starts namePlaces questionRead recordRead questionAt recordAt listFrom messageAt andThen sameBytes stringsFill nameAt fromRun readFrom pieceAt sameName rdataAt rdataIn formFor formIn
 seen =
-    (refl, (refl, refl, refl, refl, refl), (refl, refl, refl), (refl, refl, refl), refl, refl, refl, refl, refl, refl, (refl, refl, refl, refl, refl), (refl, refl, refl), (refl, refl, refl), refl, refl, refl, refl, refl, refl, refl, refl, refl, refl, refl, refl, refl, refl, refl, refl, refl, refl)
+    (refl, (refl, refl, refl, refl, refl), (refl, refl, refl), (refl, refl, refl), refl, refl, refl, refl, refl, refl, (refl, refl, refl, refl, refl), (refl, refl, refl), (refl, refl, refl), refl, refl, refl, refl, refl, refl)
+
+seen-three : SeenThree
+unfolding setupOf alone contest rivals three ptrQuery holds writes hears anyOf respondsFor conflictsWith defeatsOf responds conflicts defeats meets ordered atOneRate owed taken allDelivered allOnTime every someBelow allOf samePackets entry clockOf ownerOf setupIn reply returned called after isAccepted parcelsOf heardIn start tick receive dueTimes due blank startOf packetFor receivedPacket receiveOf tickedPacket tickOf wrongState startRefusal receiveRefusal tickRefusal ownRecord responseRecords probeRecords responseOf probeOf responsePacket probePacket putName dataBytes dataPlaces putFields packetOf isAsked isKnown conflicted theirsLater responseFacts queryFacts factsOf answers.heardOf answers.wantedOf answers.receiveOf listUnder someOf isProbe compareNumbers inTurn compareRecords insertBy sortBy tie steps.sends steps.actionTurn steps.claimTurn steps.ptrReply steps.replyTurn steps.stepTurn steps.walked steps.endedOf steps.tickOf moreDue actionOf unsentOf sets.someOf sets.everyOf sets.picked sets.only sets.anyOf sets.atOnce sets.recordsOf multicastsKept kept wrongTime claims.begunAt afterMs markedAll hasRecord ownLabels ownName srvRdata ownRdata labelFits instanceFits utf8.isShown utf8.shownFrom utf8.mayStand utf8.behind utf8.starts utf8.following utf8.within isLetter isNameByte allNameBytes someLetter hyphensApart serviceRule serviceFits protocolFits domainFits txtFits validSetup serviceLabels instanceLabels hostLabels standsAt placeOf cutFrom nameBytes starts namePlaces questionRead recordRead questionAt recordAt listFrom messageAt andThen sameBytes stringsFill nameAt fromRun readFrom pieceAt sameName rdataAt rdataIn formFor formIn
+seen-three = (refl, refl, refl, refl, refl, refl, refl, refl, refl, refl, refl)
 
 not-true : (b : Bool) → not b ≡ true → b ≡ false
 not-true false e = refl
@@ -198,27 +205,41 @@ refused-calls = (seen .17, seen .18)
 -- ---- three responders, and a stranger
 
 pub three-premises : Premises responder three
-three-premises = met responder three (seen .19)
+three-premises = met responder three (seen-three .0)
 
 -- the first holds its instance name until it hears the stranger's response, then no more, and at the end again
 pub gives-up : (holds responder three 0 other instance 17 ≡ true) × (holds responder three 0 other instance 18 ≡ false)
-gives-up = (seen .20, seen .21)
+gives-up = (seen-three .1, seen-three .2)
 
 pub holds-again : holds responder three 0 other instance (length three) ≡ true
-holds-again = seen .22
+holds-again = seen-three .3
 
 -- it takes its own probe, its own announcement and its own answer, and goes on
 pub hears-itself : (acceptedAt responder three 3 ≡ true) × (acceptedAt responder three 10 ≡ true) × (acceptedAt responder three 15 ≡ true)
-hears-itself = (seen .23, seen .24, seen .25)
+hears-itself = (seen-three .4, seen-three .5, seen-three .6)
 
--- the question for its service is answered by the tick that comes 20 ms later
+-- the question for its service is answered by the tick that comes 20 ms later: both are this packet
+abbrev ptrPacket : List ℕ
+ptrPacket =
+    0x00 ∷ 0x00 ∷ 0x84 ∷ 0x00 ∷ 0x00 ∷ 0x00 ∷ 0x00 ∷ 0x01 ∷ 0x00 ∷ 0x00 ∷ 0x00 ∷ 0x00
+    ∷ 0x02 ∷ 0x5f ∷ 0x78 ∷ 0x04 ∷ 0x5f ∷ 0x75 ∷ 0x64 ∷ 0x70 ∷ 0x05 ∷ 0x6c ∷ 0x6f ∷ 0x63 ∷ 0x61 ∷ 0x6c ∷ 0x00
+    ∷ 0x00 ∷ 0x0c ∷ 0x00 ∷ 0x01 ∷ 0x00 ∷ 0x00 ∷ 0x11 ∷ 0x94 ∷ 0x00 ∷ 0x04 ∷ 0x01 ∷ 0x41 ∷ 0xc0 ∷ 0x0c ∷ []
+
+ptr-sent : sentAt responder three 14 ≡ sends ptrPacket
+unfolding setupOf alone contest rivals three ptrQuery holds writes hears anyOf respondsFor conflictsWith defeatsOf responds conflicts defeats meets ordered atOneRate owed taken allDelivered allOnTime every someBelow allOf samePackets entry clockOf ownerOf setupIn reply returned called after isAccepted parcelsOf heardIn start tick receive dueTimes due blank startOf packetFor receivedPacket receiveOf tickedPacket tickOf wrongState startRefusal receiveRefusal tickRefusal ownRecord responseRecords probeRecords responseOf probeOf responsePacket probePacket putName dataBytes dataPlaces putFields packetOf isAsked isKnown conflicted theirsLater responseFacts queryFacts factsOf answers.heardOf answers.wantedOf answers.receiveOf listUnder someOf isProbe compareNumbers inTurn compareRecords insertBy sortBy tie steps.sends steps.actionTurn steps.claimTurn steps.ptrReply steps.replyTurn steps.stepTurn steps.walked steps.endedOf steps.tickOf moreDue actionOf unsentOf sets.someOf sets.everyOf sets.picked sets.only sets.anyOf sets.atOnce sets.recordsOf multicastsKept kept wrongTime claims.begunAt afterMs markedAll hasRecord ownLabels ownName srvRdata ownRdata labelFits instanceFits utf8.isShown utf8.shownFrom utf8.mayStand utf8.behind utf8.starts utf8.following utf8.within isLetter isNameByte allNameBytes someLetter hyphensApart serviceRule serviceFits protocolFits domainFits txtFits validSetup serviceLabels instanceLabels hostLabels standsAt placeOf cutFrom nameBytes starts namePlaces questionRead recordRead questionAt recordAt listFrom messageAt andThen sameBytes stringsFill nameAt fromRun readFrom pieceAt sameName rdataAt rdataIn formFor formIn
+ptr-sent = refl
+
+ptr-written : responsePacket other (only Ptr) ≡ ptrPacket
+unfolding setupOf alone contest rivals three ptrQuery holds writes hears anyOf respondsFor conflictsWith defeatsOf responds conflicts defeats meets ordered atOneRate owed taken allDelivered allOnTime every someBelow allOf samePackets entry clockOf ownerOf setupIn reply returned called after isAccepted parcelsOf heardIn start tick receive dueTimes due blank startOf packetFor receivedPacket receiveOf tickedPacket tickOf wrongState startRefusal receiveRefusal tickRefusal ownRecord responseRecords probeRecords responseOf probeOf responsePacket probePacket putName dataBytes dataPlaces putFields packetOf isAsked isKnown conflicted theirsLater responseFacts queryFacts factsOf answers.heardOf answers.wantedOf answers.receiveOf listUnder someOf isProbe compareNumbers inTurn compareRecords insertBy sortBy tie steps.sends steps.actionTurn steps.claimTurn steps.ptrReply steps.replyTurn steps.stepTurn steps.walked steps.endedOf steps.tickOf moreDue actionOf unsentOf sets.someOf sets.everyOf sets.picked sets.only sets.anyOf sets.atOnce sets.recordsOf multicastsKept kept wrongTime claims.begunAt afterMs markedAll hasRecord ownLabels ownName srvRdata ownRdata labelFits instanceFits utf8.isShown utf8.shownFrom utf8.mayStand utf8.behind utf8.starts utf8.following utf8.within isLetter isNameByte allNameBytes someLetter hyphensApart serviceRule serviceFits protocolFits domainFits txtFits validSetup serviceLabels instanceLabels hostLabels standsAt placeOf cutFrom nameBytes starts namePlaces questionRead recordRead questionAt recordAt listFrom messageAt andThen sameBytes stringsFill nameAt fromRun readFrom pieceAt sameName rdataAt rdataIn formFor formIn
+ptr-written = refl
+
 pub answers-question : sentAt responder three 14 ≡ sends (responsePacket other (only Ptr))
-answers-question = seen .26
+answers-question = ptr-sent ∙ ap sends (sym ptr-written)
 
 -- the second, which wanted the name meanwhile, has lost it
 pub second-loses : isAnd lostBy (after responder three 16 (length three)) ≡ true
-second-loses = seen .27
+second-loses = seen-three .7
 
 pub three-run :
     (runs responder three 0 (length three) ≡ true) × (runs responder three 16 (length three) ≡ true) × (runs responder three 30 (length three) ≡ true)
-three-run = (seen .28, seen .29, seen .30)
+three-run = (seen-three .8, seen-three .9, seen-three .10)

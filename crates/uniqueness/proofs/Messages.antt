@@ -13,10 +13,10 @@ use Rattle.own.specs.declared.records.Setup.{Setup}
 use Rattle.own.specs.records.Setups.{validSetup}
 use Rattle.own.specs.records.Records.{hasRecord, ownLabels, ownName}
 use Rattle.own.proofs.records.Valid.{valid, instance-not-host, host-not-instance, service-not-instance, service-not-host}
-use Rattle.claims.specs.records.Own.{all, has}
+use Rattle.claims.specs.records.Own.{all, ownType, has}
 use Rattle.claims.specs.records.Sets as sets
 use Rattle.claims.specs.declared.records.Own.{Own}
-use Rattle.claims.specs.declared.records.Own.the-variants.{Ptr, Srv, Txt, A, Aaaa}
+use Rattle.claims.specs.declared.records.Own.the-variants.{Ptr, Srv, Txt, A, Aaaa, InstanceNsec, HostNsec}
 use Rattle.claims.specs.declared.records.Set.{Set}
 use Rattle.claims.specs.declared.steps.Output.{Output}
 use Rattle.claims.specs.declared.steps.Output.the-variants.{Nothing, Probe, Response}
@@ -29,10 +29,10 @@ use Rattle.responder.specs.Calls.{packetFor}
 use Rattle.link.specs.Responder.{Claim, instance, host}
 use Rattle.link.specs.Premises.{Among}
 use Rattle.link.specs.Laws.{ReadAs}
-use Rattle.uniqueness.specs.Responder.{sends, ownClaim, claimRecord, name, messageOf, readAs, responds}
+use Rattle.uniqueness.specs.Responder.{sends, ownClaim, claimRecord, name, messageOf, readAs, isData, dataUnder, responds}
 use Rattle.uniqueness.specs.Rules.{unlessEmpty, messagesFor, Carried}
-use Rattle.uniqueness.proofs.Lists.{clash, and-left, and-right, and-both, or-left, or-right, some-in, some-out, in-append, out-append, in-map, out-map, in-picked, out-picked}
-use Rattle.uniqueness.proofs.Owned.{Owned, srv, txt, a, aaaa, owned, own-owner}
+use Rattle.uniqueness.proofs.Lists.{clash, never, and-left, and-right, and-both, or-left, or-right, some-in, some-out, in-append, out-append, in-map, out-map, in-picked, out-picked}
+use Rattle.uniqueness.proofs.Owned.{Owned, srv, txt, a, aaaa, owned, own-owner, own-data}
 
 among-all : (r : Own) → Among r all
 among-all Ptr = inl refl
@@ -40,6 +40,8 @@ among-all Srv = inr (inl refl)
 among-all Txt = inr (inr (inl refl))
 among-all A = inr (inr (inr (inl refl)))
 among-all Aaaa = inr (inr (inr (inr (inl refl))))
+among-all InstanceNsec = inr (inr (inr (inr (inr (inl refl)))))
+among-all HostNsec = inr (inr (inr (inr (inr (inr (inl refl))))))
 
 pub only-one : {A : Type 0} (x y : A) → Among x (y ∷ []) → x ≡ y
 only-one x y (inl e) = e
@@ -78,27 +80,31 @@ module _ (s : Setup) (set : Set) where
       → responds (responseOf s set) (name s k) ≡ true
   unfolding responds ownRecord
   says-name k type r o h t =
-      and-both (isResponse (responseOf s set .flags)) (someOf (under (name s k)) (allRecords (responseOf s set))) response-flag
-      (some-in (under (name s k)) (ownRecord s responseStyle r) (allRecords (responseOf s set))
+      and-both (isResponse (responseOf s set .flags)) (someOf (dataUnder (name s k)) (allRecords (responseOf s set))) response-flag
+      (some-in (dataUnder (name s k)) (ownRecord s responseStyle r) (allRecords (responseOf s set))
       (in-append (ownRecord s responseStyle r) (responseOf s set .answers)
       (responseOf s set .authorities ++ responseOf s set .additionals) (member r h t))
-      (rw (own-owner s k type r o) (same-refl (name s k))))
+      (and-both (sameName (ownName s r) (name s k)) (isData (ownType r)) (rw (own-owner s k type r o) (same-refl (name s k))) (own-data k type r o)))
 
 -- ---- which record stands under a claim's name
 
 module _ (s : Setup) (ok : validSetup s ≡ true) (set : Set) where
-  by-name : (k : Claim) (o : Own) → has o set ≡ true → sameName (ownName s o) (name s k) ≡ true → sets.under (ownClaim k) set ≡ true
+  by-name : (k : Claim) (o : Own) → has o set ≡ true → sameName (ownName s o) (name s k) ≡ true → isData (ownType o) ≡ true → sets.under (ownClaim k) set ≡ true
   unfolding ownName ownLabels sets.someOf
-  by-name instance Ptr g n = absurd (service-not-instance s s (valid s ok) (valid s ok) n)
-  by-name instance Srv g n = or-right (set .txt) (set .srv || false) (or-left (set .srv) false g)
-  by-name instance Txt g n = or-left (set .txt) (set .srv || false) g
-  by-name instance A g n = absurd (host-not-instance s s (valid s ok) (valid s ok) n)
-  by-name instance Aaaa g n = absurd (host-not-instance s s (valid s ok) (valid s ok) n)
-  by-name host Ptr g n = absurd (service-not-host s s (valid s ok) (valid s ok) n)
-  by-name host Srv g n = absurd (instance-not-host s s (valid s ok) (valid s ok) n)
-  by-name host Txt g n = absurd (instance-not-host s s (valid s ok) (valid s ok) n)
-  by-name host A g n = or-left (set .a) (set .aaaa || false) g
-  by-name host Aaaa g n = or-right (set .a) (set .aaaa || false) (or-left (set .aaaa) false g)
+  by-name instance Ptr g n d = absurd (service-not-instance s s (valid s ok) (valid s ok) n)
+  by-name instance Srv g n d = or-right (set .txt) (set .srv || false) (or-left (set .srv) false g)
+  by-name instance Txt g n d = or-left (set .txt) (set .srv || false) g
+  by-name instance A g n d = absurd (host-not-instance s s (valid s ok) (valid s ok) n)
+  by-name instance Aaaa g n d = absurd (host-not-instance s s (valid s ok) (valid s ok) n)
+  by-name instance InstanceNsec g n d = never d
+  by-name instance HostNsec g n d = never d
+  by-name host Ptr g n d = absurd (service-not-host s s (valid s ok) (valid s ok) n)
+  by-name host Srv g n d = absurd (instance-not-host s s (valid s ok) (valid s ok) n)
+  by-name host Txt g n d = absurd (instance-not-host s s (valid s ok) (valid s ok) n)
+  by-name host A g n d = or-left (set .a) (set .aaaa || false) g
+  by-name host Aaaa g n d = or-right (set .a) (set .aaaa || false) (or-left (set .aaaa) false g)
+  by-name host InstanceNsec g n d = never d
+  by-name host HostNsec g n d = never d
 
   answers-only : (r : Record) → Among r (allRecords (responseOf s set)) → Among r (map (ownRecord s responseStyle) (responseRecords s set))
   unfolding responseOf
@@ -112,12 +118,15 @@ module _ (s : Setup) (ok : validSetup s ≡ true) (set : Set) where
   pub name-said : (k : Claim) → responds (responseOf s set) (name s k) ≡ true → sets.under (ownClaim k) set ≡ true
   unfolding responds responseRecords ownRecord
   name-said k h =
-      let found = some-out (under (name s k)) (allRecords (responseOf s set))
-      (and-right (isResponse (responseOf s set .flags)) (someOf (under (name s k)) (allRecords (responseOf s set))) h) in
+      let found = some-out (dataUnder (name s k)) (allRecords (responseOf s set))
+      (and-right (isResponse (responseOf s set .flags)) (someOf (dataUnder (name s k)) (allRecords (responseOf s set))) h) in
       let made = out-map (ownRecord s responseStyle) (found .0) (responseRecords s set) (answers-only (found .0) (found .1)) in
       let taken = out-picked (λ (o : Own). has o set && hasRecord s o) (made .0) all (made .1) in
+      let its : dataUnder (name s k) (ownRecord s responseStyle (made .0)) ≡ true =
+      subst (λ (r : Record). dataUnder (name s k) r ≡ true) (made .2) (found .2) in
       by-name k (made .0) (and-left (has (made .0) set) (hasRecord s (made .0)) (taken .1))
-      (subst (λ (r : Record). sameName (r .owner) (name s k) ≡ true) (made .2) (found .2))
+      (and-left (sameName (ownName s (made .0)) (name s k)) (isData (ownType (made .0))) its)
+      (and-right (sameName (ownName s (made .0)) (name s k)) (isData (ownType (made .0))) its)
 
 -- ---- what is written reads back
 

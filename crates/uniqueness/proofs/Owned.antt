@@ -10,12 +10,12 @@ use lib.Dec.{eqb}
 use borrow.Author.Tests.{eqb-true}
 use Rattle.own.specs.declared.records.Setup.{Setup}
 use Rattle.own.specs.records.Records.{hasRecord, ownLabels, ownName, ownRdata}
-use Rattle.claims.specs.records.Own.{ownType, claimFor, claimed, present, goesAtOnce}
+use Rattle.claims.specs.records.Own.{ownType, claimFor, claimed, present, carriesData, goesAtOnce}
 use Rattle.claims.specs.declared.records.Own.{Own}
 use Rattle.claims.specs.declared.records.Own.the-variants.{Srv, Txt, A, Aaaa}
 use Rattle.link.specs.Responder.{Claim, instance, host}
 use Rattle.link.specs.Premises.{Among}
-use Rattle.uniqueness.specs.Responder.{ownClaim, ofType, claimRecord, dataOf, rdata, name}
+use Rattle.uniqueness.specs.Responder.{ownClaim, ofType, claimRecord, dataOf, rdata, name, isData}
 use Rattle.uniqueness.proofs.Lists.{clash}
 
 pub data Owned : Claim → ℕ → Own → Type 0 where
@@ -106,6 +106,19 @@ own-at-once k type r (srv e) = refl
 own-at-once k type r (txt e) = refl
 own-at-once k type r (a e) = refl
 own-at-once k type r (aaaa e) = refl
+
+-- it carries data, and is of a type that demand 3 speaks of
+pub own-carries : (k : Claim) (type : ℕ) (r : Own) → Owned k type r → carriesData r ≡ true
+own-carries k type r (srv e) = refl
+own-carries k type r (txt e) = refl
+own-carries k type r (a e) = refl
+own-carries k type r (aaaa e) = refl
+
+pub own-data : (k : Claim) (type : ℕ) (r : Own) → Owned k type r → isData (ownType r) ≡ true
+own-data k type r (srv e) = refl
+own-data k type r (txt e) = refl
+own-data k type r (a e) = refl
+own-data k type r (aaaa e) = refl
 
 pub is-present : (s : Setup) (r : Own) → hasRecord s r ≡ present r (s .hasaaaa)
 unfolding hasRecord

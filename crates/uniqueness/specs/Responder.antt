@@ -1,12 +1,12 @@
 -- Our responder (the dock of the specification) as a `Responder` of `link`: its calls are what the contracts of start, receive and tick give outright, its
 -- names and data are the set-up's, and conflicting and later are the tests that receive itself makes. Assumes nothing: these are definitions.
-use mathlib.Core.Bool.{Bool, cond, _&&_}
+use mathlib.Core.Bool.{Bool, cond, _&&_, _||_}
 use mathlib.Core.Option.{Option, none, some}
 use mathlib.Core.List.{List, [], _∷_, _++_, map}
 use Prim.Native.Nat.{ℕ}
 use lib.Dec.{eqb}
 use Rattle.wire.specs.case_folding.Fold.{sameName}
-use Rattle.wire.specs.message.Message.{Message, isResponse, allRecords}
+use Rattle.wire.specs.message.Message.{Record, Message, isResponse, allRecords}
 use Rattle.wire.specs.message.Layout.{Reads, read, refused, messageAt}
 use Rattle.own.specs.declared.records.Setup.{Setup}
 use Rattle.own.specs.records.Records.{hasRecord, ownRdata}
@@ -118,9 +118,16 @@ messageOf (refused n) = none
 abbrev pub readAs : List ℕ → Option Message
 readAs p = messageOf (messageAt p)
 
+-- "demand 3 and L13 speak only of SRV, TXT, A and AAAA" (33, 16, 1, 28)
+abbrev pub isData : ℕ → Bool
+isData type = eqb type 33 || (eqb type 16 || (eqb type 1 || eqb type 28))
+
+abbrev pub dataUnder : List ℕ → Record → Bool
+dataUnder n r = under n r && isData (r .rtype)
+
 -- "a response with a record under it", of any section
 unfoldable pub responds : Message → List ℕ → Bool
-responds m n = isResponse (m .flags) && someOf (under n) (allRecords m)
+responds m n = isResponse (m .flags) && someOf (dataUnder n) (allRecords m)
 
 -- "A response record of any section conflicts when name, class 1 and type are the claim's, TTL is not 0 and rdata differs."
 unfoldable pub conflicts : Message → Setup → Claim → Bool

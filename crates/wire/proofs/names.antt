@@ -1,4 +1,4 @@
--- Laws that belong to no one function. For callers: Rest (a name piece by piece), Use, Extend, Plain.
+-- Laws that belong to no one function. For callers: Rest (a name piece by piece), Use, Extend, Plain, InPlace.
 pub mod Rest
 mod Walked
 pub mod Compare
@@ -6,3 +6,4 @@ pub mod Whole
 pub mod Use
 pub mod Extend
 pub mod Plain
+pub mod InPlace

@@ -1,3 +1,4 @@
 pub mod Rdata
 pub mod Readers
 pub mod Answers
+pub mod Restricted

@@ -1,8 +1,8 @@
-// Rdata with the names in PTR and SRV expanded, and its equality (specification, 'Reading a message'): "Rdata is equal when the bytes are, after names
+// Rdata with the name in PTR, SRV and NSEC expanded, and its equality (specification, 'Reading a message'): "Rdata is equal when the bytes are, after names
 // in PTR and SRV are expanded into a buffer of 255 zeros; case counts there."
 ghost use mathlib.Core.Path.{_≡_};
 ghost use denote.Ref.{ptr};
-ghost use Prim.Native.Nat.{_+_, _≤_};
+ghost use Prim.Native.Nat.{_+_, _-_, _≤_};
 ghost use lib.ListN.{length, take, drop};
 ghost use Rattle.wire.specs.names.Names.{nameAt};
 ghost use Rattle.wire.specs.rdata.Rdata.{rdataAt};
@@ -10,10 +10,10 @@ ghost use Rattle.wire.specs.expansion.Equal.{sameBytes, rdataIs};
 ghost use Rattle.wire.specs.expansion.Opened.{openedName, openedAt, viewOf, viewStart};
 use crate::message::RecordAt;
 
-// Rdata with its name expanded: 6 bytes and a name of 255 at the most, zeros after them.
+// Rdata with its name expanded: a name of 255 bytes at the most and 34 others (6 before it in an SRV, a window block behind it in an NSEC), zeros after them.
 pub struct Opened {
     pub len: usize,
-    pub bytes: [u8; 261],
+    pub bytes: [u8; 289],
 }
 
 // Whether two lists of bytes are the same.
@@ -33,29 +33,33 @@ pub fn same_bytes(a: &[u8], b: &[u8]) -> bool
     true
 }
 
-// Rdata at `at` that is `head` bytes and a name, the name expanded.
-fn open_name(p: &[u8], at: usize, head: usize) -> Opened
-    requires { ⌜ (head ≤ 6) × (at + head ≤ length (now p)) ⌝ }
-    ensures { λ r. ⌜ r ≡ openedName (take head (drop at (now (p .entry)))) (nameAt (now (p .entry)) (at + head)) ⌝ }
+// Rdata of `len` bytes at `at` that is a name between `before` and `behind` bytes, the name expanded.
+fn open_name(p: &[u8], at: usize, len: usize, before: usize, behind: usize) -> Opened
+    requires { ⌜ (before + behind ≤ 34) × (before + behind ≤ len) × (at + len ≤ length (now p)) ⌝ }
+    ensures { λ r. ⌜ r ≡ openedName (take before (drop at (now (p .entry)))) (take behind (drop (at + (len - behind)) (now (p .entry))))
+        (nameAt (now (p .entry)) (at + before)) ⌝ }
 {
-    let from = at + head;
+    let from = at + before;
+    let to = at + (len - behind);
+    let end = to + behind;
     let e = crate::names::expand(p, from);
     let name = e.name;
     let b = e.bytes;
-    let mut out = [0u8; 261];
+    let mut out = [0u8; 289];
     match name {
         crate::names::Name::Found(span) => {
-            let len = span.len;
+            let n = span.len;
             crate::buffer::put(&mut out, 0, &p[at..from]);
-            crate::buffer::put(&mut out, head, &b[..len]);
+            crate::buffer::put(&mut out, before, &b[..n]);
+            crate::buffer::put(&mut out, before + n, &p[to..end]);
             Opened {
-                len: head + len,
+                len: before + n + behind,
                 bytes: out,
             }
         }
         crate::names::Name::Malformed => Opened {
             len: 0,
-            bytes: [0u8; 261],
+            bytes: [0u8; 289],
         },
     }
 }
@@ -67,16 +71,16 @@ pub fn open(p: &[u8], f: RecordAt) -> Opened
     if !crate::rdata::rdata_fits(p, f) {
         return Opened {
             len: 0,
-            bytes: [0u8; 261],
+            bytes: [0u8; 289],
         };
     }
-    let held = crate::rdata::form_of(f.rtype);
+    let held = crate::rdata::form_at(p, f);
     if held.named {
-        return open_name(p, f.rdata, held.before);
+        return open_name(p, f.rdata, f.rdlength, held.before, held.behind);
     }
     Opened {
         len: 0,
-        bytes: [0u8; 261],
+        bytes: [0u8; 289],
     }
 }
 
@@ -85,7 +89,7 @@ pub fn view<'a>(p: &'a [u8], opened: &'a [u8], n: usize, f: RecordAt) -> &'a [u8
     ensures bytes { λ r. ⌜ now r ≡ viewOf (now (p .entry)) (now (opened .entry)) n f ⌝ }
     ensures start { λ r. ⌜ ptr r ≡ viewStart (now (p .entry)) (ptr (p .entry)) (now (opened .entry)) (ptr (opened .entry)) f ⌝ }
 {
-    let held = crate::rdata::form_of(f.rtype);
+    let held = crate::rdata::form_at(p, f);
     if held.named {
         return crate::rdata::part(opened, 0, n);
     }

@@ -6,6 +6,7 @@ pub mod labels;
 pub mod message;
 pub mod name_pieces;
 pub mod names;
+pub mod nsec;
 pub mod octets;
 pub mod rdata;
 pub mod refusals;

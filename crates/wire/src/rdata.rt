@@ -4,14 +4,15 @@ ghost use mathlib.Core.Path.{_≡_};
 ghost use denote.Ref.{ptr};
 ghost use Prim.Native.Nat.{_+_, _≤_};
 ghost use lib.ListN.{length, take, drop};
-ghost use Rattle.wire.specs.rdata.Rdata.{stringsFill, formOf, rdataIn, rdataAt};
+ghost use Rattle.wire.specs.names.Names.{nameAt};
+ghost use Rattle.wire.specs.rdata.Rdata.{stringsFill, formOf, nextForm, formIn, formAt, rdataIn, rdataAt};
 ghost use Rattle.wire.specs.rdata.Readers.{addressBytes, addressIn, stringAt, nameIn, srvIn};
 ghost use Rattle.wire.specs.rdata.Answers.{fits, startIn};
 use crate::message::RecordAt;
 use crate::names::Name;
 use crate::names::Span;
 
-// The five types (RFC 1035, RFC 2782, RFC 3596).
+// The six types (RFC 1035, RFC 2782, RFC 3596, RFC 4034).
 pub const A: u16 = 1;
 
 pub const PTR: u16 = 12;
@@ -22,10 +23,13 @@ pub const AAAA: u16 = 28;
 
 pub const SRV: u16 = 33;
 
-// The form of rdata: whether it holds a name, and how many bytes stand before it. Behind the name there is none.
+pub const NSEC: u16 = 47;
+
+// The form of rdata: whether it holds a name, and how many bytes stand before it and behind it.
 pub struct Form {
     pub named: bool,
     pub before: usize,
+    pub behind: usize,
 }
 
 // A string of a TXT as it lies: where its text starts, how long that is, and where the next string starts.
@@ -119,9 +123,9 @@ pub fn strings_fill(d: &[u8]) -> bool
     }
 }
 
-// The name behind `before` bytes of `d`, the part of `p` that starts at `at`, if it ends exactly where the part does.
-pub fn name_in(p: &[u8], at: usize, d: &[u8], before: usize) -> Name
-    ensures { λ r. ⌜ r ≡ nameIn (now (p .entry)) at (now (d .entry)) before ⌝ }
+// The name between the first `before` and the last `behind` bytes of `d`, the part of `p` that starts at `at`, if it ends exactly there.
+pub fn name_in(p: &[u8], at: usize, d: &[u8], before: usize, behind: usize) -> Name
+    ensures { λ r. ⌜ r ≡ nameIn (now (p .entry)) at (now (d .entry)) before behind ⌝ }
 {
     if p.len() < at {
         return Name::Malformed;
@@ -129,12 +133,15 @@ pub fn name_in(p: &[u8], at: usize, d: &[u8], before: usize) -> Name
     if p.len() - at < d.len() {
         return Name::Malformed;
     }
-    if d.len() < before {
+    if d.len() < behind {
+        return Name::Malformed;
+    }
+    if d.len() - behind < before {
         return Name::Malformed;
     }
     match crate::names::name_at(p, at + before) {
         Name::Found(span) => {
-            if span.end == at + d.len() {
+            if span.end == at + (d.len() - behind) {
                 return Name::Found(span);
             }
             Name::Malformed
@@ -147,7 +154,7 @@ pub fn name_in(p: &[u8], at: usize, d: &[u8], before: usize) -> Name
 pub fn srv_in(p: &[u8], at: usize, d: &[u8]) -> SrvRead
     ensures { λ r. ⌜ r ≡ srvIn (now (p .entry)) at (now (d .entry)) ⌝ }
 {
-    match name_in(p, at, d, 6) {
+    match name_in(p, at, d, 6, 0) {
         Name::Found(span) => SrvRead::Found(SrvAt {
             priority: crate::octets::be16(d, 0),
             weight: crate::octets::be16(d, 2),
@@ -159,7 +166,7 @@ pub fn srv_in(p: &[u8], at: usize, d: &[u8]) -> SrvRead
     }
 }
 
-// The form of a type's rdata.
+// The form of rdata by its type alone: that of PTR and SRV holds a name.
 pub fn form_of(rtype: u16) -> Form
     ensures { λ r. ⌜ r ≡ formOf rtype ⌝ }
 {
@@ -167,22 +174,73 @@ pub fn form_of(rtype: u16) -> Form
         return Form {
             named: true,
             before: 0,
+            behind: 0,
         };
     }
     if rtype == SRV {
         return Form {
             named: true,
             before: 6,
+            behind: 0,
         };
     }
     Form {
         named: false,
         before: 0,
+        behind: 0,
     }
 }
 
+// The form of an NSEC's rdata in `d`, the part of `p` that starts at `at`: of the restricted kind it is a name that equals the owner's, which stands at
+// `owner`, and a window block.
+pub fn next_form(p: &[u8], owner: usize, at: usize, d: &[u8]) -> Form
+    ensures { λ r. ⌜ r ≡ nextForm (now (p .entry)) owner at (now (d .entry)) (nameAt (now (p .entry)) at) ⌝ }
+{
+    let e = crate::names::expand(p, at);
+    let name = e.name;
+    let b = e.bytes;
+    match name {
+        Name::Found(span) => {
+            let len = span.len;
+            if !crate::names::name_is(p, owner, &b[..len]) {
+                return form_of(NSEC);
+            }
+            let own = span.end - at;
+            if d.len() < own {
+                return form_of(NSEC);
+            }
+            if !crate::nsec::is_block(&d[own..]) {
+                return form_of(NSEC);
+            }
+            Form {
+                named: true,
+                before: 0,
+                behind: d.len() - own,
+            }
+        }
+        Name::Malformed => form_of(NSEC),
+    }
+}
+
+// The form of a record's rdata in `d`, the part of `p` where it lies.
+pub fn form_in(p: &[u8], f: RecordAt, d: &[u8]) -> Form
+    ensures { λ r. ⌜ r ≡ formIn (now (p .entry)) f (now (d .entry)) ⌝ }
+{
+    if f.rtype == NSEC {
+        return next_form(p, f.owner, f.rdata, d);
+    }
+    form_of(f.rtype)
+}
+
+// The form of a record's rdata as it lies.
+pub fn form_at(p: &[u8], f: RecordAt) -> Form
+    ensures { λ r. ⌜ r ≡ formAt (now (p .entry)) f ⌝ }
+{
+    form_in(p, f, part(p, f.rdata, f.rdlength))
+}
+
 // Whether `d`, the part of `p` that is a record's rdata, is as its type asks: A 4 bytes, PTR one name, TXT strings, AAAA 16 bytes, SRV 6 bytes and one
-// name; of other types nothing is asked.
+// name; of an NSEC and of other types nothing is asked.
 fn part_fits(p: &[u8], d: &[u8], f: RecordAt) -> bool
     requires { ⌜ f .rdata + length (now d) ≤ length (now p) ⌝ }
     ensures { λ r. ⌜ r ≡ fits (rdataIn (now (p .entry)) f (now (d .entry))) ⌝ }
@@ -202,11 +260,11 @@ fn part_fits(p: &[u8], d: &[u8], f: RecordAt) -> bool
             SrvRead::Malformed => false,
         };
     }
-    let held = form_of(f.rtype);
+    let held = form_in(p, f, d);
     if !held.named {
         return true;
     }
-    match name_in(p, f.rdata, d, held.before) {
+    match name_in(p, f.rdata, d, held.before, held.behind) {
         Name::Found(_) => true,
         Name::Malformed => false,
     }

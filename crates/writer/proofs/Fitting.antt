@@ -5,12 +5,20 @@ use mathlib.Core.Bool.{Bool, true, false, cond, _&&_, and-false, and-true}
 use Prim.Native.Nat.{ℕ, _+_, _-_, _<_, _≤_}
 use native.Mathlib.Omega.{arith}
 use borrow.Author.Tests.{le-leb, lt-leb, leb-true, leb-false, lt-ltb, ltb-true, eq-eqb, ne-eqb}
-use lib.ListN.{length, take, drop, length-drop, drop-of-length-le}
-use lib.Seq.{take-all}
+use lib.ListN.{length, take, drop, length-append}
+use lib.Seq.{take-at, drop-at}
 use lib.Dec.{leb, ltb, eqb}
 use mathlib.Mathlib.Data.Bool.Basic.{and-eq-true-eq-eq-true-and-eq-true as both}
-use Rattle.wire.specs.names.Names.{isName}
-use Rattle.wire.specs.rdata.Rdata.{stringsFill, formOf}
+use Rattle.wire.specs.names.Names.{nameAt, isName}
+use Rattle.wire.specs.names.Answers.{foundOf}
+use Rattle.wire.specs.declared.names.Span.{Span}
+use Rattle.wire.specs.declared.names.Name.{Name}
+use Rattle.wire.specs.declared.names.Name.the-variants as nam
+use Rattle.wire.proofs.names.Use.{as-name, as-malformed}
+use Rattle.wire.specs.case_folding.Fold.{sameName}
+use Rattle.wire.proofs.case_folding.Equal.{same-refl}
+use Rattle.wire.specs.nsec.Nsec.{isBlock, isNsec}
+use Rattle.wire.specs.rdata.Rdata.{stringsFill, plainForm, formOf}
 use Rattle.wire.specs.declared.rdata.Form.{Form}
 use Rattle.wire.specs.labels.Counted.{labelsIn, starts}
 use Rattle.writer.specs.declared.Spot.{Spot}
@@ -19,7 +27,7 @@ use Rattle.writer.specs.declared.Placed.{Placed}
 use Rattle.writer.specs.declared.Placed.the-variants.{Done, Full, Unfit}
 use Rattle.writer.specs.Items.{Writing}
 use Rattle.writer.specs.Writer.{spotOf, labelsFor, nameFits, recordFits, Placing, Grown}
-use Rattle.writer.specs.Fit.{isShaped, fitRecord}
+use Rattle.writer.specs.Fit.{formFor, heldName, holdsName, isFound, isShaped, fitRecord}
 
 -- a test with a sum moved to the other side
 moved : (x c s : ℕ) → c ≤ s → leb x (s - c) ≡ leb (c + x) s
@@ -54,59 +62,97 @@ module _ (r : Room) (name : List ℕ) (more also : ℕ) where
       sym (simp (le-leb _ _ h, le-leb _ _ k)
       (ap (λ (m : ℕ). leb (r .count + m + also) (r .slots)) (sym e) ∙ sym (moved also (r .count + n) (r .slots) l) ∙ ap (leb also) (sym d)))
 
--- rdata as its type asks: by its form where it holds a name, else by its type
-module _ (rtype : ℕ) (d : List ℕ) (g : Form) (same : g ≡ formOf rtype) where
-  form-named : g .named ≡ formOf rtype .named
-  form-named = ap (λ (y : Form). y .named) same
+-- the form of rdata for an owner
+module _ (owner : List ℕ) (rtype : ℕ) (d : List ℕ) where
+  abbrev byKind : Bool → Form
+  byKind b = cond b (record { named = true; before = 0; behind = length d - length owner }) plainForm
 
-  form-before : g .before ≡ formOf rtype .before
-  form-before = ap (λ (y : Form). y .before) same
+  pub form-typed : (rtype ≡ 47 → ⊥) → (g : Form) → g ≡ formOf rtype → g ≡ formFor owner rtype d
+  unfolding formFor
+  form-typed n g is = is ∙ sym (ap (λ (b : Bool). cond b (byKind (isNsec owner d)) (formOf rtype)) (ne-eqb _ _ n))
+
+  module _ (type : rtype ≡ 47) (v : Bool) (is : v ≡ isNsec owner d) where
+    kind : formFor owner rtype d ≡ byKind v
+    unfolding formFor
+    kind = ap (λ (b : Bool). cond b (byKind (isNsec owner d)) (formOf rtype)) (eq-eqb _ _ type) ∙ ap byKind (sym is)
+
+    pub form-other : v ≡ false → (g : Form) → g ≡ formOf 47 → g ≡ formFor owner rtype d
+    form-other e g same = same ∙ sym (kind ∙ ap byKind e)
+
+    pub form-nsec : v ≡ true → _≡_ {A = Form} (record { named = true; before = 0; behind = length d - length owner }) (formFor owner rtype d)
+    form-nsec e = sym (kind ∙ ap byKind e)
+
+-- the bytes before and behind a name in so many bytes, one test after the other
+module _ (g : Form) (n : ℕ) where
+  pub few-behind : n < g .behind → n < g .before + g .behind
+  few-behind h = omega arith
+
+  pub few-before : n - g .behind < g .before → n < g .before + g .behind
+  few-before h = omega arith
+
+  pub enough : g .behind ≤ n → g .before ≤ n - g .behind → g .before + g .behind ≤ n
+  enough h k = omega arith
+
+-- rdata as its type asks: by its form where it holds a name, else by its type
+module _ (owner : List ℕ) (rtype : ℕ) (d : List ℕ) (g : Form) (same : g ≡ formFor owner rtype d) where
+  abbrev plainly : Bool
+  plainly =
+      cond (eqb rtype 1) (eqb (length d) 4)
+      (cond (eqb rtype 16) (stringsFill 0 d) (cond (eqb rtype 28) (eqb (length d) 16) (cond (eqb rtype 47) (isFound (nameAt d 0)) true)))
+
+  shaped-so : isShaped owner rtype d ≡ cond (g .named) (holdsName g d) plainly
+  unfolding isShaped
+  shaped-so = sym (ap (λ (y : Form). cond (y .named) (holdsName y d) plainly) same)
 
   module _ (t : g .named ≡ true) where
-    pub too-short : length d < g .before → false ≡ isShaped rtype d
-    unfolding isShaped
-    too-short h =
-        let k : length d < formOf rtype .before = omega (arith, form-before) in
-        sym (simp (sym form-named ∙ t, lt-leb (formOf rtype .before) (length d) k))
+    held-so : isShaped owner rtype d ≡ holdsName g d
+    held-so = shaped-so ∙ ap (λ (b : Bool). cond b (holdsName g d) plainly) t
 
-    pub by-name : g .before ≤ length d → (w : Bool) → w ≡ isName (take (length d - g .before) (drop (g .before) d)) → w ≡ isShaped rtype d
-    unfolding isShaped
-    by-name h w e =
-        let k : formOf rtype .before ≤ length d = omega (arith, form-before) in
-        let rest : take (length d - g .before) (drop (g .before) d) ≡ drop (formOf rtype .before) d =
-        take-all (length d - g .before) (drop (g .before) d) (omega (arith, length-drop (g .before) d)) ∙ ap (λ (n : ℕ). drop n d) form-before in
-        sym (simp (sym form-named ∙ t, le-leb (formOf rtype .before) (length d) k) (sym (e ∙ ap isName rest)))
+    pub too-short : length d < g .before + g .behind → false ≡ isShaped owner rtype d
+    too-short h = sym (held-so ∙ simp (lt-leb _ _ h))
+
+    pub by-name : g .before + g .behind ≤ length d → (w : Bool) → w ≡ isName (heldName g d) → w ≡ isShaped owner rtype d
+    by-name h w e = sym (held-so ∙ simp (le-leb _ _ h) (sym e))
 
   module _ (t : g .named ≡ false) where
-    pub by-four : rtype ≡ 1 → eqb (length d) 4 ≡ isShaped rtype d
-    unfolding isShaped
-    by-four e = sym (simp (sym form-named ∙ t, eq-eqb _ _ e))
+    plain-so : isShaped owner rtype d ≡ plainly
+    plain-so = shaped-so ∙ ap (λ (b : Bool). cond b (holdsName g d) plainly) t
+
+    pub by-four : rtype ≡ 1 → eqb (length d) 4 ≡ isShaped owner rtype d
+    by-four e = sym (plain-so ∙ simp (eq-eqb _ _ e))
 
     module _ (a : rtype ≡ 1 → ⊥) where
-      pub by-strings : rtype ≡ 16 → (w : Bool) → w ≡ stringsFill 0 d → w ≡ isShaped rtype d
-      unfolding isShaped
-      by-strings e w is = sym (simp (sym form-named ∙ t, ne-eqb _ _ a, eq-eqb _ _ e) (sym is))
+      pub by-strings : rtype ≡ 16 → (w : Bool) → w ≡ stringsFill 0 d → w ≡ isShaped owner rtype d
+      by-strings e w is = sym (plain-so ∙ simp (ne-eqb _ _ a, eq-eqb _ _ e) (sym is))
 
       module _ (b : rtype ≡ 16 → ⊥) where
-        pub by-sixteen : rtype ≡ 28 → eqb (length d) 16 ≡ isShaped rtype d
-        unfolding isShaped
-        by-sixteen e = sym (simp (sym form-named ∙ t, ne-eqb _ _ a, ne-eqb _ _ b, eq-eqb _ _ e))
+        pub by-sixteen : rtype ≡ 28 → eqb (length d) 16 ≡ isShaped owner rtype d
+        by-sixteen e = sym (plain-so ∙ simp (ne-eqb _ _ a, ne-eqb _ _ b, eq-eqb _ _ e))
 
-        pub by-other : (rtype ≡ 28 → ⊥) → true ≡ isShaped rtype d
-        unfolding isShaped
-        by-other e = sym (simp (sym form-named ∙ t, ne-eqb _ _ a, ne-eqb _ _ b, ne-eqb _ _ e))
+        module _ (c : rtype ≡ 28 → ⊥) where
+          next-so : rtype ≡ 47 → isShaped owner rtype d ≡ isFound (nameAt d 0)
+          next-so e = plain-so ∙ simp (ne-eqb _ _ a, ne-eqb _ _ b, ne-eqb _ _ c, eq-eqb _ _ e)
+
+          pub by-front : rtype ≡ 47 → (r : Name) → r ≡ foundOf (nameAt d 0) → (s : Span) → r ≡ nam.Found s → true ≡ isShaped owner rtype d
+          by-front e r is s k = sym (next-so e ∙ ap isFound (as-name (nameAt d 0) r s is k .1))
+
+          pub no-front : rtype ≡ 47 → (r : Name) → r ≡ foundOf (nameAt d 0) → r ≡ nam.Malformed → false ≡ isShaped owner rtype d
+          no-front e r is k = sym (next-so e ∙ ap isFound (as-malformed (nameAt d 0) r is k))
+
+          pub by-other : (rtype ≡ 47 → ⊥) → true ≡ isShaped owner rtype d
+          by-other e = sym (plain-so ∙ simp (ne-eqb _ _ a, ne-eqb _ _ b, ne-eqb _ _ c, ne-eqb _ _ e))
 
 -- a record that is fit, test by test
 module _ (owner : List ℕ) (rtype ttl : ℕ) (d : List ℕ) where
-  pub fit-parts : fitRecord owner rtype ttl d ≡ true → (isName owner ≡ true) × (isShaped rtype d ≡ true) × (length d ≤ 65535) × (ttl < 2147483648)
+  pub fit-parts : fitRecord owner rtype ttl d ≡ true → (isName owner ≡ true) × (isShaped owner rtype d ≡ true) × (length d ≤ 65535) × (ttl < 2147483648)
   unfolding fitRecord
   fit-parts h =
-      let f = both (isName owner) (isShaped rtype d && (leb (length d) 65535 && ltb ttl 2147483648)) .0 h in
-      let g = both (isShaped rtype d) (leb (length d) 65535 && ltb ttl 2147483648) .0 (f .1) in
+      let f = both (isName owner) (isShaped owner rtype d && (leb (length d) 65535 && ltb ttl 2147483648)) .0 h in
+      let g = both (isShaped owner rtype d) (leb (length d) 65535 && ltb ttl 2147483648) .0 (f .1) in
       let k = both (leb (length d) 65535) (ltb ttl 2147483648) .0 (g .1) in
       (f .0, g .0, leb-true _ _ (k .0), ltb-true _ _ (k .1))
 
-  pub fit-of : isName owner ≡ true → isShaped rtype d ≡ true → length d ≤ 65535 → ttl < 2147483648 → fitRecord owner rtype ttl d ≡ true
+  pub fit-of : isName owner ≡ true → isShaped owner rtype d ≡ true → length d ≤ 65535 → ttl < 2147483648 → fitRecord owner rtype ttl d ≡ true
   unfolding fitRecord
   fit-of a b l t = simp (a, b, le-leb _ _ l, lt-ltb _ _ t)
 
@@ -115,7 +161,7 @@ module _ (owner : List ℕ) (rtype ttl : ℕ) (d : List ℕ) where
     unfolding fitRecord
     unnamed t = sym (simp (sym eu ∙ t))
 
-    module _ (tu : u ≡ true) (v : Bool) (ev : v ≡ isShaped rtype d) where
+    module _ (tu : u ≡ true) (v : Bool) (ev : v ≡ isShaped owner rtype d) where
       pub misshaped : v ≡ false → false ≡ fitRecord owner rtype ttl d
       unfolding fitRecord
       misshaped t = sym (simp (sym eu ∙ tu, sym ev ∙ t))
@@ -130,37 +176,60 @@ module _ (owner : List ℕ) (rtype ttl : ℕ) (d : List ℕ) where
         by-ttl h = sym (simp (sym eu ∙ tu, sym ev ∙ tv, le-leb _ _ h))
 
 -- the labels of the name in rdata
-module _ (rtype : ℕ) (d : List ℕ) (g : Form) (same : g ≡ formOf rtype) where
-  is : g .named ≡ formOf rtype .named
-  is = ap (λ (y : Form). y .named) same
-
-  abbrev n : ℕ
-  n = g .before
-
-  hd : n ≡ formOf rtype .before
-  hd = ap (λ (y : Form). y .before) same
-
-  pub no-labels : g .named ≡ false → 0 ≡ labelsFor rtype d
+module _ (g : Form) (d : List ℕ) where
+  pub no-labels : g .named ≡ false → 0 ≡ labelsFor g d
   unfolding labelsFor
-  no-labels t = sym (simp (sym is ∙ t))
+  no-labels t = sym (simp t)
 
   module _ (t : g .named ≡ true) where
-    rest : take (length d - n) (drop n d) ≡ drop (formOf rtype .before) d
-    rest = take-all (length d - n) (drop n d) (omega (arith, length-drop n d)) ∙ ap (λ (k : ℕ). drop k d) hd
-
-    pub none-there : length d < n → 0 ≡ labelsFor rtype d
+    pub none-there : length d < g .before + g .behind → 0 ≡ labelsFor g d
     unfolding labelsFor starts
-    none-there h = let k : length d ≤ formOf rtype .before = omega (arith, hd) in sym (simp (sym is ∙ t, drop-of-length-le d k))
+    none-there h =
+        let z : length d - g .behind - g .before ≡ 0 = omega arith in
+        sym (simp t (ap (λ (k : ℕ). labelsIn (take k (drop (g .before) d))) z))
 
-    pub by-labels : (m : ℕ) → m ≡ labelsIn (take (length d - n) (drop n d)) → m ≡ labelsFor rtype d
+    pub by-labels : (m : ℕ) → m ≡ labelsIn (heldName g d) → m ≡ labelsFor g d
     unfolding labelsFor
-    by-labels m e = sym (simp (sym is ∙ t) (sym (e ∙ ap labelsIn rest)))
+    by-labels m e = sym (simp t (sym e))
 
 -- a record: its owner with the rest behind it
-pub by-owner : (room : Room) (owner : List ℕ) (rtype : ℕ) (d : List ℕ) (n : ℕ) → n ≡ labelsFor rtype d
+pub by-owner : (room : Room) (owner : List ℕ) (rtype : ℕ) (d : List ℕ) (g : Form) → g ≡ formFor owner rtype d → (n : ℕ) → n ≡ labelsFor g d
     → (w : Bool) → w ≡ nameFits room owner (10 + length d) n → w ≡ recordFits room owner rtype d
 unfolding recordFits
-by-owner room owner rtype d n e w k = k ∙ ap (nameFits room owner (10 + length d)) e
+by-owner room owner rtype d g is n e w k = k ∙ ap (nameFits room owner (10 + length d)) (e ∙ ap (λ (y : Form). labelsFor y d) is)
+
+-- rdata that is the owner's name again and a window block
+module _ (owner block : List ℕ) (ok : isName owner ≡ true) (b : isBlock block ≡ true) where
+  abbrev again : Form
+  again = record { named = true; before = 0; behind = length block }
+
+  restricted : isNsec owner (owner ++ block) ≡ true
+  unfolding isNsec
+  restricted =
+      simp
+      (ap (sameName owner) (take-at owner block (length owner) refl) ∙ same-refl owner, ap isBlock (drop-at owner block (length owner) refl) ∙ b)
+
+  again-form : again ≡ formFor owner 47 (owner ++ block)
+  again-form =
+      let n : length block ≡ length (owner ++ block) - length owner = omega (arith, length-append owner block) in
+      let e : again ≡ record { named = true; before = 0; behind = length (owner ++ block) - length owner } =
+      ap (λ (k : ℕ). record { named = true; before = 0; behind = k }) n in
+      e ∙ form-nsec owner 47 (owner ++ block) refl true (sym restricted) refl
+
+  again-name : heldName again (owner ++ block) ≡ owner
+  again-name =
+      let n : length owner ≡ length (owner ++ block) - length block - 0 = omega (arith, length-append owner block) in
+      take-at owner block (length (owner ++ block) - length block - 0) n
+
+  pub again-shaped : isShaped owner 47 (owner ++ block) ≡ true
+  again-shaped =
+      let room : 0 + length block ≤ length (owner ++ block) = omega (arith, length-append owner block) in
+      sym (by-name owner 47 (owner ++ block) again again-form refl room true (sym (ap isName again-name ∙ ok)))
+
+  pub again-labels : labelsFor (formFor owner 47 (owner ++ block)) (owner ++ block) ≡ labelsIn owner
+  again-labels =
+      ap (λ (g : Form). labelsFor g (owner ++ block)) (sym again-form)
+      ∙ sym (by-labels again (owner ++ block) refl (labelsIn owner) (ap labelsIn (sym again-name)))
 
 -- the three answers
 module _ (fit fits : Bool) (w : Writing) (o pl : List ℕ) (a : Bool) (ia : a ≡ fit) where

@@ -17,12 +17,13 @@ use Rattle.writer.proofs.compression.Written.{name-short, places-few}
 use Rattle.writer.specs.declared.Spot.{Spot}
 use Rattle.writer.specs.Items.{u16, fields, dataBytes, dataPlaces, searched, triedFor, putName, putFields, putRecord, putQuestion}
 use Rattle.wire.specs.message.Message.{recordOf}
-use Rattle.writer.specs.Fit.{isShaped}
+use Rattle.wire.specs.declared.rdata.Form.{Form}
+use Rattle.writer.specs.Fit.{formFor, holdsName, isShaped}
 use Rattle.writer.specs.Writer.{heldIn, spotOf, roomIn, questionOf, labelsFor, nameFits, recordFits, Wrote, Grown}
 use Rattle.writer.specs.Writer.{NameReady, DataReady, QuestionReady, RecordReady}
 use Rattle.writer.proofs.Fitting.{fit-parts}
 use Rattle.writer.proofs.Runs.{sets-swap, take-run, run-rest}
-use Rattle.writer.proofs.Rdata.{data-short, data-few}
+use Rattle.writer.proofs.Rdata.{shaped-holds, data-short, data-few}
 
 -- five runs of two bytes
 pub five : (o : List ℕ) (at a b c d e : ℕ) (o₁ o₂ o₃ o₄ o₅ : List ℕ) → o₁ ≡ sets o at (u16 a) → o₂ ≡ sets o₁ (at + 2) (u16 b) → o₃ ≡ sets o₂ (at + 4) (u16 c) →
@@ -163,16 +164,24 @@ module _ (at count : ℕ) (name : List ℕ) (more also : ℕ) (o pl : List ℕ) 
           same-spots = ap (λ (x : List ℕ). os ++ x) (sym moved)
 
     -- a record: ten bytes and the rdata
-    module _ (rtype : ℕ) (d : List ℕ) (fits : isShaped rtype d ≡ true) (short : length d ≤ 65535) (em : more ≡ 10 + length d)
-        (ea : also ≡ labelsFor rtype d) (whole : Bool) (t : ℕ) (et : t ≡ triedFor whole rtype (a .count)) where
-      pub data-ready : DataReady (a .end) (a .end + 10) (a .count) t rtype d o₁ pl₁
+    module _ (rtype : ℕ) (d : List ℕ) (fits : isShaped name rtype d ≡ true) (short : length d ≤ 65535) (em : more ≡ 10 + length d)
+        (ea : also ≡ labelsFor (formFor name rtype d) d) (whole : Bool) (t : ℕ) (et : t ≡ triedFor whole rtype (a .count))
+        (g : Form) (form-is : g ≡ formFor name rtype d) where
+      holds : g .named ≡ true → holdsName g d ≡ true
+      holds e =
+          ap (λ (y : Form). holdsName y d) form-is ∙ shaped-holds name rtype d fits (sym (ap (λ (y : Form). y .named) form-is) ∙ e)
+
+      few : also ≡ labelsFor g d
+      few = ea ∙ ap (λ (y : Form). labelsFor y d) (sym form-is)
+
+      pub data-ready : DataReady (a .end) (a .end + 10) (a .count) t g d o₁ pl₁
       data-ready = record {
-        shaped = fits;
+        shaped = holds;
         known-before = omega arith;
         known-small = omega (arith, nr .small, first-end);
         tried-noted = tried-few whole rtype (a .count) t et;
         room = omega (arith, first-room);
-        slots = omega (arith, nr .slots, first-count, first-places);
+        slots = omega (arith, nr .slots, first-count, first-places, few);
       }
 
       abbrev P : List ℕ
@@ -181,16 +190,16 @@ module _ (at count : ℕ) (name : List ℕ) (more also : ℕ) (o pl : List ℕ) 
       abbrev OS : List ℕ
       OS = take t pl₁
 
-      module _ (b : Spot) (o₂ pl₂ : List ℕ) (w₂ : Wrote (dataBytes P OS rtype d) (dataPlaces P OS (a .end + 10) rtype d) (a .end + 10) (a .count) o₁ pl₁ b o₂
+      module _ (b : Spot) (o₂ pl₂ : List ℕ) (w₂ : Wrote (dataBytes P OS g d) (dataPlaces P OS (a .end + 10) g d) (a .end + 10) (a .count) o₁ pl₁ b o₂
           pl₂) where
         pub second-low : a .end + 10 ≤ b .end
         second-low = omega (arith, w₂ .ended)
 
         pub data-fits : b .end - (a .end + 10) < 65536
-        data-fits = omega (arith, w₂ .ended, data-short rtype d fits P OS)
+        data-fits = omega (arith, w₂ .ended, data-short g d holds P OS)
 
         pub fields-room : a .end + 10 ≤ length o₂
-        fields-room = omega (arith, first-room, ap length (w₂ .bytes), length-sets o₁ (a .end + 10) (dataBytes P OS rtype d))
+        fields-room = omega (arith, first-room, ap length (w₂ .bytes), length-sets o₁ (a .end + 10) (dataBytes P OS g d))
 
         pub record-grown : (class ttl : ℕ) (o₃ : List ℕ) → o₃ ≡ sets o₂ (a .end) (fields rtype class ttl (b .end - (a .end + 10)))
             → Grown (putRecord whole (heldIn o pl at count) (recordOf name rtype class ttl d)) o pl b o₃ pl₂
@@ -234,16 +243,17 @@ module _ (at count : ℕ) (name : List ℕ) (more also : ℕ) (o pl : List ℕ) 
                 ∙ ap (searched whole rtype) (first-noted ∙ ap (λ (x : List ℕ). os ++ x) (sym moved))
 
             D : List ℕ
-            D = dataBytes p₁ os₂ rtype d
+            D = dataBytes p₁ os₂ (formFor name rtype d) d
 
-            same-data : dataBytes P OS rtype d ≡ D
-            same-data = ap₂ (λ (x y : List ℕ). dataBytes x y rtype d) first-held held
+            same-data : dataBytes P OS g d ≡ D
+            same-data = ap₂ (λ (x y : List ℕ). dataBytes x y g d) first-held held ∙ ap (λ (y : Form). dataBytes p₁ os₂ y d) form-is
 
             np₂ : List ℕ
-            np₂ = dataPlaces p₁ os₂ (a .end + 10) rtype d
+            np₂ = dataPlaces p₁ os₂ (a .end + 10) (formFor name rtype d) d
 
-            same-places : dataPlaces P OS (a .end + 10) rtype d ≡ np₂
-            same-places = ap₂ (λ (x y : List ℕ). dataPlaces x y (a .end + 10) rtype d) first-held held
+            same-places : dataPlaces P OS (a .end + 10) g d ≡ np₂
+            same-places =
+                ap₂ (λ (x y : List ℕ). dataPlaces x y (a .end + 10) g d) first-held held ∙ ap (λ (y : Form). dataPlaces p₁ os₂ (a .end + 10) y d) form-is
 
             F : List ℕ
             F = fields rtype class ttl (length D)
@@ -263,26 +273,30 @@ module _ (at count : ℕ) (name : List ℕ) (more also : ℕ) (o pl : List ℕ) 
                 np np₂
 
             room : at + length (nb ++ (F ++ D)) ≤ length o
-            room = omega (arith, length-append nb (F ++ D), nr .room, name-short p os name (nr .named), data-short rtype d fits p₁ os₂)
+            room =
+                let held = shaped-holds name rtype d fits in
+                omega (arith, length-append nb (F ++ D), nr .room, name-short p os name (nr .named), data-short (formFor name rtype d) d held p₁ os₂)
 
             slots : count + length (np ++ np₂) ≤ length pl
-            slots = omega (arith, length-append np np₂, nr .slots, places-few p os name at, data-few rtype d fits p₁ os₂ (a .end + 10))
+            slots =
+                let held = shaped-holds name rtype d fits in
+                omega (arith, length-append np np₂, nr .slots, ea, places-few p os name at, data-few (formFor name rtype d) d held p₁ os₂ (a .end + 10))
 
-            same-spots : (os ++ np) ++ np₂ ≡ os₁ ++ dataPlaces p₁ os₂ (length p₁ + 10) rtype d
-            same-spots = ap₂ (λ (x : List ℕ) (j : ℕ). (os ++ x) ++ dataPlaces p₁ os₂ (j + 10) rtype d) (sym moved) (sym first-total)
+            same-spots : (os ++ np) ++ np₂ ≡ os₁ ++ dataPlaces p₁ os₂ (length p₁ + 10) (formFor name rtype d) d
+            same-spots = ap₂ (λ (x : List ℕ) (j : ℕ). (os ++ x) ++ dataPlaces p₁ os₂ (j + 10) (formFor name rtype d) d) (sym moved) (sym first-total)
 
 -- a record that is fit and has room
 pub record RecordRoom (at count : ℕ) (owner : List ℕ) (rtype : ℕ) (d o pl : List ℕ) : Type 0 where
-  pub shaped : isShaped rtype d ≡ true
+  pub shaped : isShaped owner rtype d ≡ true
   pub short : length d ≤ 65535
-  pub front : NameRoom at count owner (10 + length d) (labelsFor rtype d) o pl
+  pub front : NameRoom at count owner (10 + length d) (labelsFor (formFor owner rtype d) d) o pl
 
 pub record-room : (at count : ℕ) (owner : List ℕ) (rtype ttl : ℕ) (d o pl : List ℕ) → RecordReady (roomIn o pl at count) owner rtype ttl d
     → RecordRoom at count owner rtype d o pl
 unfolding recordFits
 record-room at count owner rtype ttl d o pl ready =
     let f = fit-parts owner rtype ttl d (ready .fit) in
-    record { shaped = f .1; short = f .2; front = name-room at count owner (10 + length d) (labelsFor rtype d) o pl (f .0) (ready .fits) }
+    record { shaped = f .1; short = f .2; front = name-room at count owner (10 + length d) (labelsFor (formFor owner rtype d) d) o pl (f .0) (ready .fits) }
 
 pub question-front : (at count : ℕ) (name o pl : List ℕ) → QuestionReady (roomIn o pl at count) name → NameRoom at count name 4 0 o pl
 question-front at count name o pl ready = name-room at count name 4 0 o pl (ready .fit) (ready .fits)

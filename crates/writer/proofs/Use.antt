@@ -16,9 +16,9 @@ use Rattle.writer.specs.declared.Spot.{Spot}
 use Rattle.writer.specs.declared.Placed.{Placed}
 use Rattle.writer.specs.declared.Placed.the-variants.{Done}
 use Rattle.writer.specs.Items.{Writing, u16, fields, dataBytes, dataPlaces, searched, putName, putFields, putRecord, putQuestion}
-use Rattle.writer.specs.Fit.{isShaped}
+use Rattle.writer.specs.Fit.{formFor, isShaped}
 use Rattle.writer.specs.Writer.{heldIn, spotOf, labelsFor, placedOf, bytesAfter, placesAfter, Placing, Grown}
-use Rattle.writer.proofs.Rdata.{data-short, data-few}
+use Rattle.writer.proofs.Rdata.{shaped-holds, data-short, data-few}
 
 -- what is fit and has room is written
 module _ (fit fits : Bool) (v : Writing) (o pl : List ℕ) (r : Placed) (o′ pl′ : List ℕ) (p : Placing fit fits v o pl r o′ pl′)
@@ -68,23 +68,24 @@ module _ (w : Writing) (q : Question) where
       )
 
 -- what a record takes at most
-module _ (whole : Bool) (w : Writing) (r : Record) (named : isName (r .owner) ≡ true) (ok : isShaped (r .rtype) (r .rdata) ≡ true) where
+module _ (whole : Bool) (w : Writing) (r : Record) (named : isName (r .owner) ≡ true) (ok : isShaped (r .owner) (r .rtype) (r .rdata) ≡ true) where
   pub record-size : length (putRecord whole w r .bytes) ≤ length (w .bytes) + (length (r .owner) + 10 + length (r .rdata))
   unfolding putName putFields
   record-size =
       let p₁ : List ℕ = w .bytes ++ nameBytes (w .bytes) (w .places) (r .owner) in
       let os₁ : List ℕ = w .places ++ namePlaces (w .bytes) (w .places) (length (w .bytes)) (r .owner) in
       let os₂ : List ℕ = searched whole (r .rtype) os₁ in
-      let D : List ℕ = dataBytes p₁ os₂ (r .rtype) (r .rdata) in
+      let D : List ℕ = dataBytes p₁ os₂ (formFor (r .owner) (r .rtype) (r .rdata)) (r .rdata) in
       omega (
         arith,
         length-append p₁ (fields (r .rtype) (r .class) (r .ttl) (length D) ++ D),
         length-append (w .bytes) (nameBytes (w .bytes) (w .places) (r .owner)),
         name-short (w .bytes) (w .places) (r .owner) named,
-        data-short (r .rtype) (r .rdata) ok p₁ os₂,
+        data-short (formFor (r .owner) (r .rtype) (r .rdata)) (r .rdata) (shaped-holds (r .owner) (r .rtype) (r .rdata) ok) p₁ os₂,
       )
 
-  pub record-count : length (putRecord whole w r .places) ≤ length (w .places) + (labelsIn (r .owner) + labelsFor (r .rtype) (r .rdata))
+  pub record-count : length (putRecord whole w r .places) ≤ length (w .places) + (labelsIn (r .owner) + labelsFor (formFor (r .owner) (r .rtype) (r .rdata))
+      (r .rdata))
   unfolding putName putFields
   record-count =
       let p₁ : List ℕ = w .bytes ++ nameBytes (w .bytes) (w .places) (r .owner) in
@@ -92,12 +93,11 @@ module _ (whole : Bool) (w : Writing) (r : Record) (named : isName (r .owner) �
       let os₂ : List ℕ = searched whole (r .rtype) os₁ in
       omega (
         arith,
-        length-append os₁ (dataPlaces p₁ os₂ (length p₁ + 10) (r .rtype) (r .rdata)),
+        length-append os₁ (dataPlaces p₁ os₂ (length p₁ + 10) (formFor (r .owner) (r .rtype) (r .rdata)) (r .rdata)),
         length-append (w .places)
             (namePlaces (w .bytes) (w .places) (length (w .bytes)) (r .owner)),
         places-few (w .bytes) (w .places) (r .owner) (length (w .bytes)),
-        data-few (r .rtype)
-            (r .rdata) ok p₁ os₂ (length p₁ + 10),
+        data-few (formFor (r .owner) (r .rtype) (r .rdata)) (r .rdata) (shaped-holds (r .owner) (r .rtype) (r .rdata) ok) p₁ os₂ (length p₁ + 10),
       )
 
   pub record-low : length (w .bytes) ≤ length (putRecord whole w r .bytes)
@@ -106,7 +106,7 @@ module _ (whole : Bool) (w : Writing) (r : Record) (named : isName (r .owner) �
       let p₁ : List ℕ = w .bytes ++ nameBytes (w .bytes) (w .places) (r .owner) in
       let os₁ : List ℕ = w .places ++ namePlaces (w .bytes) (w .places) (length (w .bytes)) (r .owner) in
       let os₂ : List ℕ = searched whole (r .rtype) os₁ in
-      let D : List ℕ = dataBytes p₁ os₂ (r .rtype) (r .rdata) in
+      let D : List ℕ = dataBytes p₁ os₂ (formFor (r .owner) (r .rtype) (r .rdata)) (r .rdata) in
       omega (
         arith,
         length-append p₁ (fields (r .rtype) (r .class) (r .ttl) (length D) ++ D),
@@ -123,7 +123,7 @@ places-low whole w r =
     let os₂ : List ℕ = searched whole (r .rtype) os₁ in
     omega (
       arith,
-      length-append os₁ (dataPlaces p₁ os₂ (length p₁ + 10) (r .rtype) (r .rdata)),
+      length-append os₁ (dataPlaces p₁ os₂ (length p₁ + 10) (formFor (r .owner) (r .rtype) (r .rdata)) (r .rdata)),
       length-append (w .places)
           (namePlaces (w .bytes) (w .places) (length (w .bytes)) (r .owner)),
     )

@@ -6,7 +6,8 @@ use mathlib.Core.List.{List, [], _∷_, _++_}
 use mathlib.Core.Bool.{Bool, cond, _&&_}
 use lib.ListN.{length, take, drop}
 use lib.Dec.{eqb}
-use Rattle.wire.specs.rdata.Rdata.{formOf}
+use Rattle.wire.specs.declared.rdata.Form.{Form}
+use Rattle.writer.specs.Fit.{formFor, heldName, heldBehind}
 use Rattle.writer.specs.compression.Compression.{nameBytes, namePlaces}
 use Rattle.wire.specs.message.Message.{Question, Record}
 
@@ -29,12 +30,12 @@ putName w name = record {
   places = w .places ++ namePlaces (w .bytes) (w .places) (length (w .bytes)) name;
 }
 
--- "Every name, SRV and PTR rdata too": rdata in a packet `p` whose names have labels at the offsets `os`; in TXT and other data no name stands
-unfoldable pub dataBytes : List ℕ → List ℕ → ℕ → List ℕ → List ℕ
-dataBytes p os rtype d = cond (formOf rtype .named) (take (formOf rtype .before) d ++ nameBytes p os (drop (formOf rtype .before) d)) d
+-- "Every name, SRV and PTR rdata too": rdata of a form in a packet `p` whose names have labels at the offsets `os`; in TXT and other data no name stands
+unfoldable pub dataBytes : List ℕ → List ℕ → Form → List ℕ → List ℕ
+dataBytes p os g d = cond (g .named) (take (g .before) d ++ (nameBytes p os (heldName g d) ++ heldBehind g d)) d
 
-unfoldable pub dataPlaces : List ℕ → List ℕ → ℕ → ℕ → List ℕ → List ℕ
-dataPlaces p os at rtype d = cond (formOf rtype .named) (namePlaces p os (at + formOf rtype .before) (drop (formOf rtype .before) d)) []
+unfoldable pub dataPlaces : List ℕ → List ℕ → ℕ → Form → List ℕ → List ℕ
+dataPlaces p os at g d = cond (g .named) (namePlaces p os (at + g .before) (heldName g d)) []
 
 -- type, class, TTL and the length of the rdata
 abbrev pub fields : ℕ → ℕ → ℕ → ℕ → List ℕ
@@ -51,9 +52,10 @@ triedFor whole rtype count = cond (whole && eqb rtype 33) 0 count
 unfoldable pub putFields : Bool → Writing → Record → Writing
 putFields whole w r =
     let os : List ℕ = searched whole (r .rtype) (w .places) in
-    let d : List ℕ = dataBytes (w .bytes) os (r .rtype) (r .rdata) in record {
+    let g : Form = formFor (r .owner) (r .rtype) (r .rdata) in
+    let d : List ℕ = dataBytes (w .bytes) os g (r .rdata) in record {
       bytes = w .bytes ++ (fields (r .rtype) (r .class) (r .ttl) (length d) ++ d);
-      places = w .places ++ dataPlaces (w .bytes) os (length (w .bytes) + 10) (r .rtype) (r .rdata);
+      places = w .places ++ dataPlaces (w .bytes) os (length (w .bytes) + 10) g (r .rdata);
     }
 
 -- a record: every name in it is cut, or, with `whole`, every name but the target of an SRV

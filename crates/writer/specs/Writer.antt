@@ -8,11 +8,11 @@ use lib.ListN.{length, take, drop}
 use lib.Seq.{sets}
 use lib.Dec.{leb}
 use Rattle.wire.specs.names.Names.{isName}
-use Rattle.wire.specs.rdata.Rdata.{formOf}
+use Rattle.wire.specs.declared.rdata.Form.{Form}
 use Rattle.wire.specs.labels.Counted.{labelsIn}
 use Rattle.wire.specs.message.Message.{Question}
 use Rattle.writer.specs.Items.{Writing}
-use Rattle.writer.specs.Fit.{isShaped, fitRecord}
+use Rattle.writer.specs.Fit.{formFor, heldName, holdsName, fitRecord}
 use Rattle.writer.specs.declared.Spot.{Spot}
 use Rattle.writer.specs.declared.Room.{Room}
 use Rattle.writer.specs.declared.Placed.{Placed}
@@ -28,9 +28,9 @@ spotOf e c = record { end = e; count = c }
 abbrev pub questionOf : List ℕ → ℕ → ℕ → Question
 questionOf name rtype class = record { name = name; rtype = rtype; class = class }
 
--- the labels of the name in the rdata of PTR and SRV
-unfoldable pub labelsFor : ℕ → List ℕ → ℕ
-labelsFor rtype d = cond (formOf rtype .named) (labelsIn (drop (formOf rtype .before) d)) 0
+-- the labels of the name in rdata of a form
+unfoldable pub labelsFor : Form → List ℕ → ℕ
+labelsFor g d = cond (g .named) (labelsIn (heldName g d)) 0
 
 -- what is left of a buffer with `at` bytes written, and of its table with `count` places noted
 abbrev pub roomIn : List ℕ → List ℕ → ℕ → ℕ → Room
@@ -50,7 +50,7 @@ questionFits room name = nameFits room name 4 0
 
 -- a record: its owner, ten bytes and its rdata, the name in it whole
 unfoldable pub recordFits : Room → List ℕ → ℕ → List ℕ → Bool
-recordFits room owner rtype d = nameFits room owner (10 + length d) (labelsFor rtype d)
+recordFits room owner rtype d = nameFits room owner (10 + length d) (labelsFor (formFor owner rtype d) d)
 
 -- the answer, and the two lent buffers then: the packet `v` in front and the rest as it was; or all as it was
 abbrev pub placedOf : Bool → Bool → Writing → Placed
@@ -92,13 +92,13 @@ pub record NameReady (known at count tried : ℕ) (name out places : List ℕ) :
   pub slots : count + labelsIn name ≤ length places
 
 -- what writing rdata asks for
-pub record DataReady (known at count tried rtype : ℕ) (d out places : List ℕ) : Type 0 where
-  pub shaped : isShaped rtype d ≡ true
+pub record DataReady (known at count tried : ℕ) (g : Form) (d out places : List ℕ) : Type 0 where
+  pub shaped : g .named ≡ true → holdsName g d ≡ true
   pub known-before : known ≤ at
   pub known-small : known ≤ 16384
   pub tried-noted : tried ≤ count
   pub room : at + length d ≤ length out
-  pub slots : count + labelsFor rtype d ≤ length places
+  pub slots : count + labelsFor g d ≤ length places
 
 -- what writing a question or a record asks for: it is fit, and there is room for it
 pub record QuestionReady (room : Room) (name : List ℕ) : Type 0 where

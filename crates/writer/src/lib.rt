@@ -4,6 +4,7 @@ pub mod compression;
 pub mod own_packets;
 
 use crate::compression::Place;
+use wire::rdata::Form;
 ghost use mathlib.Core.Path.{_≡_};
 ghost use Prim.Native.Nat.{_+_, _≤_, _<_};
 ghost use lib.ListN.{length, take};
@@ -13,7 +14,7 @@ ghost use Rattle.wire.specs.labels.Counted.{starts, labelsIn};
 ghost use Rattle.writer.specs.Items.{u16, fields, dataBytes, dataPlaces, triedFor, putQuestion, putRecord};
 ghost use Rattle.wire.specs.message.Message.{Record, recordOf};
 ghost use Rattle.wire.specs.names.Names.{isName};
-ghost use Rattle.writer.specs.Fit.{isShaped, fitRecord};
+ghost use Rattle.writer.specs.Fit.{formFor, isShaped, fitRecord};
 ghost use Rattle.writer.specs.Writer.{heldIn, roomIn, questionOf, labelsFor, nameFits, questionFits, recordFits};
 ghost use Rattle.writer.specs.Writer.{Placing, Wrote, Grown, NameReady, DataReady, RecordReady, QuestionReady};
 
@@ -115,7 +116,24 @@ fn put_name(
     }
 }
 
-// Writes rdata at `at`, the name in it cut by what stands in the packet `out[..known]` at the offsets `places[..tried]`.
+// The form of rdata that is given with its name expanded, for the owner of the record.
+fn form_for(owner: &[u8], rtype: u16, d: &[u8]) -> Form
+    ensures { λ r. ⌜ r ≡ formFor (now (owner .entry)) rtype (now (d .entry)) ⌝ }
+{
+    if rtype != wire::rdata::NSEC {
+        return wire::rdata::form_of(rtype);
+    }
+    if !wire::nsec::is_nsec(owner, d) {
+        return wire::rdata::form_of(wire::rdata::NSEC);
+    }
+    Form {
+        named: true,
+        before: 0,
+        behind: d.len() - owner.len(),
+    }
+}
+
+// Writes rdata of a form at `at`, the name in it cut by what stands in the packet `out[..known]` at the offsets `places[..tried]`.
 fn put_data(
     out: &mut [u8],
     known: usize,
@@ -123,19 +141,25 @@ fn put_data(
     places: &mut [usize],
     count: usize,
     tried: usize,
-    rtype: u16,
+    held: Form,
     d: &[u8],
 ) -> Spot
-    requires { ⌜ DataReady known at count tried rtype (now d) (now out) (now places) ⌝ }
-    ensures { λ r. ⌜ Wrote (dataBytes (take known (now (out .entry))) (take tried (now (places .entry))) rtype (now (d .entry)))
-        (dataPlaces (take known (now (out .entry))) (take tried (now (places .entry))) at rtype (now (d .entry)))
+    requires { ⌜ DataReady known at count tried held (now d) (now out) (now places) ⌝ }
+    ensures { λ r. ⌜ Wrote (dataBytes (take known (now (out .entry))) (take tried (now (places .entry))) held (now (d .entry)))
+        (dataPlaces (take known (now (out .entry))) (take tried (now (places .entry))) at held (now (d .entry)))
         at count (now (out .entry)) (now (places .entry)) r (now (out .exit)) (now (places .exit)) ⌝ }
 {
-    let held = wire::rdata::form_of(rtype);
     if held.named {
         let head = held.before;
+        let tail = d.len() - held.behind;
         wire::buffer::put(out, at, &d[..head]);
-        return put_name(out, known, at + head, places, count, tried, &d[head..]);
+        let named = put_name(out, known, at + head, places, count, tried, &d[head..tail]);
+        let end = named.end;
+        wire::buffer::put(out, end, &d[tail..]);
+        return Spot {
+            end: end + held.behind,
+            count: named.count,
+        };
     }
     wire::buffer::put(out, at, d);
     Spot {
@@ -192,7 +216,8 @@ fn write_record(
     let c = a.count;
     let body = e + 10;
     let tried = tried_for(whole, rtype, c);
-    let b = put_data(out, e, body, places, c, tried, rtype, d);
+    let held = form_for(owner, rtype, d);
+    let b = put_data(out, e, body, places, c, tried, held, d);
     let end = b.end;
     put_fields(out, e, rtype, class, ttl, end - body);
     b
@@ -256,19 +281,22 @@ fn name_fits(room: Room, name: &[u8], more: usize, also: usize) -> bool
     also <= slots - count - labels
 }
 
-// How many labels the name in the rdata of PTR and SRV has.
-fn labels_for(rtype: u16, d: &[u8]) -> usize
-    ensures { λ r. ⌜ r ≡ labelsFor rtype (now (d .entry)) ⌝ }
+// How many labels the name in rdata of a form has.
+fn labels_for(held: Form, d: &[u8]) -> usize
+    ensures { λ r. ⌜ r ≡ labelsFor held (now (d .entry)) ⌝ }
 {
-    let held = wire::rdata::form_of(rtype);
     if !held.named {
         return 0;
     }
     let head = held.before;
-    if d.len() < head {
+    if d.len() < held.behind {
         return 0;
     }
-    wire::labels::labels_in(&d[head..])
+    let tail = d.len() - held.behind;
+    if tail < head {
+        return 0;
+    }
+    wire::labels::labels_in(&d[head..tail])
 }
 
 // Whether there is room for a record.
@@ -276,22 +304,27 @@ fn record_fits(room: Room, owner: &[u8], rtype: u16, d: &[u8]) -> bool
     requires { ⌜ length (now d) ≤ 65535 ⌝ }
     ensures { λ r. ⌜ r ≡ recordFits room (now (owner .entry)) rtype (now (d .entry)) ⌝ }
 {
-    let also = labels_for(rtype, d);
+    let held = form_for(owner, rtype, d);
+    let also = labels_for(held, d);
     name_fits(room, owner, 10 + d.len(), also)
 }
 
 // Whether rdata is as its type asks, the name in it expanded.
-fn is_shaped(rtype: u16, d: &[u8]) -> bool
-    ensures { λ r. ⌜ r ≡ isShaped rtype (now (d .entry)) ⌝ }
+fn is_shaped(owner: &[u8], rtype: u16, d: &[u8]) -> bool
+    ensures { λ r. ⌜ r ≡ isShaped (now (owner .entry)) rtype (now (d .entry)) ⌝ }
 {
     let n = d.len();
-    let held = wire::rdata::form_of(rtype);
+    let held = form_for(owner, rtype, d);
     if held.named {
         let head = held.before;
-        if n < head {
+        if n < held.behind {
             return false;
         }
-        return wire::names::is_name(&d[head..]);
+        let tail = n - held.behind;
+        if tail < head {
+            return false;
+        }
+        return wire::names::is_name(&d[head..tail]);
     }
     if rtype == wire::rdata::A {
         return n == 4;
@@ -301,6 +334,12 @@ fn is_shaped(rtype: u16, d: &[u8]) -> bool
     }
     if rtype == wire::rdata::AAAA {
         return n == 16;
+    }
+    if rtype == wire::rdata::NSEC {
+        return match wire::names::name_at(d, 0) {
+            wire::names::Name::Found(_) => true,
+            wire::names::Name::Malformed => false,
+        };
     }
     true
 }
@@ -312,7 +351,7 @@ fn fit_record(owner: &[u8], rtype: u16, ttl: u32, d: &[u8]) -> bool
     if !wire::names::is_name(owner) {
         return false;
     }
-    if !is_shaped(rtype, d) {
+    if !is_shaped(owner, rtype, d) {
         return false;
     }
     if MOST_RDATA < d.len() {

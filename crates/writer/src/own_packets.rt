@@ -25,6 +25,9 @@ ghost use Rattle.writer.specs.own_packets.Own.{refusal, unlessRefused, w
 // The least buffer that a packet is written into.
 pub const LEAST_OUT: usize = 1452;
 
+// How many offsets of labels are noted in a packet at most: all own records with their names whole have 33.
+const MOST_PLACES: usize = 40;
+
 // Which TTL records are written with: each its own, or one for all.
 pub enum TtlRule {
     Each,
@@ -295,13 +298,13 @@ fn write_packet(s: Setup, style: Style, name: &[u8], list: Picked, out: &mut [u8
         answers,
         authorities,
     );
-    let mut places = [0usize; 32];
+    let mut places = [0usize; MOST_PLACES];
     let q = write_asked(style, name, out, &mut places);
     let r = write_list(s, list, style, out, q.end, &mut places, q.count);
     r.end
 }
 
-// Writes a response of the chosen ones of the own records that the set-up has: PTR, SRV, TXT, A, AAAA.
+// Writes a response of the chosen ones of the own records that the set-up has: PTR, SRV, TXT, A, AAAA, and the two NSEC.
 pub fn respond(s: Setup, chosen: Set, out: &mut [u8]) -> Written
     ensures answer { λ r. ⌜ r ≡ writtenOf (refusal s (now (out .entry))) (responsePacket s chosen) ⌝ }
     ensures out { λ _. ⌜ now (out .exit) ≡ laidOver (unlessRefused (refusal s (now (out .entry))) (responsePacket s chosen)) (now (out .entry)) ⌝ }

@@ -28,8 +28,8 @@ mod setup;
 pub use cache::{Cache, Found, Taken, MOST_ENTRIES};
 pub use pairs::{txt_lookup, Pair};
 pub use reader::{
-    message_refusal, name_end, name_length, Data, Message, Name, Question, Record, Section, Srv,
-    Strings,
+    message_refusal, name_end, name_length, Data, Message, Name, Nsec, Question, Record, Section,
+    Srv, Strings,
 };
 pub use responder::{Claim, Responder, Ticked, OUT_BYTES, PORT, STATE_BYTES};
 pub use setup::{Setup, SETUP_BYTES};

@@ -61,6 +61,17 @@ struct SrvAt {
 }
 
 #[repr(C)]
+struct NsecAt {
+    found: bool,
+    next: usize,
+    next_length: usize,
+    next_labels: usize,
+    next_first_label: usize,
+    block: usize,
+    block_length: usize,
+}
+
+#[repr(C)]
 struct StringAt {
     refusal: u8,
     found: bool,
@@ -97,6 +108,14 @@ extern "C" {
         rdata: usize,
         rdata_length: usize,
     ) -> SrvAt;
+    fn kurgashel_nsec(
+        message: *const u8,
+        message_bytes: usize,
+        owner: usize,
+        rdata: usize,
+        rdata_length: usize,
+    ) -> NsecAt;
+    fn kurgashel_nsec_names(block: *const u8, block_bytes: usize, rtype: u16) -> bool;
     fn kurgashel_txt_string(txt: *const u8, txt_bytes: usize, at: usize) -> StringAt;
     fn kurgashel_name(message: *const u8, message_bytes: usize, at: usize) -> Name;
     fn kurgashel_name_end(message: *const u8, message_bytes: usize, at: usize) -> usize;
@@ -158,7 +177,9 @@ pub enum Data<'a> {
     Txt(Strings<'a>),
     /// Where a service is.
     Srv(Srv),
-    /// The bytes of another type.
+    /// Which types a name has: an NSEC of the restricted kind (RFC 6762 section 6.1).
+    Nsec(Nsec<'a>),
+    /// The bytes of another type, and of any other NSEC.
     Other(&'a [u8]),
 }
 
@@ -175,6 +196,15 @@ pub struct Srv {
     pub target: Name,
 }
 
+/// An NSEC of the restricted kind.
+#[derive(Clone, Copy)]
+pub struct Nsec<'a> {
+    /// Its next name, which is the owner's, perhaps in other letters.
+    pub next: Name,
+    /// Its window block: a zero byte, a length and so many bytes of bits.
+    pub block: &'a [u8],
+}
+
 /// The strings of a TXT, each a part of it. A string that runs past the TXT's end, which no message that was read has, ends them.
 #[derive(Clone, Copy)]
 pub struct Strings<'a> {
@@ -187,6 +217,7 @@ const PTR: u16 = 12;
 const TXT: u16 = 16;
 const AAAA: u16 = 28;
 const SRV: u16 = 33;
+const NSEC: u16 = 47;
 
 impl Name {
     /// The name at an offset of a message, uncompressed, if it is well formed.
@@ -229,6 +260,31 @@ impl Srv {
     }
 }
 
+impl<'a> Nsec<'a> {
+    /// The NSEC in the rdata that is a part of a message, for the owner at an offset, if it is of the restricted kind.
+    pub fn read(message: &'a [u8], owner: usize, rdata: Range<usize>) -> Option<Nsec<'a>> {
+        let (bytes, length) = (message.as_ptr(), rdata.len());
+        let nsec = unsafe { kurgashel_nsec(bytes, message.len(), owner, rdata.start, length) };
+        if !nsec.found {
+            return None;
+        }
+        Some(Nsec {
+            next: Name::read(message, nsec.next)?,
+            block: &message[nsec.block..nsec.block + nsec.block_length],
+        })
+    }
+
+    /// Whether it says that the name has records of a type. A type that it does not name does not exist there.
+    pub fn names(&self, rtype: u16) -> bool {
+        unsafe { kurgashel_nsec_names(self.block.as_ptr(), self.block.len(), rtype) }
+    }
+
+    /// The types that it names, in rising order.
+    pub fn types(&self) -> impl Iterator<Item = u16> + '_ {
+        (0..256).filter(|&rtype| self.names(rtype))
+    }
+}
+
 impl<'a> Strings<'a> {
     /// The strings of a TXT.
     pub fn of(txt: &'a [u8]) -> Strings<'a> {
@@ -250,8 +306,14 @@ impl<'a> Iterator for Strings<'a> {
 }
 
 impl<'a> Data<'a> {
-    /// What the rdata of a type says that is a part of a message, if it is as its type asks. Strings of a TXT are read one by one.
-    pub fn read(rtype: u16, message: &'a [u8], rdata: Range<usize>) -> Option<Data<'a>> {
+    /// What the rdata of a type says that is a part of a message, if it is as its type asks, of a record whose owner stands at an offset. Strings of a TXT are
+    /// read one by one.
+    pub fn read(
+        rtype: u16,
+        message: &'a [u8],
+        owner: usize,
+        rdata: Range<usize>,
+    ) -> Option<Data<'a>> {
         let part = message.get(rdata.clone())?;
         Some(match rtype {
             A => Data::A(address::<4>(rtype, message, rdata)?.into()),
@@ -262,20 +324,22 @@ impl<'a> Data<'a> {
             PTR => return None,
             TXT => Data::Txt(Strings::of(part)),
             SRV => Data::Srv(Srv::read(message, rdata)?),
+            NSEC => Nsec::read(message, owner, rdata).map_or(Data::Other(part), Data::Nsec),
             _ => Data::Other(part),
         })
     }
 
-    /// What the rdata of a type says in which names are uncompressed, such as that of a cache.
+    /// What the rdata of a type says in which names are uncompressed, such as that of a cache. The owner of an NSEC is taken to be its next name.
     pub fn of(rtype: u16, rdata: &'a [u8]) -> Option<Data<'a>> {
-        Data::read(rtype, rdata, 0..rdata.len())
+        Data::read(rtype, rdata, 0, 0..rdata.len())
     }
 
-    /// The name in a PTR or an SRV.
+    /// The name in a PTR, an SRV or an NSEC.
     pub fn target(&self) -> Option<&Name> {
         match self {
             Data::Ptr(name) => Some(name),
             Data::Srv(srv) => Some(&srv.target),
+            Data::Nsec(nsec) => Some(&nsec.next),
             _ => None,
         }
     }
@@ -337,7 +401,7 @@ impl<'a> Message<'a> {
             class: r.class,
             ttl: r.ttl,
             rdata: &self.bytes[rdata.clone()],
-            data: Data::read(r.rtype, self.bytes, rdata)?,
+            data: Data::read(r.rtype, self.bytes, r.owner, rdata)?,
         })
     }
 

@@ -7,7 +7,7 @@ use crate::Refusal;
 pub const PORT: u16 = 5353;
 
 /// The bytes of a responder's state.
-pub const STATE_BYTES: usize = 667;
+pub const STATE_BYTES: usize = 685;
 
 /// The least out buffer; no packet is longer.
 pub const OUT_BYTES: usize = 1452;

@@ -1,6 +1,6 @@
 //! What rdata says, of an announcement by hand and of parts that are not as their types ask.
 
-use kurgashel::{Cache, Data, Message, Name, Section, Srv, Strings};
+use kurgashel::{Cache, Data, Message, Name, Nsec, Section, Srv, Strings};
 
 /// SRV, TXT, A and AAAA of one instance: the SRV's rdata at 47 with its target at 53, the TXT's at 72, the A's at 100, the AAAA's at 116.
 const ANNOUNCEMENT: &[u8] = b"\0\0\x84\0\0\0\0\x04\0\0\0\0\
@@ -55,16 +55,16 @@ fn parts_that_are_not_as_their_types_ask() {
     assert!(Srv::read(ANNOUNCEMENT, 47..60).is_some());
     for part in [47..59, 47..61, 48..60, 47..53, 47..47, 47..1000] {
         assert!(Srv::read(ANNOUNCEMENT, part.clone()).is_none());
-        assert!(Data::read(33, ANNOUNCEMENT, part.clone()).is_none());
-        assert!(Data::read(1, ANNOUNCEMENT, part).is_none());
+        assert!(Data::read(33, ANNOUNCEMENT, 12, part.clone()).is_none());
+        assert!(Data::read(1, ANNOUNCEMENT, 12, part).is_none());
     }
-    assert!(Data::read(12, ANNOUNCEMENT, 53..60).is_some());
-    assert!(Data::read(12, ANNOUNCEMENT, 53..59).is_none());
-    assert!(Data::read(28, ANNOUNCEMENT, 100..104).is_none());
-    assert!(Data::read(1, ANNOUNCEMENT, 116..132).is_none());
-    assert!(Data::read(255, ANNOUNCEMENT, 116..133).is_none());
+    assert!(Data::read(12, ANNOUNCEMENT, 12, 53..60).is_some());
+    assert!(Data::read(12, ANNOUNCEMENT, 12, 53..59).is_none());
+    assert!(Data::read(28, ANNOUNCEMENT, 12, 100..104).is_none());
+    assert!(Data::read(1, ANNOUNCEMENT, 12, 116..132).is_none());
+    assert!(Data::read(255, ANNOUNCEMENT, 12, 116..133).is_none());
     assert!(
-        matches!(Data::read(255, ANNOUNCEMENT, 100..104), Some(Data::Other(bytes)) if bytes == [10, 0, 0, 7])
+        matches!(Data::read(255, ANNOUNCEMENT, 12, 100..104), Some(Data::Other(bytes)) if bytes == [10, 0, 0, 7])
     );
 }
 
@@ -78,6 +78,42 @@ fn rdata_of_a_cache() {
     assert_eq!(srv.target.as_bytes(), HOST);
     assert!(Data::of(33, &rdata[..17]).is_none());
     assert!(Data::of(12, HOST).is_some());
+}
+
+/// An NSEC of `dock.local` at 12, its next name in other letters and cut: the rdata at 34, the next name's pointer at 39, the window block at 41.
+const NO_AAAA: &[u8] =
+    b"\0\0\x84\0\0\0\0\x01\0\0\0\0\x04dock\x05local\0\0\x2f\x80\x01\0\0\0\x78\0\x0a\x04DOCK\xc0\x11\0\x01\x40";
+
+#[test]
+fn an_nsec_says_which_types_a_name_has() {
+    let message = Message::read(NO_AAAA).expect("well formed");
+    let records: Vec<_> = message.records(Section::Answer).collect();
+    let Data::Nsec(nsec) = &records[0].data else {
+        panic!("an NSEC of the restricted kind");
+    };
+    assert_eq!(nsec.next.as_bytes(), b"\x04DOCK\x05local\0");
+    assert_eq!(
+        (nsec.next.labels(), nsec.next.first_label()),
+        (2, &b"DOCK"[..])
+    );
+    assert_eq!(nsec.types().collect::<Vec<_>>(), [1]);
+    assert!(nsec.names(1) && !nsec.names(28) && !nsec.names(256) && !nsec.names(65535));
+    // another owner, window 1, and a length of 0 or 33
+    for (at, byte) in [(13, b'e'), (41, 1), (42, 0), (42, 33)] {
+        let mut other = NO_AAAA.to_vec();
+        other[at] = byte;
+        let message = Message::read(&other).expect("stepped over");
+        let records: Vec<_> = message.records(Section::Answer).collect();
+        assert!(matches!(records[0].data, Data::Other(bytes) if bytes == &other[34..]));
+    }
+    // a byte less, and an owner elsewhere
+    assert!(Nsec::read(NO_AAAA, 12, 34..43).is_none());
+    assert!(Nsec::read(NO_AAAA, 17, 34..44).is_none());
+    let host = b"\x04dock\x05local\0\0\x04\x40\0\0\x08";
+    let Some(Data::Nsec(nsec)) = Data::of(47, host) else {
+        panic!("the next name of a cached one is its owner");
+    };
+    assert_eq!(nsec.types().collect::<Vec<_>>(), [1, 28]);
 }
 
 #[test]

@@ -62,6 +62,7 @@ fn rdata(data: &Data) -> Vec<u8> {
             let numbers = [srv.priority, srv.weight, srv.port].map(u16::to_be_bytes);
             [numbers.as_flattened(), srv.target.as_bytes()].concat()
         }
+        Data::Nsec(nsec) => [nsec.next.as_bytes(), nsec.block].concat(),
         Data::Other(bytes) => bytes.to_vec(),
     }
 }
@@ -76,7 +77,7 @@ fn name_words(name: &Name) -> String {
     hex(name.as_bytes()) + &numbers(name)
 }
 
-/// A message as the console shows it, names in the rdata of PTR and SRV expanded.
+/// A message as the console shows it, names in the rdata of PTR, SRV and NSEC expanded.
 fn read_words(message: &Message) -> String {
     let mut words = format!("message {} {}", message.id(), message.flags());
     for q in message.questions() {
@@ -262,12 +263,12 @@ impl Exported {
         };
         format!(
             "{} instance {} {} host {} {} reply {}",
-            word(659),
+            word(677),
             self.responder.instance().word(),
             due(state[579] < 6, 580),
             self.responder.host().word(),
             due(state[588] < 6, 589),
-            due(state[642] % 2 == 1, 643),
+            due(state[660] % 2 == 1, 661),
         )
     }
 }

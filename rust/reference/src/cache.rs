@@ -3,7 +3,7 @@
 use crate::message::{Message, Record, Section};
 use crate::name::{Labels, Name};
 use crate::refusal::Refusal;
-use crate::{class, rtype, MOST_TIME};
+use crate::{class, MOST_TIME};
 
 /// "any size from 1 to 512 entries with 1,024 store bytes each"
 pub const MOST_ENTRIES: usize = 512;
@@ -129,7 +129,7 @@ impl Cache {
     }
 
     /// "Answer and Additional records of a response, of class 1 and the five
-    /// types, are taken in message order".
+    /// types, are taken in message order"; restricted NSEC "as a sixth type".
     pub fn put(&mut self, now: u64, port: u64, packet: &[u8]) -> Result<Counts, Refusal> {
         self.check_time(now)?;
         self.check_sizes()?;
@@ -139,7 +139,7 @@ impl Cache {
             for record in &message.records {
                 if record.section != Section::Authority
                     && record.class() == class::IN
-                    && rtype::is_one_of_the_five(record.rtype)
+                    && record.is_one_of_the_six()
                 {
                     self.take(now, record, &mut counts);
                 }
@@ -419,6 +419,49 @@ mod tests {
         );
         assert_eq!(times(&cache, 0), (0, 3000));
         assert_eq!(cache.entries()[0].slot().len(), 1024);
+    }
+
+    #[test]
+    fn restricted_nsec_is_taken_and_no_other() {
+        let mut cache = table();
+        let rdata = |name: &[u8], window: &[u8]| [name, window].concat();
+        let own = rdata(OWNER, b"\x00\x01\x40");
+        let recased = rdata(OTHER_CASE, b"\x00\x01\x40");
+        let zeros = rdata(OWNER, b"\x00\x02\x40\x00");
+        for bad in [
+            rdata(OWNER, b"\x01\x01\x40"),
+            rdata(OWNER, b"\x00\x01\x40\x00"),
+            rdata(b"\x00", b"\x00\x01\x40"),
+        ] {
+            assert_eq!(put(&mut cache, 0, &[(OWNER, 47, 1, 9, &bad)]), (0, 0));
+            assert_eq!(cache.entries()[0], Entry::default());
+        }
+        for rdata in [&own, &recased, &own, &zeros] {
+            put(&mut cache, 0, &[(OWNER, 47, 1, 9, rdata)]);
+        }
+        put(
+            &mut cache,
+            0,
+            &[(OWNER, 47, 3, 9, &rdata(OWNER, b"\x00\x01\x01"))],
+        );
+        let stored: Vec<_> = cache.entries()[..4]
+            .iter()
+            .map(|entry| &entry.rdata)
+            .collect();
+        assert_eq!(stored, [&own, &recased, &zeros, &vec![]]);
+        let mut pointed = response(&[(OWNER, 47, 0x8001, 9, b"\xc0\x0c\x00\x01\x40")]);
+        cache.put(5000, MDNS_PORT, &pointed).unwrap();
+        assert_eq!(times(&cache, 0), (5000, 14_000));
+        assert_eq!(times(&cache, 1), (0, 6000));
+        let found = cache.look(5000, OTHER_CASE, 47, 1).unwrap().unwrap();
+        assert_eq!((found.slot, &found.entry.rdata), (1, &recased));
+        // an owner of another spelling than the next name's
+        pointed[13] = b'D';
+        cache.put(5001, MDNS_PORT, &pointed).unwrap();
+        assert_eq!(
+            cache.entries()[3].rdata,
+            rdata(b"\x04Dock\x05local\x00", b"\x00\x01\x40")
+        );
     }
 
     #[test]

@@ -75,6 +75,10 @@ impl Packet {
                 self.name(target);
             }
             Data::Bytes(bytes) => self.bytes.extend(bytes),
+            Data::Negative { next, window } => {
+                self.name(next);
+                self.bytes.extend(window);
+            }
         }
         let length = (self.bytes.len() - length_at - 2) as u16;
         self.bytes[length_at..length_at + 2].copy_from_slice(&length.to_be_bytes());
@@ -82,7 +86,7 @@ impl Packet {
 }
 
 /// "Records in responses go in the order PTR, SRV, TXT, A, AAAA; class 0x8001,
-/// PTR 1." `records` are in that order.
+/// PTR 1.", NSEC after AAAA. `records` are in that order.
 pub fn response(records: &[&OwnRecord]) -> Vec<u8> {
     let mut packet = Packet::new(RESPONSE_FLAGS, [0, records.len(), 0, 0]);
     for record in records {
@@ -98,8 +102,7 @@ pub fn response(records: &[&OwnRecord]) -> Vec<u8> {
 /// "A probe is one question (type 255, class 1) with the claim's records in
 /// Authority, by rising type, class 1."
 pub fn probe(setup: &Setup, claim: ClaimName) -> Vec<u8> {
-    let mut records = setup.records();
-    records.retain(|record| record.kind.is_claimed() && record.kind.claim() == claim);
+    let mut records = setup.claimed_records(claim);
     records.sort_by_key(|record| record.kind.rtype());
     let mut packet = Packet::new(PROBE_FLAGS, [1, 0, records.len(), 0]);
     packet.name(&setup.claim_name(claim));
@@ -118,7 +121,7 @@ mod tests {
     use crate::setup::tests::example;
 
     fn all(setup: &Setup) -> Vec<u8> {
-        let records = setup.records();
+        let records = setup.all_records();
         response(&records.iter().collect::<Vec<_>>())
     }
 
@@ -149,9 +152,9 @@ mod tests {
     fn what_is_written_reads_back() {
         let mut setup = example();
         setup.aaaa = Some([9; 16]);
-        let records = setup.records();
+        let records = setup.all_records();
         let read = Message::read(&all(&setup)).unwrap();
-        assert_eq!(read.records.len(), 5);
+        assert_eq!(read.records.len(), 7);
         for (read, own) in read.records.iter().zip(&records) {
             assert_eq!(read.owner.wire(), own.owner.wire());
             assert_eq!(read.rtype, own.kind.rtype());
@@ -215,6 +218,40 @@ mod tests {
             ..example()
         };
         assert!(setup.is_legal());
-        assert_eq!(all(&setup).len(), 657);
+        assert_eq!(all(&setup).len(), 657 + 21 + 20);
+        // nor do its names have to be cut
+        let names: usize = setup
+            .all_records()
+            .iter()
+            .map(|own| own.owner.wire().len() + 10 + own.rdata().len())
+            .sum();
+        assert_eq!(12 + names, 1009 + 203 + 158);
+        assert!(12 + names <= 1452);
+    }
+
+    #[test]
+    fn nsec_byte_for_byte() {
+        let mut setup = example();
+        let written = |setup: &Setup, chosen: &[Kind]| {
+            let mut records = setup.all_records();
+            records.retain(|record| chosen.contains(&record.kind));
+            response(&records.iter().collect::<Vec<_>>())
+        };
+        let host = [
+            &b"\x00\x00\x84\x00\x00\x00\x00\x01\x00\x00\x00\x00\x04dock\x05local\x00"[..],
+            &b"\x00\x2f\x80\x01\x00\x00\x00\x78\x00\x05\xc0\x0c\x00\x01\x40"[..],
+        ]
+        .concat();
+        assert_eq!(written(&setup, &[Kind::HostNsec]), host);
+        let both = [
+            &b"\x00\x00\x84\x00\x00\x00\x00\x02\x00\x00\x00\x00"[..],
+            &b"\x05booth\x06_voice\x04_tcp\x05local\x00\x00\x2f\x80\x01\x00\x00\x00\x78"[..],
+            &b"\x00\x09\xc0\x0c\x00\x05\x00\x00\x80\x00\x40"[..],
+            &b"\x04dock\xc0\x1e\x00\x2f\x80\x01\x00\x00\x00\x78"[..],
+            &b"\x00\x08\xc0\x38\x00\x04\x40\x00\x00\x08"[..],
+        ]
+        .concat();
+        setup.aaaa = Some([9; 16]);
+        assert_eq!(written(&setup, &[Kind::InstanceNsec, Kind::HostNsec]), both);
     }
 }

@@ -14,13 +14,15 @@ pub mod setup;
 pub mod tally;
 pub mod txt;
 
-/// Record types. The five of the specification are A, PTR, TXT, AAAA and SRV.
+/// Record types. The five of the specification are A, PTR, TXT, AAAA and SRV;
+/// NSEC of the restricted form is a sixth one, other NSEC is unknown.
 pub mod rtype {
     pub const A: u16 = 1;
     pub const PTR: u16 = 12;
     pub const TXT: u16 = 16;
     pub const AAAA: u16 = 28;
     pub const SRV: u16 = 33;
+    pub const NSEC: u16 = 47;
     pub const ANY: u16 = 255;
 
     pub fn is_one_of_the_five(rtype: u16) -> bool {

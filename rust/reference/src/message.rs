@@ -14,6 +14,9 @@ const OPCODE_AND_RCODE: u16 = 0x780F;
 const FIXED_PART: usize = 10;
 /// Priority, weight and port before an SRV target.
 const SRV_NUMBERS: usize = 6;
+/// The bitmap of a restricted NSEC: "one window block, types under 256".
+const WINDOW: u8 = 0;
+const MOST_BITMAP: u8 = 32;
 
 #[derive(Clone, Copy, Debug, PartialEq, Eq)]
 pub enum Section {
@@ -39,9 +42,10 @@ pub struct Record {
     pub wire_class: u16,
     /// As it counts: "A TTL with its top bit set counts as 0 everywhere."
     pub ttl: u32,
-    /// The names in PTR and SRV expanded.
+    /// The names in PTR, SRV and restricted NSEC expanded.
     pub rdata: Vec<u8>,
-    /// The labels of the target of PTR and SRV.
+    /// The labels of the target of PTR and SRV, and of the next name of
+    /// restricted NSEC; another NSEC has none.
     pub target: Option<Labels>,
 }
 
@@ -67,6 +71,15 @@ impl Record {
 
     pub fn is_cache_flush(&self) -> bool {
         self.wire_class & class::TOP_BIT != 0
+    }
+
+    /// "The reader and cache take this form as a sixth type, other NSEC as unknown".
+    pub fn is_one_of_the_six(&self) -> bool {
+        rtype::is_one_of_the_five(self.rtype) || self.is_restricted_nsec()
+    }
+
+    pub fn is_restricted_nsec(&self) -> bool {
+        self.rtype == rtype::NSEC && self.target.is_some()
     }
 }
 
@@ -138,9 +151,49 @@ fn check_rdata(message: &[u8], place: &Place) -> Result<(), Refusal> {
     })
 }
 
-/// The same, with the names in PTR and SRV expanded, and their labels.
-fn read_rdata(message: &[u8], place: &Place) -> Result<(Vec<u8>, Option<Labels>), Refusal> {
+/// Whether a bitmap has the bit of NSEC itself.
+fn has_nsec_bit(bitmap: &[u8]) -> bool {
+    let bit = usize::from(rtype::NSEC);
+    bitmap
+        .get(bit / 8)
+        .is_some_and(|byte| byte & (0x80 >> (bit % 8)) != 0)
+}
+
+/// What stands behind the next name of a restricted NSEC: the number of one
+/// window block, a length and so many bytes, without the NSEC bit.
+fn is_restricted_window(bytes: &[u8]) -> bool {
+    let [window, length, bitmap @ ..] = bytes else {
+        return false;
+    };
+    *window == WINDOW
+        && (1..=MOST_BITMAP).contains(length)
+        && bitmap.len() == usize::from(*length)
+        && !has_nsec_bit(bitmap)
+}
+
+/// The rdata of a restricted NSEC (RFC 6762, section 6.1) with its next name
+/// expanded, and that name's labels. Any other rdata is none, one with a bad
+/// name too: it is stepped over.
+fn read_nsec(message: &[u8], place: &Place, owner: &Name) -> Option<(Vec<u8>, Labels)> {
+    let (next, next_end) = Name::read(message, place.start).ok()?;
+    let window = message.get(next_end..place.end)?;
+    let restricted = next.equals(owner) && is_restricted_window(window);
+    restricted.then(|| ([next.wire(), window].concat(), next.labels()))
+}
+
+/// The same, with the names in PTR, SRV and restricted NSEC expanded, and their
+/// labels.
+fn read_rdata(
+    message: &[u8],
+    place: &Place,
+    owner: &Name,
+) -> Result<(Vec<u8>, Option<Labels>), Refusal> {
     let Place { start, end, .. } = *place;
+    if place.rtype == rtype::NSEC {
+        if let Some((rdata, next)) = read_nsec(message, place, owner) {
+            return Ok((rdata, Some(next)));
+        }
+    }
     match place.rtype {
         rtype::PTR => {
             let (target, name_end) = Name::read(message, start)?;
@@ -217,7 +270,7 @@ impl Message {
             for _ in 0..u16_at(message, count_at) {
                 let (owner, fixed) = Name::read(message, at)?;
                 let place = place(message, fixed)?;
-                let (rdata, target) = read_rdata(message, &place)?;
+                let (rdata, target) = read_rdata(message, &place, &owner)?;
                 records.push(Record {
                     section,
                     owner,
@@ -365,5 +418,97 @@ mod tests {
         );
         assert_eq!(record.owner.labels(), Labels { count: 2, first: 4 });
         assert_eq!(record.target, Some(record.owner.labels()));
+    }
+
+    /// Reads an NSEC of dock.local at 12, which is then behind a question for it;
+    /// gives its rdata and whether it was taken as a restricted one.
+    fn nsec(rdata: &[u8]) -> (Vec<u8>, bool) {
+        let mut body = b"\x04dock\x05local\x00\x00\x01\x00\x01".to_vec();
+        body.extend([0xc0, 12, 0, 47, 0, 3, 0, 0, 0, 120, 0, rdata.len() as u8]);
+        body.extend(rdata);
+        let bytes = message(0x8400, [1, 0, 1, 0], &body);
+        assert_eq!(check(&bytes), Ok(()));
+        let read = Message::read(&bytes).unwrap();
+        let record = &read.records[0];
+        let restricted = record.is_restricted_nsec();
+        assert_eq!(restricted, record.is_one_of_the_six());
+        let labels = restricted.then_some(Labels { count: 2, first: 4 });
+        assert_eq!(record.target, labels);
+        (record.rdata.clone(), restricted)
+    }
+
+    #[test]
+    fn restricted_nsec() {
+        const OWN: &[u8] = b"\x04dock\x05local\x00";
+        let full = [1; 34];
+        let mut long = [0xff; 34];
+        (long[0], long[1], long[7]) = (0, 32, 0xfe);
+        for (next, expanded) in [
+            (OWN, OWN),
+            (b"\xc0\x0c", OWN),
+            (b"\x04dock\xc0\x11", OWN),
+            (b"\x04DOCK\xc0\x11", b"\x04DOCK\x05local\x00"),
+        ] {
+            for window in [
+                &b"\x00\x01\x40"[..],
+                b"\x00\x04\x40\x00\x00\x08",
+                b"\x00\x01\x00",
+                b"\x00\x06\x40\x00\x00\x08\x00\x00",
+                b"\x00\x06\x40\x00\x00\x08\x00\xfe",
+                &long,
+            ] {
+                let read = nsec(&[next, window].concat());
+                assert_eq!(read, ([expanded, window].concat(), true));
+            }
+        }
+        for window in [
+            &b""[..],
+            b"\x00",
+            b"\x00\x00",
+            b"\x01\x01\x40",
+            b"\xff\x01\x40",
+            b"\x00\x01",
+            b"\x00\x01\x40\x00",
+            b"\x00\x02\x40",
+            b"\x00\x06\x40\x00\x00\x08\x00\x01",
+            b"\x00\x01\x40\x01\x01\x40",
+            &[&[0, 33], &full[..33]].concat(),
+            &[&[0, 32], &full[..33]].concat(),
+        ] {
+            let rdata = [b"\xc0\x0c", window].concat();
+            assert_eq!(nsec(&rdata), (rdata, false));
+        }
+        for next in [
+            &b""[..],
+            b"\x00",
+            b"\xc0\x11",
+            b"\x04deck\xc0\x11",
+            b"\x01x\xc0\x0c",
+            b"\xc0\x0b",
+            b"\xc0\x28",
+            b"\xff\xff",
+            b"\x40",
+            b"\x3f",
+        ] {
+            let rdata = [next, b"\x00\x01\x40"].concat();
+            assert_eq!(nsec(&rdata), (rdata, false));
+        }
+    }
+
+    #[test]
+    fn an_nsec_that_its_rdata_cuts() {
+        // the pointer of the next name, and a label, end behind the rdata
+        for next in [&b"\xc0"[..], b"\x05dock", b""] {
+            let mut body = [
+                b"\x00\x00\x2f\x00\x01\x00\x00\x00\x09\x00",
+                &[next.len() as u8][..],
+            ]
+            .concat();
+            body.extend(next);
+            body.extend(b"\x0c\x00\x01\x40");
+            let read = Message::read(&message(0x8400, [0, 1, 0, 0], &body)).unwrap();
+            assert_eq!(read.records[0].rdata, next);
+            assert!(!read.records[0].is_restricted_nsec());
+        }
     }
 }

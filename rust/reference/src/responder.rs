@@ -5,7 +5,7 @@ use std::cmp::Ordering;
 use crate::message::{Message, Section};
 use crate::order;
 use crate::refusal::Refusal;
-use crate::setup::{ClaimName, Kind, OwnRecord, Setup};
+use crate::setup::{ClaimName, Kind, OwnRecord, Setup, KINDS};
 use crate::{class, compose, rtype, MOST_TIME};
 
 pub const LEAST_OUT: usize = 1452;
@@ -59,7 +59,7 @@ pub struct Responder {
     /// When the PTR reply is due, if one is set.
     pub reply: Option<u64>,
     /// When each own record was last multicast, by `Kind`.
-    pub multicast: [Option<u64>; 5],
+    pub multicast: [Option<u64>; KINDS],
 }
 
 /// A packet that a tick sent.
@@ -100,7 +100,7 @@ impl Default for Responder {
             instance: Claim::Lost,
             host: Claim::Lost,
             reply: None,
-            multicast: [None; 5],
+            multicast: [None; KINDS],
         }
     }
 }
@@ -156,8 +156,8 @@ impl Responder {
         self.take_probe(now, &message, ClaimName::Instance);
         self.take_probe(now, &message, ClaimName::Host);
 
-        // "SRV, TXT, A, AAAA go out at once in one packet. PTR is set for a
-        // reply at now plus the draw, unless one is already set"
+        // "SRV, TXT, A, AAAA go out at once in one packet", NSEC with them.
+        // "PTR is set for a reply at now plus the draw, unless one is already set"
         let (ptr, at_once): (Vec<_>, Vec<_>) = answers
             .into_iter()
             .partition(|record| record.kind == Kind::Ptr);
@@ -229,13 +229,6 @@ impl Responder {
         }
     }
 
-    /// The records a claim probes for and that can be in conflict.
-    fn claimed_records(&self, name: ClaimName) -> Vec<OwnRecord> {
-        let mut records = self.setup.records();
-        records.retain(|record| record.kind.is_claimed() && record.kind.claim() == name);
-        records
-    }
-
     /// "A kept time ahead of now counts as 0 ms ago."
     fn was_multicast_within(&self, kind: Kind, gap: u64, now: u64) -> bool {
         self.multicast[kind as usize].is_some_and(|time| now.saturating_sub(time) < gap)
@@ -245,7 +238,7 @@ impl Responder {
     /// are the claim's, TTL is not 0 and rdata differs. [...] One message counts
     /// once per claim".
     fn take_conflict(&mut self, now: u64, response: &Message, name: ClaimName) {
-        let own = self.claimed_records(name);
+        let own = self.setup.claimed_records(name);
         let conflict = response.records.iter().any(|record| {
             own.iter().any(|own| {
                 record.owner.equals(&own.owner)
@@ -300,6 +293,7 @@ impl Responder {
             return;
         };
         let ours = self
+            .setup
             .claimed_records(name)
             .iter()
             .map(|record| order::Entry {
@@ -320,7 +314,7 @@ impl Responder {
 
     /// The own records that are due for a query and not omitted.
     fn answers(&self, now: u64, query: &Message) -> Vec<OwnRecord> {
-        let mut records = self.setup.records();
+        let mut records = self.setup.all_records();
         records.retain(|record| {
             self.is_asked_for(query, record)
                 && !is_known(query, record)
@@ -335,9 +329,21 @@ impl Responder {
         self.claim(record.kind.claim()).is_held()
             && query.questions.iter().any(|question| {
                 question.name.equals(&record.owner)
-                    && (question.rtype == record.kind.rtype() || question.rtype == rtype::ANY)
+                    && self.is_asked_by(question.rtype, record)
                     && matches!(question.class(), class::IN | class::ANY)
             })
+    }
+
+    /// Whether a question of this type asks for a record under the same name: a
+    /// record's "type or 255"; NSEC is asked for by "a type other than 255
+    /// absent there", its own too.
+    fn is_asked_by(&self, rtype: u16, record: &OwnRecord) -> bool {
+        if !record.kind.is_negative() {
+            return rtype == record.kind.rtype() || rtype == rtype::ANY;
+        }
+        let claimed = self.setup.claimed_records(record.kind.claim());
+        let present = claimed.iter().any(|own| own.kind.rtype() == rtype);
+        rtype != rtype::ANY && !present
     }
 
     /// "(b) it was multicast less than 1,000 ms ago, 250 ms if the query is a
@@ -723,11 +729,22 @@ mod tests {
             (HOST_OTHER_CASE, 255, 255, vec![1]),
             (HOST, 1, 0x80ff, vec![1]),
             (HOST, 1, 3, vec![]),
-            (HOST, 28, 1, vec![]),
+            (HOST, 28, 1, vec![47]),
+            (HOST_OTHER_CASE, 28, 0x80ff, vec![47]),
+            (HOST, 28, 3, vec![]),
+            (HOST, 47, 255, vec![47]),
+            (HOST, 16, 1, vec![47]),
+            (HOST, 0, 1, vec![47]),
+            (HOST, 256, 1, vec![47]),
+            (HOST, 65_535, 1, vec![47]),
             (INSTANCE, 255, 1, vec![33, 16]),
             (INSTANCE, 16, 1, vec![16]),
-            (INSTANCE, 12, 1, vec![]),
+            (INSTANCE, 12, 1, vec![47]),
+            (INSTANCE, 1, 1, vec![47]),
+            (INSTANCE, 47, 1, vec![47]),
+            (INSTANCE, 33 + 256, 1, vec![47]),
             (SERVICE, 255, 1, vec![]),
+            (SERVICE, 12, 1, vec![]),
         ] {
             let mut responder = held();
             let questions: &[(&[u8], u16, u16)] = &[(name, rtype, class), (name, rtype, class)];
@@ -747,6 +764,77 @@ mod tests {
         let probe = host_probe(&[(HOST, 99, 3, 0, b"")]);
         assert_eq!(answered(&mut held(), 2249, &probe), []);
         assert_eq!(answered(&mut held(), 2250, &probe), [1]);
+    }
+
+    #[test]
+    fn nsec_has_gaps_and_known_answers_of_its_own() {
+        const HOST_RDATA: &[u8] = b"\x04dock\x05local\x00\x00\x01\x40";
+        let ask: &[(&[u8], u16, u16)] = &[(HOST, 28, 1), (INSTANCE, 28, 1)];
+        // never multicast yet: the gaps of the other records are not its own
+        let mut responder = held();
+        assert_eq!(answered(&mut responder, 2000, &query(ask, &[])), [47, 47]);
+        assert_eq!(answered(&mut responder, 2999, &query(ask, &[])), []);
+        assert_eq!(answered(&mut responder, 3000, &query(ask, &[])), [47, 47]);
+        assert_eq!(
+            answered(&mut responder, 3000, &query(&[(HOST, 1, 1)], &[])),
+            [1]
+        );
+        // a probe for the host, with a question for what the host doesn't have
+        let questions: &[(&[u8], u16, u16)] = &[(HOST, 255, 1), (HOST, 28, 1), (INSTANCE, 28, 1)];
+        let rival: &[TestRecord] = &[(HOST, 1, 1, 120, OWN_A)];
+        let probe = packet(0, questions, [&[], rival, &[]]);
+        assert_eq!(answered(&mut responder, 3249, &probe), []);
+        assert_eq!(answered(&mut responder, 3250, &probe), [1, 47]);
+        for (record, expected) in [
+            ((HOST, 47, 1, 60, HOST_RDATA), vec![]),
+            ((HOST, 47, 0x8001, 60, HOST_RDATA), vec![]),
+            ((HOST_OTHER_CASE, 47, 1, 60, HOST_RDATA), vec![]),
+            ((HOST, 47, 1, 59, HOST_RDATA), vec![47]),
+            ((HOST, 47, 3, 60, HOST_RDATA), vec![47]),
+            (
+                (HOST, 47, 1, 60, b"\x04Dock\x05local\x00\x00\x01\x40"),
+                vec![47],
+            ),
+            (
+                (HOST, 47, 1, 60, b"\x04dock\x05local\x00\x00\x02\x40\x00"),
+                vec![47],
+            ),
+        ] {
+            let message = query(&[(HOST, 28, 1)], &[record]);
+            assert_eq!(answered(&mut held(), 3000, &message), expected);
+        }
+    }
+
+    #[test]
+    fn nsec_never_conflicts() {
+        let mut responder = held();
+        let other: &[u8] = b"\x04dock\x05local\x00\x00\x01\x60";
+        receive(
+            &mut responder,
+            3000,
+            &response(&[(HOST, 47, 1, 120, other)]),
+        );
+        assert!(responder.host.is_held());
+        receive(
+            &mut responder,
+            3000,
+            &response(&[(HOST, 1, 1, 120, OTHER_A)]),
+        );
+        assert_eq!(
+            answered(&mut responder, 3000, &query(&[(HOST, 28, 1)], &[])),
+            []
+        );
+    }
+
+    #[test]
+    fn nsec_in_a_tiebreak() {
+        // of the restricted form or another, it is a record more than ours
+        for rdata in [&b"\xc0\x0c\x00\x01\x40"[..], b""] {
+            let rival: &[TestRecord] = &[(HOST, 1, 1, 120, OWN_A), (HOST, 47, 1, 120, rdata)];
+            let mut responder = probing();
+            receive(&mut responder, 1, &host_probe(rival));
+            assert_eq!(responder.host, Claim::Deferred { due: 1001 });
+        }
     }
 
     #[test]

@@ -1,4 +1,5 @@
-//! "Own records": the set-up, its check (refusal 7) and the five records.
+//! "Own records": the set-up, its check (refusal 7), the five records and the
+//! two NSEC records, which say what doesn't exist.
 
 use crate::name::Name;
 use crate::{rtype, txt};
@@ -28,7 +29,7 @@ pub enum ClaimName {
     Host,
 }
 
-/// The five records, in the order they have in responses.
+/// The five records and the two NSEC, in the order they have in responses.
 #[derive(Clone, Copy, Debug, PartialEq, Eq)]
 pub enum Kind {
     Ptr,
@@ -36,13 +37,25 @@ pub enum Kind {
     Txt,
     A,
     Aaaa,
+    InstanceNsec,
+    HostNsec,
 }
+
+pub const KINDS: usize = 7;
 
 #[derive(Clone, Debug)]
 pub enum Data {
     Pointer(Name),
-    Service { port: u16, target: Name },
+    Service {
+        port: u16,
+        target: Name,
+    },
     Bytes(Vec<u8>),
+    /// The next name of an NSEC, and its window block.
+    Negative {
+        next: Name,
+        window: Vec<u8>,
+    },
 }
 
 #[derive(Clone, Debug)]
@@ -60,28 +73,36 @@ impl Kind {
             Kind::Txt => rtype::TXT,
             Kind::A => rtype::A,
             Kind::Aaaa => rtype::AAAA,
+            Kind::InstanceNsec | Kind::HostNsec => rtype::NSEC,
         }
     }
 
-    /// "PTR ([...] TTL 4500), SRV ([...] TTL 120), TXT (4500), A (120), AAAA (120 [...])"
+    /// "PTR ([...] TTL 4500), SRV ([...] TTL 120), TXT (4500), A (120), AAAA (120
+    /// [...])"; of NSEC "that of the claim's shorter-lived record, 120"
     pub fn ttl(self) -> u32 {
         match self {
             Kind::Ptr | Kind::Txt => 4500,
             Kind::Srv | Kind::A | Kind::Aaaa => 120,
+            Kind::InstanceNsec | Kind::HostNsec => 120,
         }
     }
 
     /// The claim a record goes with; PTR only goes along with its announcements.
     pub fn claim(self) -> ClaimName {
         match self {
-            Kind::Ptr | Kind::Srv | Kind::Txt => ClaimName::Instance,
-            Kind::A | Kind::Aaaa => ClaimName::Host,
+            Kind::Ptr | Kind::Srv | Kind::Txt | Kind::InstanceNsec => ClaimName::Instance,
+            Kind::A | Kind::Aaaa | Kind::HostNsec => ClaimName::Host,
         }
     }
 
-    /// PTR is "neither probed for nor in conflict".
+    /// PTR is "neither probed for nor in conflict"; "NSEC never conflicts nor
+    /// stands in a probe".
     pub fn is_claimed(self) -> bool {
-        self != Kind::Ptr
+        self != Kind::Ptr && !self.is_negative()
+    }
+
+    pub fn is_negative(self) -> bool {
+        matches!(self, Kind::InstanceNsec | Kind::HostNsec)
     }
 }
 
@@ -92,8 +113,22 @@ impl OwnRecord {
             Data::Pointer(name) => name.wire().to_vec(),
             Data::Service { port, target } => [&srv_numbers(*port)[..], target.wire()].concat(),
             Data::Bytes(bytes) => bytes.clone(),
+            Data::Negative { next, window } => [next.wire(), window].concat(),
         }
     }
+}
+
+/// The window block of these types: the window's number, the length of the
+/// bitmap and the bitmap, which "has no trailing zero bytes".
+fn window(types: &[u16]) -> Vec<u8> {
+    let mut bitmap = vec![0_u8; 32];
+    for rtype in types {
+        bitmap[usize::from(rtype / 8)] |= 0x80 >> (rtype % 8);
+    }
+    while bitmap.last() == Some(&0) {
+        bitmap.pop();
+    }
+    [vec![0, bitmap.len() as u8], bitmap].concat()
 }
 
 /// "SRV (priority and weight 0 [...])" and the port.
@@ -216,6 +251,40 @@ impl Setup {
                 data: Data::Bytes(address.to_vec()),
             });
         }
+        records
+    }
+
+    /// The records a claim probes for and that can be in conflict.
+    pub fn claimed_records(&self, claim: ClaimName) -> Vec<OwnRecord> {
+        let mut records = self.records();
+        records.retain(|record| record.kind.is_claimed() && record.kind.claim() == claim);
+        records
+    }
+
+    /// The NSEC of a claim, "next name equal to the owner", with the types of
+    /// the claim's records.
+    fn negative(&self, kind: Kind) -> OwnRecord {
+        let claimed = self.claimed_records(kind.claim());
+        let types: Vec<u16> = claimed.iter().map(|record| record.kind.rtype()).collect();
+        OwnRecord {
+            kind,
+            owner: self.claim_name(kind.claim()),
+            data: Data::Negative {
+                next: self.claim_name(kind.claim()),
+                window: window(&types),
+            },
+        }
+    }
+
+    /// The two NSEC: "It is written after AAAA, the instance's first".
+    pub fn negatives(&self) -> [OwnRecord; 2] {
+        [Kind::InstanceNsec, Kind::HostNsec].map(|kind| self.negative(kind))
+    }
+
+    /// All that can stand in a response, in its order.
+    pub fn all_records(&self) -> Vec<OwnRecord> {
+        let mut records = self.records();
+        records.extend(self.negatives());
         records
     }
 }
@@ -359,6 +428,25 @@ pub mod tests {
         assert_eq!(
             records[1].rdata(),
             b"\x00\x00\x00\x00\x0f\xa0\x04dock\x05local\x00"
+        );
+    }
+
+    #[test]
+    fn the_two_nsec() {
+        let mut setup = example();
+        let instance = b"\x05booth\x06_voice\x04_tcp\x05local\x00\x00\x05\x00\x00\x80\x00\x40";
+        assert_eq!(setup.negatives()[0].rdata(), instance);
+        assert_eq!(setup.negatives()[0].owner.wire(), &instance[..25]);
+        let host = |window: &[u8]| [b"\x04dock\x05local\x00", window].concat();
+        assert_eq!(setup.negatives()[1].rdata(), host(b"\x00\x01\x40"));
+        setup.aaaa = Some([0; 16]);
+        assert_eq!(setup.negatives()[0].rdata(), instance);
+        let both = host(b"\x00\x04\x40\x00\x00\x08");
+        assert_eq!(setup.negatives()[1].rdata(), both);
+        let kinds = setup.all_records().into_iter().map(|record| record.kind);
+        assert_eq!(
+            kinds.map(|kind| kind as usize).collect::<Vec<_>>(),
+            [0, 1, 2, 3, 4, 5, 6]
         );
     }
 }

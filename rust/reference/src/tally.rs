@@ -4,6 +4,9 @@
 use std::collections::{BTreeMap, BTreeSet};
 use std::fmt;
 
+use crate::message::{Message, Record, Section};
+use crate::{class, rtype};
+
 pub struct Tally {
     counts: BTreeMap<String, u64>,
     /// The number of entries of the cache's table.
@@ -33,17 +36,52 @@ impl Tally {
             let label = line.split(' ').nth(3).unwrap_or_default();
             kinds.push(format!("start {answer} with {}", label_kind(label)));
         }
+        if call == "put" && answer.starts_with("cached") {
+            kinds.extend(nsec_put(line.split(' ').nth(3).unwrap_or_default()));
+        }
+        if call == "look" && answer.starts_with("slot") && line.split(' ').nth(3) == Some("47") {
+            kinds.push("look slot of NSEC".to_string());
+        }
         for kind in kinds {
             *self.counts.entry(kind).or_insert(0) += 1;
         }
     }
 }
 
+/// The bytes of a field, unless it is a hyphen.
+fn bytes_of(field: &str) -> Option<Vec<u8>> {
+    let digits = field.as_bytes().chunks(2);
+    let bytes = digits.map(|pair| u8::from_str_radix(&String::from_utf8_lossy(pair), 16));
+    bytes.collect::<Result<_, _>>().ok()
+}
+
+/// The records of a message in hex, if it is well formed.
+fn records_of(packet: &str) -> Vec<Record> {
+    let message = bytes_of(packet).and_then(|bytes| Message::read(&bytes).ok());
+    message.map_or(vec![], |message| message.records)
+}
+
+/// The kinds of NSEC in a message that was put, each once.
+fn nsec_put(packet: &str) -> BTreeSet<String> {
+    let mut kinds = BTreeSet::new();
+    for record in records_of(packet) {
+        if record.rtype == rtype::NSEC
+            && record.section != Section::Authority
+            && record.class() == class::IN
+        {
+            let form = match record.is_restricted_nsec() {
+                true => "a restricted NSEC",
+                false => "another NSEC",
+            };
+            kinds.insert(format!("put cached with {form}"));
+        }
+    }
+    kinds
+}
+
 /// What kind of text an instance label in hex is.
 fn label_kind(label: &str) -> &'static str {
-    let digits = label.as_bytes().chunks(2);
-    let bytes = digits.map(|pair| u8::from_str_radix(&String::from_utf8_lossy(pair), 16));
-    let Ok(bytes) = bytes.collect::<Result<Vec<u8>, _>>() else {
+    let Some(bytes) = bytes_of(label) else {
         return "no bytes"; // a hyphen
     };
     match String::from_utf8(bytes) {
@@ -71,7 +109,17 @@ fn kinds(call: &str, answer: &str, entries: &str) -> Vec<String> {
     match (call, fields.as_slice()) {
         (_, ["bad", "line"]) => vec!["bad line".to_string()],
         (_, ["refused", number]) => vec![format!("{call} refused {number}")],
-        (_, ["sent", packet]) => vec![format!("{call} sent {}", packet_kind(packet))],
+        (_, ["sent", packet]) => {
+            let mut kinds = vec![format!("{call} sent {}", packet_kind(packet))];
+            let nsec = records_of(packet)
+                .iter()
+                .filter(|record| record.rtype == rtype::NSEC)
+                .count();
+            if nsec > 0 {
+                kinds.push(format!("{call} sent response with {nsec} NSEC"));
+            }
+            kinds
+        }
         (_, ["sent", packet, "more"]) => {
             vec![format!("{call} sent {} more", packet_kind(packet))]
         }
@@ -100,7 +148,11 @@ fn kinds(call: &str, answer: &str, entries: &str) -> Vec<String> {
         }
         ("txt", ["value", source, ..]) => vec![format!("txt value {source}")],
         ("slot", ["slot", _, rtype, ..]) => {
-            let use_of = if *rtype == "0" { "unused" } else { "used" };
+            let use_of = match *rtype {
+                "0" => "unused",
+                "47" => "used by NSEC",
+                _ => "used",
+            };
             vec![format!("slot {use_of}")]
         }
         ("read", ["message", _, _, shown @ ..]) => {
@@ -144,6 +196,16 @@ fn names_read(mut fields: &[&str]) -> BTreeSet<String> {
                 add("owner", owner);
                 let rtype = if *rtype == "12" { "PTR" } else { "SRV" };
                 add(&format!("{rtype} target"), target);
+                rest
+            }
+            ["r", _, _, owner, _, "47", _, _, _, next, _, rest @ ..] if *next != "r" => {
+                add("owner", owner);
+                add("NSEC next name", next);
+                rest
+            }
+            ["r", _, _, owner, _, "47", _, _, _, rest @ ..] => {
+                add("owner", owner);
+                add("another NSEC owner", owner);
                 rest
             }
             ["r", _, _, owner, _, _, _, _, _, rest @ ..] => {

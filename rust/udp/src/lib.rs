@@ -14,11 +14,12 @@ pub mod respond;
 pub mod stop;
 pub mod strings;
 
-/// Record types that the browser asks for.
+/// Record types that the browser asks for, and NSEC, which says what there is none of.
 pub mod rtype {
     pub const A: u16 = 1;
     pub const PTR: u16 = 12;
     pub const TXT: u16 = 16;
     pub const AAAA: u16 = 28;
     pub const SRV: u16 = 33;
+    pub const NSEC: u16 = 47;
 }

@@ -65,7 +65,7 @@ chain c d e m n a b = record { entries = b .entries ∙ a .entries; store = b .s
 
 pub record-shape : (now : ℕ) (x : Record) (c : Cache) → Shaped c (takeRecord now x c) 1
 unfolding takeRecord
-record-shape now x c = go (isCached (x .class) (x .rtype))
+record-shape now x c = go (isCached x)
   where
     go : (b : Bool) → Shaped c (cond b (afterRule1 now x (rule1 now x c)) c) 1
     go true = chain c (rule1 now x c) (afterRule1 now x (rule1 now x c)) 0 1 (rule1-shape now x c) (after-shape now x (rule1 now x c))

@@ -84,7 +84,7 @@ module _ (now : ℕ) (x : Record) (c : Cache) where
 
 pub turned-exactly : TurnedExactly
 unfolding takeRecord
-turned-exactly now x c = go (isCached (x .class) (x .rtype))
+turned-exactly now x c = go (isCached x)
   where
     equal-is : found (equalSlot now x (rule1 now x c)) ≡ hasEqual now x c
     equal-is = ap found (rule1-equal now x c) ∙ equal-any now x c
@@ -102,7 +102,7 @@ turned-exactly now x c = go (isCached (x .class) (x .rtype))
 
 pub passed-exactly : PassedExactly
 unfolding takeRecord
-passed-exactly now x c = go (isCached (x .class) (x .rtype))
+passed-exactly now x c = go (isCached x)
   where
     go : (b : Bool) → cond b (afterRule1 now x (rule1 now x c)) c .passed ≡ c .passed + one (b && ltb 768 (length (x .rdata)))
     go true = passed-after now x (rule1 now x c) ∙ ap (λ (n : ℕ). n + one (ltb 768 (length (x .rdata)))) (rule1-passed now x c)

@@ -106,9 +106,9 @@ module _ (now : ℕ) (x : Record) (c : Cache) (i : ℕ) (h : i < length (c .entr
 -- the rules for one record evict no live entry
 pub record-evicts-none : (now : ℕ) (x : Record) (c : Cache) (i : ℕ) → i < length (c .entries) → isLive now (entryAt c i) ≡ true → Stays now c (takeRecord now x c) i
 unfolding takeRecord
-record-evicts-none now x c i h l = go (isCached (x .class) (x .rtype)) refl
+record-evicts-none now x c i h l = go (isCached x) refl
   where
-    go : (b : Bool) → isCached (x .class) (x .rtype) ≡ b → Stays now c (takeRecord now x c) i
+    go : (b : Bool) → isCached x ≡ b → Stays now c (takeRecord now x c) i
     go true e =
         let a = rule1-stays now x c i h l in
         let within : i < length (rule1 now x c .entries) = omega (arith, rule1-shape now x c .entries) in

@@ -22,7 +22,7 @@ use Rattle.cache.proofs.laws.Steps.{soon-by, rule1-equal, rule1-free, r
 use Rattle.cache.proofs.laws.Changes.{Change, as-was, aged, again, fresh, change}
 
 -- a record that is cached goes by the rules
-pub ruled : (now : ℕ) (x : Record) (c : Cache) → isCached (x .class) (x .rtype) ≡ true → takeRecord now x c ≡ afterRule1 now x (rule1 now x c)
+pub ruled : (now : ℕ) (x : Record) (c : Cache) → isCached x ≡ true → takeRecord now x c ≡ afterRule1 now x (rule1 now x c)
 unfolding takeRecord
 ruled now x c k = ap (λ (b : Bool). cond b (afterRule1 now x (rule1 now x c)) c) k
 

@@ -7,7 +7,11 @@ use native.Mathlib.Omega.{arith}
 use lib.ListN.{length, getD, set, drop, length-set}
 use lib.Seq.{sets, length-sets}
 use lib.Dec.{ltb, leb, eqb}
-use borrow.Author.Tests.{le-leb, ltb-false}
+use borrow.Author.Tests.{le-leb, ltb-false, eqb-true}
+use Rattle.wire.specs.rdata.Rdata.{formAt}
+use Rattle.wire.specs.rdata.Answers.{fits}
+use Rattle.wire.proofs.expansion.Views.{within}
+use Rattle.wire.proofs.rdata.Restricted.{by-content}
 use Rattle.wire.specs.message.Message.{Record, topBit}
 use Rattle.wire.specs.message.Readable.{recordShown}
 use Rattle.wire.specs.declared.message.RecordAt.{RecordAt}
@@ -15,7 +19,7 @@ use Rattle.wire.specs.declared.message.RecordRead.the-variants as r
 use Rattle.wire.proofs.message.Walk.{RecordMet}
 use Rattle.cache.specs.entries.Entries.{blank, isFree, isOld, soon, flushed}
 use Rattle.cache.specs.entries.Tables.{lowest, each}
-use Rattle.cache.specs.entries.Cache.{Cache, withEntries, isCached, rule1, goodbye, taken, renewed, equalSlot, freeSlot, slotFor, rule23, afterRule1, takeRecord}
+use Rattle.cache.specs.entries.Cache.{Cache, withEntries, cachedAs, isCached, rule1, goodbye, taken, renewed, equalSlot, freeSlot, slotFor, rule23, afterRule1, takeRecord}
 use Rattle.cache.specs.declared.entries.Entry.{Entry}
 use Rattle.cache.specs.declared.entries.Slot.{Slot}
 use Rattle.cache.specs.declared.entries.Slot.the-variants.{At, Nowhere}
@@ -99,7 +103,7 @@ module _ (h : Heard) (s : Seen) where
   -- only a record that is whole and fits a slot fills one
   pub fills : chosenOf h s .kind ≡ 3 → (h .whole ≡ true) × (h .len ≤ 768)
   unfolding chosenOf isTaken
-  fills k = go (h .whole) refl (isCached (h .at .class) (h .at .rtype)) (ltb 768 (h .len)) refl k
+  fills k = go (h .whole) refl (cachedAs (h .at .class) (h .at .rtype) (h .named)) (ltb 768 (h .len)) refl k
     where
       none : _≡_ {A = ℕ} 0 3 → ⊥
       none z = omega arith
@@ -231,9 +235,18 @@ module _ (now : ℕ) (p : List ℕ) (at : ℕ) (f : RecordAt) (met : RecordMet p
           ∙ ap (λ (a : Slot). changedCache now p h (chosenSlot (eqb (f .ttl) 0) a (seen .free)) c) same
           ∙ by-slot c (eqb (f .ttl) 0) (equalSlot now x c) (seen .free) (λ none. seen-free now (c .store) p h (c .entries) (equal-is c ∙ none) ∙ free-is c)
 
-  is-taken : {b : Bool} → isCached (f .class) (f .rtype) ≡ b → isTaken h ≡ b
+  -- the form of an NSEC that was read says of which kind it is; that of another type is not asked
+  kind-is : cachedAs (f .class) (f .rtype) (formAt p f .named) ≡ isCached x
+  unfolding cachedAs
+  kind-is = go (eqb (f .rtype) 47) refl
+    where
+      go : (b : Bool) → eqb (f .rtype) 47 ≡ b → cachedAs (f .class) (f .rtype) (formAt p f .named) ≡ isCached x
+      go true e = ap (cachedAs (f .class) (f .rtype)) (by-content p f (eqb-true _ _ e) (within p f (ap fits (met .content))) (x .owner) (met .end) (met .owner))
+      go false e = simp e
+
+  is-taken : {b : Bool} → isCached x ≡ b → isTaken h ≡ b
   unfolding isTaken
-  is-taken e = e
+  is-taken e = kind-is ∙ e
 
   steps : (c : Cache) → isTaken h ≡ true → takeHeard now p h c ≡ afterRule1 now x (withEntries (flushedIn now (c .store) p h (c .entries)) c)
   unfolding takeHeard
@@ -263,8 +276,8 @@ module _ (now : ℕ) (p : List ℕ) (at : ℕ) (f : RecordAt) (met : RecordMet p
 
   pub as-shown : (c : Cache) → takeHeard now p h c ≡ takeRecord now x c
   unfolding takeRecord
-  as-shown c = go (isCached (f .class) (f .rtype)) refl
+  as-shown c = go (isCached x) refl
     where
-      go : (b : Bool) → isCached (f .class) (f .rtype) ≡ b → takeHeard now p h c ≡ cond b (afterRule1 now x (rule1 now x c)) c
+      go : (b : Bool) → isCached x ≡ b → takeHeard now p h c ≡ cond b (afterRule1 now x (rule1 now x c)) c
       go true e = steps c (is-taken e) ∙ ap (afterRule1 now x) (rule1-is c (is-taken e))
       go false e = left-alone now p h c (is-taken e)

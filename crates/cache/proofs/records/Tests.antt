@@ -11,7 +11,7 @@ use Rattle.wire.specs.names.Answers.{nameIs}
 use Rattle.wire.specs.rdata.Rdata.{rdataAt}
 use Rattle.wire.specs.expansion.Equal.{rdataIs}
 use Rattle.cache.specs.entries.Entries.{slotOf, isLive, soon}
-use Rattle.cache.specs.entries.Cache.{isCached}
+use Rattle.cache.specs.entries.Cache.{cachedAs}
 use Rattle.cache.specs.declared.entries.Entry.{Entry}
 use Rattle.cache.specs.declared.entries.Slot.{Slot}
 use Rattle.cache.specs.declared.entries.Slot.the-variants.{At, Nowhere}
@@ -24,7 +24,7 @@ module _ (h : Heard) where
   unfolding isTaken
   taken-not n = sym (simp n)
 
-  pub taken-is : h .whole ≡ true → (b : Bool) → b ≡ isCached (h .at .class) (h .at .rtype) → b ≡ isTaken h
+  pub taken-is : h .whole ≡ true → (b : Bool) → b ≡ cachedAs (h .at .class) (h .at .rtype) (h .named) → b ≡ isTaken h
   unfolding isTaken
   taken-is w b is = is ∙ sym (simp w)
 

@@ -12,7 +12,7 @@ use Rattle.wire.specs.expansion.Equal.{sameBytes, rdataIs}
 use Rattle.wire.specs.expansion.Opened.{openedAt, viewOf}
 use Rattle.wire.specs.declared.expansion.Opened.{Opened}
 use Rattle.wire.proofs.expansion.Views.{view-is}
-use Rattle.wire.specs.rdata.Rdata.{Rdata, rdata, rdataAt}
+use Rattle.wire.specs.rdata.Rdata.{Rdata, rdata, rdataAt, formAt}
 use Rattle.wire.specs.rdata.Answers.{fits, dataOf}
 use Rattle.wire.specs.message.Message.{Record}
 use Rattle.wire.specs.message.Readable.{wholeRead, recordShown}
@@ -49,14 +49,14 @@ bytes-swap (x ∷ xs) (y ∷ ys) = ap₂ (λ (m n : Bool). m && n) (eqb-swap x y
 -- the record at an offset, from what the code has read
 module _ (p : List ℕ) (at : ℕ) (a : RecordRead) (is : a ≡ wholeRead p at) where
   pub heard-found : (f : RecordAt) → a ≡ r.Found f → (o : Opened) → o ≡ openedAt p f → (seen : List ℕ) → seen ≡ viewOf p (o .bytes) (o .len) f
-      → _≡_ {A = Heard} (record { whole = true; at = f; len = length seen }) (heardAt p at)
+      → (named : Bool) → named ≡ formAt p f .named → _≡_ {A = Heard} (record { whole = true; at = f; len = length seen; named = named }) (heardAt p at)
   unfolding heardAt
-  heard-found f e o opened seen s =
+  heard-found f e o opened seen s named n =
       let met : RecordMet p at f = record-found p at a is f e in
       let bytes : rdata seen ≡ rdataAt p f = ap rdata s ∙ sym (view-is p f (ap fits (met .content)) o opened) in
-      ap (λ (d : Rdata). record { whole = true; at = f; len = length (dataOf d) }) bytes ∙ ap (heardOf p) (sym e ∙ is)
+      ap₂ (λ (d : Rdata) (b : Bool). record { whole = true; at = f; len = length (dataOf d); named = b }) bytes n ∙ ap (heardOf p) (sym e ∙ is)
 
-  pub heard-not : a ≡ r.Malformed → _≡_ {A = Heard} (record { whole = false; at = blankRecord; len = 0 }) (heardAt p at)
+  pub heard-not : a ≡ r.Malformed → _≡_ {A = Heard} (record { whole = false; at = blankRecord; len = 0; named = false }) (heardAt p at)
   unfolding heardAt
   heard-not e = ap (heardOf p) (sym e ∙ is)
 

@@ -9,6 +9,7 @@ use lib.Dec.{ltb, leb, eqb}
 use Rattle.wire.specs.Lists.{some}
 use Rattle.wire.specs.refusals.Numbers.{TIME, MALFORMED, TABLE, firstRefusal}
 use Rattle.wire.specs.names.Names.{isName}
+use Rattle.wire.specs.nsec.Nsec.{isNsec}
 use Rattle.wire.specs.message.Message.{Record, Message, classOf, topBit, isResponse}
 use Rattle.wire.specs.message.Layout.{Reads, read, refused, messageAt}
 use Rattle.wire.specs.message.Refusals.{messageTests}
@@ -29,9 +30,13 @@ pub record Cache : Type 0 where
 abbrev pub withEntries : List Entry → Cache → Cache
 withEntries es c = record { entries = es; store = c .store; turned = c .turned; passed = c .passed }
 
--- "of class 1 and the five types"
-unfoldable pub isCached : ℕ → ℕ → Bool
-isCached class rtype = eqb (classOf class) 1 && (eqb rtype 1 || (eqb rtype 12 || (eqb rtype 16 || (eqb rtype 28 || eqb rtype 33))))
+-- "of class 1 and the five types", and the sixth, an NSEC (47) of the restricted kind
+unfoldable pub cachedAs : ℕ → ℕ → Bool → Bool
+cachedAs class rtype restricted =
+    eqb (classOf class) 1 && (eqb rtype 1 || (eqb rtype 12 || (eqb rtype 16 || (eqb rtype 28 || (eqb rtype 33 || (eqb rtype 47 && restricted))))))
+
+abbrev pub isCached : Record → Bool
+isCached r = cachedAs (r .class) (r .rtype) (isNsec (r .owner) (r .rdata))
 
 -- 1. "With the top class bit: for every live entry of that name and type received more than 1,000 ms ago, expiry becomes the lesser of itself and
 -- now plus 1,000."
@@ -84,7 +89,7 @@ afterRule1 now r c =
 
 -- the rules for one record
 unfoldable pub takeRecord : ℕ → Record → Cache → Cache
-takeRecord now r c = cond (isCached (r .class) (r .rtype)) (afterRule1 now r (rule1 now r c)) c
+takeRecord now r c = cond (isCached r) (afterRule1 now r (rule1 now r c)) c
 
 -- the records of a list, "in message order"
 unfoldable pub takeRecords : ℕ → List Record → Cache → Cache

@@ -25,11 +25,11 @@ allLive now c = not (anyFrom (isFree now) 0 (c .entries))
 
 -- a record is one to be turned away: its TTL is not 0, its rdata is at most 768 bytes, no live entry equals it and all entries are live
 abbrev pub isTurnedAway : ℕ → Record → Cache → Bool
-isTurnedAway now x c = isCached (x .class) (x .rtype) && (not (ltb 768 (length (x .rdata))) && (not (eqb (x .ttl) 0) && (not (hasEqual now x c) && allLive now c)))
+isTurnedAway now x c = isCached x && (not (ltb 768 (length (x .rdata))) && (not (eqb (x .ttl) 0) && (not (hasEqual now x c) && allLive now c)))
 
 -- a record is one to be passed over: its rdata is over 768 bytes, whatever its TTL
 abbrev pub isPassedOver : Record → Bool
-isPassedOver x = isCached (x .class) (x .rtype) && ltb 768 (length (x .rdata))
+isPassedOver x = isCached x && ltb 768 (length (x .rdata))
 
 -- 1 where a test holds
 abbrev pub one : Bool → ℕ

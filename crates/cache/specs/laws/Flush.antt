@@ -14,12 +14,12 @@ use Rattle.cache.specs.laws.Slots.{entryAt}
 -- before stays live beyond now plus 1,000, unless it equals that record.
 abbrev pub FlushDone : Type 0
 FlushDone =
-    (now : ℕ) (x : Record) (c : Cache) → isCached (x .class) (x .rtype) ≡ true → topBit (x .class) ≡ true → (i : ℕ) → i < length (c .entries)
+    (now : ℕ) (x : Record) (c : Cache) → isCached x ≡ true → topBit (x .class) ≡ true → (i : ℕ) → i < length (c .entries)
     → liveOf now (c .store) (x .owner) (x .rtype) i (entryAt c i) ≡ true → entryAt c i .received + 1000 < now
     → (entryAt (takeRecord now x c) i .expiry ≤ now + 1000) ⊎ (holds now (c .store) (x .owner) (x .rtype) (x .rdata) i (entryAt c i) ≡ true)
 
 -- `goodbye-done`, "TTL 0": a goodbye leaves the lowest live equal entry live for at most 1,000 ms.
 abbrev pub GoodbyeDone : Type 0
 GoodbyeDone =
-    (now : ℕ) (x : Record) (c : Cache) → isCached (x .class) (x .rtype) ≡ true → x .ttl ≡ 0 → length (x .rdata) ≤ 768 → (i : ℕ) → equalSlot now x c ≡ At i
+    (now : ℕ) (x : Record) (c : Cache) → isCached x ≡ true → x .ttl ≡ 0 → length (x .rdata) ≤ 768 → (i : ℕ) → equalSlot now x c ≡ At i
     → entryAt (takeRecord now x c) i .expiry ≤ now + 1000

@@ -31,7 +31,7 @@ pub record Entered (now : ℕ) (x : Record) (i : ℕ) (c : Cache) : Type 0 where
 abbrev pub TakenFound : Type 0
 TakenFound =
     (now : ℕ) (x : Record) (c : Cache) (i : ℕ) → length (x .owner) ≤ 255 → length (x .rdata) ≤ 768 → 1024 * length (c .entries) ≤ length (c .store)
-    → isCached (x .class) (x .rtype) ≡ true → (x .ttl ≡ 0 → ⊥) → goesTo now c (equalSlot now x c) ≡ At i → Entered now x i (takeRecord now x c)
+    → isCached x ≡ true → (x .ttl ≡ 0 → ⊥) → goesTo now c (equalSlot now x c) ≡ At i → Entered now x i (takeRecord now x c)
 
 -- the entry in slot i is live, and found for the record
 pub record Remains (now : ℕ) (x : Record) (i : ℕ) (c : Cache) : Type 0 where
@@ -44,5 +44,5 @@ abbrev pub FoundAfter : Type 0
 FoundAfter =
     (now : ℕ) (before : List Record) (x : Record) (later : List Record) (c₀ : Cache) (i : ℕ) (c : Cache) → c ≡ takeRecords now before c₀
     → length (x .owner) ≤ 255 → length (x .rdata) ≤ 768 → 1024 * length (c .entries) ≤ length (c .store)
-    → isCached (x .class) (x .rtype) ≡ true → (x .ttl ≡ 0 → ⊥) → goesTo now c (equalSlot now x c) ≡ At i
+    → isCached x ≡ true → (x .ttl ≡ 0 → ⊥) → goesTo now c (equalSlot now x c) ≡ At i
     → Remains now x i (takeRecords now (before ++ (x ∷ later)) c₀)

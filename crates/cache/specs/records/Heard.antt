@@ -6,7 +6,7 @@ use mathlib.Core.Bool.{Bool, true, false, cond, _&&_}
 use lib.ListN.{length}
 use lib.Dec.{ltb, leb, eqb}
 use Rattle.wire.specs.names.Answers.{nameIs}
-use Rattle.wire.specs.rdata.Rdata.{rdataAt}
+use Rattle.wire.specs.rdata.Rdata.{rdataAt, formAt}
 use Rattle.wire.specs.rdata.Answers.{dataOf}
 use Rattle.wire.specs.expansion.Equal.{rdataIs}
 use Rattle.wire.specs.message.Message.{topBit}
@@ -15,7 +15,7 @@ use Rattle.wire.specs.declared.message.RecordAt.{RecordAt}
 use Rattle.wire.specs.declared.message.RecordRead.{RecordRead}
 use Rattle.wire.specs.declared.message.RecordRead.the-variants as r
 use Rattle.cache.specs.entries.Entries.{ownerHeld, rdataHeld, isLive, isOld, soon}
-use Rattle.cache.specs.entries.Cache.{isCached}
+use Rattle.cache.specs.entries.Cache.{cachedAs}
 use Rattle.cache.specs.declared.entries.Entry.{Entry}
 use Rattle.cache.specs.declared.entries.Slot.{Slot}
 use Rattle.cache.specs.declared.entries.Slot.the-variants.{At, Nowhere}
@@ -28,15 +28,15 @@ abbrev pub blankRecord : RecordAt
 blankRecord = record { owner = 0; span = record { end = 0; len = 0; labels = 0; first = 0 }; rtype = 0; class = 0; ttl = 0; rdata = 0; rdlength = 0; next = 0 }
 
 abbrev pub heardOf : List ℕ → RecordRead → Heard
-heardOf p (r.Found f) = record { whole = true; at = f; len = length (dataOf (rdataAt p f)) }
-heardOf p r.Malformed = record { whole = false; at = blankRecord; len = 0 }
+heardOf p (r.Found f) = record { whole = true; at = f; len = length (dataOf (rdataAt p f)); named = formAt p f .named }
+heardOf p r.Malformed = record { whole = false; at = blankRecord; len = 0; named = false }
 
 unfoldable pub heardAt : List ℕ → ℕ → Heard
 heardAt p at = heardOf p (wholeRead p at)
 
 -- the rules are for it; rule 1 is, with the top class bit; rules 2 and 3 are, where its rdata fits a slot
 unfoldable pub isTaken : Heard → Bool
-isTaken h = h .whole && isCached (h .at .class) (h .at .rtype)
+isTaken h = h .whole && cachedAs (h .at .class) (h .at .rtype) (h .named)
 
 unfoldable pub isFlushing : Heard → Bool
 isFlushing h = topBit (h .at .class) && isTaken h

@@ -118,5 +118,5 @@ abbrev pub multicast : ℕ → ℕ
 multicast i = multicasts + i * caseSize
 
 -- the sizes that c/include/kurgashel.h tells its callers
-pub header : (setupSize ≡ 579) × (stateSize ≡ 667)
+pub header : (setupSize ≡ 579) × (stateSize ≡ 685)
 header = (refl, refl)

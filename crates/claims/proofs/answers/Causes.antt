@@ -10,7 +10,7 @@ use Rattle.claims.specs.records.Sets.{atOnce}
 use Rattle.claims.specs.Time.{afterMs, recently, sentOf, marked, markedAll}
 use Rattle.claims.specs.Claims.{heldNow, claimOf}
 use Rattle.claims.specs.declared.records.Own.{Own}
-use Rattle.claims.specs.declared.records.Own.the-variants.{Ptr, Srv, Txt, A, Aaaa}
+use Rattle.claims.specs.declared.records.Own.the-variants.{Ptr}
 use Rattle.claims.specs.declared.When.the-variants.{Never, At}
 use Rattle.claims.specs.declared.Progress.{Progress}
 use Rattle.claims.specs.answers.Answers.{heardFor, isDue, isOmitted, isWanted, gapOf, wantedOf, receiveOf}
@@ -115,7 +115,7 @@ module _ (progress : Progress) (now : ℕ) (f : Facts) (aaaa : Bool) where
       record { query = p .0; held = p .1; there = p .2; asked = p .3 }
 
   module _ (draw : ℕ) where
-    -- A record that goes at once, as SRV, TXT, A and AAAA do, goes out where it is wanted; and PTR never does.
+    -- A record that goes at once, as all but PTR do, goes out where it is wanted; and PTR never does.
     pub at-once : (r : Own) → goesAtOnce r ≡ true → has r (receiveOf progress now draw f aaaa .answers) ≡ has r (wantedOf progress f now aaaa)
     unfolding receiveOf atOnce
     at-once r e = has-each (λ o. goesAtOnce o && has o (wantedOf progress f now aaaa)) r ∙ rw e

@@ -8,7 +8,6 @@ use native.Mathlib.Omega.{arith}
 use lib.ListN.{length, getD, set, replicate}
 use Rattle.claims.specs.records.Own.{all, records, indexOf, recordAt, each}
 use Rattle.claims.specs.declared.records.Own.{Own}
-use Rattle.claims.specs.declared.records.Own.the-variants.{Ptr, Srv, Txt, A, Aaaa}
 use Rattle.claims.specs.declared.records.Set.{Set}
 
 -- an array of `none`, filled for the first `n` records

@@ -13,37 +13,32 @@ use Rattle.claims.specs.Time.{eachLast, sentOf}
 use Rattle.claims.specs.declared.When.{When}
 use Rattle.claims.specs.declared.records.Own.{Own}
 use Rattle.claims.specs.declared.records.Set.{Set}
-use Rattle.claims.specs.declared.records.Own.the-variants.{Ptr, Srv, Txt, A, Aaaa}
+use Rattle.claims.specs.declared.records.Own.the-variants.{Ptr, Srv, Txt, A, Aaaa, InstanceNsec, HostNsec}
+
+-- what holds of each own record holds of all
+pub by-record : (P : Own → Type 0) → P Ptr → P Srv → P Txt → P A → P Aaaa → P InstanceNsec → P HostNsec → (o : Own) → P o
+by-record P ptr srv txt a aaaa instance host Ptr = ptr
+by-record P ptr srv txt a aaaa instance host Srv = srv
+by-record P ptr srv txt a aaaa instance host Txt = txt
+by-record P ptr srv txt a aaaa instance host A = a
+by-record P ptr srv txt a aaaa instance host Aaaa = aaaa
+by-record P ptr srv txt a aaaa instance host InstanceNsec = instance
+by-record P ptr srv txt a aaaa instance host HostNsec = host
 
 pub has-each : (test : Own → Bool) (o : Own) → has o (each test) ≡ test o
-has-each test Ptr = refl
-has-each test Srv = refl
-has-each test Txt = refl
-has-each test A = refl
-has-each test Aaaa = refl
+has-each test = by-record (λ o. has o (each test) ≡ test o) refl refl refl refl refl refl refl
 
 pub index-low : (o : Own) → indexOf o < records
-index-low Ptr = omega arith
-index-low Srv = omega arith
-index-low Txt = omega arith
-index-low A = omega arith
-index-low Aaaa = omega arith
+index-low =
+    by-record (λ o. indexOf o < records) (omega arith) (omega arith) (omega arith) (omega arith) (omega arith) (omega arith) (omega arith)
 
 pub sent-each : (last : Own → When) (o : Own) → sentOf o (eachLast last) ≡ last o
-sent-each last Ptr = refl
-sent-each last Srv = refl
-sent-each last Txt = refl
-sent-each last A = refl
-sent-each last Aaaa = refl
+sent-each last = by-record (λ o. sentOf o (eachLast last) ≡ last o) refl refl refl refl refl refl refl
 
 -- the record of the index of a record
 pub at-index : (o : Own) → recordAt (indexOf o) ≡ o
 unfolding recordAt
-at-index Ptr = refl
-at-index Srv = refl
-at-index Txt = refl
-at-index A = refl
-at-index Aaaa = refl
+at-index = by-record (λ o. recordAt (indexOf o) ≡ o) refl refl refl refl refl refl refl
 
 -- ---- a test of every element
 
@@ -68,11 +63,7 @@ every-at test o h = subst (λ (p : Own). test p ≡ true) (at-index o) (every-in
 -- the flag of one record
 pub only-flag : (o : Own) (i : ℕ) → i ≡ indexOf o → (r : Set) → r ≡ each (λ p. getD (set (replicate records false) i true) (indexOf p) false) → r ≡ only o
 unfolding only
-only-flag o i e r h = h ∙ ap (λ (k : ℕ). each (λ p. getD (set (replicate records false) k true) (indexOf p) false)) e ∙ go o
-  where
-    go : (p : Own) → each (λ q. getD (set (replicate records false) (indexOf p) true) (indexOf q) false) ≡ each (λ q. eqb (indexOf q) (indexOf p))
-    go Ptr = refl
-    go Srv = refl
-    go Txt = refl
-    go A = refl
-    go Aaaa = refl
+only-flag o i e r h =
+    h ∙ ap (λ (k : ℕ). each (λ p. getD (set (replicate records false) k true) (indexOf p) false)) e
+    ∙ by-record (λ p. each (λ q. getD (set (replicate records false) (indexOf p) true) (indexOf q) false) ≡ each (λ q. eqb (indexOf q) (indexOf p)))
+    refl refl refl refl refl refl refl o

@@ -2,7 +2,7 @@
 use mathlib.Core.List.{List, [], _∷_}
 use mathlib.Core.Bool.{Bool, true, false, cond, _&&_, _||_}
 use lib.Dec.{eqb}
-use Rattle.claims.specs.records.Own.{all, indexOf, claimFor, sameClaim, present, goesAtOnce, has, each, claimed}
+use Rattle.claims.specs.records.Own.{all, indexOf, claimFor, sameClaim, present, carriesData, goesAtOnce, has, each, claimed}
 use Rattle.claims.specs.declared.records.Claim.{Claim}
 use Rattle.claims.specs.declared.records.Own.{Own}
 use Rattle.claims.specs.declared.records.Set.{Set}
@@ -36,10 +36,10 @@ anyOf set = someOf (λ o. has o set) all
 unfoldable pub atOnce : Set → Set
 atOnce set = each (λ o. goesAtOnce o && has o set)
 
--- the records that go with a claim
+-- the records that are announced for a claim: those that go with it and carry data
 unfoldable pub recordsOf : Claim → Bool → Set
-recordsOf claim aaaa = each (λ o. sameClaim (claimFor o) claim && present o aaaa)
+recordsOf claim aaaa = each (λ o. sameClaim (claimFor o) claim && (carriesData o && present o aaaa))
 
--- a set has a record under the claim's name: PTR's owner is the service name
+-- a set has a record that carries data under the claim's name: PTR's owner is the service name
 abbrev pub under : Claim → Set → Bool
 under claim set = someOf (λ o. has o set) (claimed claim)

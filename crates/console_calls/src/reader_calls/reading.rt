@@ -37,7 +37,7 @@ fn question(p: &[u8], q: wire::message::QuestionAt, text: &mut [u8; 4096], used:
     number(text, used, q.class as u64)
 }
 
-// Adds the rdata of a record, the names in PTR and SRV expanded.
+// Adds the rdata of a record, the name in PTR, SRV and NSEC expanded.
 fn rdata(p: &[u8], r: wire::message::RecordAt, text: &mut [u8; 4096], used: usize) -> usize {
     let opened = wire::expansion::open(p, r);
     let b = opened.bytes;
@@ -45,20 +45,20 @@ fn rdata(p: &[u8], r: wire::message::RecordAt, text: &mut [u8; 4096], used: usiz
     bytes(text, used, wire::expansion::view(p, &b, n, r))
 }
 
-// Adds the two numbers of the name in rdata that holds one, as that of PTR and SRV does.
+// Adds the two numbers of the name in rdata that holds one, as that of PTR, SRV and an NSEC of the restricted kind does.
 fn target(p: &[u8], r: wire::message::RecordAt, text: &mut [u8; 4096], used: usize) -> usize {
-    let held = wire::rdata::form_of(r.rtype);
+    let d = wire::rdata::part(p, r.rdata, r.rdlength);
+    let held = wire::rdata::form_in(p, r, d);
     if !held.named {
         return used;
     }
-    let d = wire::rdata::part(p, r.rdata, r.rdlength);
-    match wire::rdata::name_in(p, r.rdata, d, held.before) {
+    match wire::rdata::name_in(p, r.rdata, d, held.before, held.behind) {
         wire::names::Name::Found(span) => numbers(span, text, used),
         wire::names::Name::Malformed => used,
     }
 }
 
-// Adds a record: ` r SECTION NAME LABELS FIRST TYPE CLASS TTL RDATA`, and behind the rdata of PTR and SRV ` LABELS FIRST` of its target.
+// Adds a record: ` r SECTION NAME LABELS FIRST TYPE CLASS TTL RDATA`, and behind the rdata of PTR, SRV and NSEC ` LABELS FIRST` of the name in it.
 fn record(
     p: &[u8],
     r: wire::message::RecordAt,

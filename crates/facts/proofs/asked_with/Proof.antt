@@ -4,17 +4,16 @@ use mathlib.Core.Path.{_≡_, ap, _∙_}
 use mathlib.Core.Bool.{false, _||_}
 use native.Mathlib.Omega.{arith}
 use Rattle.wire.specs.message.Readable.{questionShown}
-use Rattle.claims.specs.records.Own.{records, ownType, has}
+use Rattle.claims.specs.records.Own.{records, has}
 use Rattle.claims.proofs.records.Filled.{filled, none-filled, next-filled, set-filled}
-use Rattle.own.specs.records.Records.{ownName}
-use Rattle.facts.specs.Questions.{asksFor}
+use Rattle.facts.specs.Facts.{asksOwn}
 use borrow.Author.Needs.{needs}
 use Rattle.facts.proofs.asked_with.Statement.{statement}
 use Rattle.facts.proofs.asked_with.Tie as tie
 
 abbrev Inv-loop : tie.InvT-loop
 Inv-loop p q setup asked flags₀ i₀ flags i =
-    (i ≤ records) × (flags ≡ filled false (λ o. has o asked || asksFor (ownName setup o) (ownType o) (questionShown p q)) i)
+    (i ≤ records) × (flags ≡ filled false (λ o. has o asked || asksOwn setup o (questionShown p q)) i)
 
 abbrev μ-loop : tie.MeasureT-loop
 μ-loop p q setup asked flags₀ i₀ flags i = records - i
@@ -42,7 +41,7 @@ loop-again c = (
   omega arith,
   let a = c .before .before .before .before .before .args in
       next-filled false _ _ _ _ (c .before .before .before .loop .inv .1)
-      (c .is-asked .ensures ∙ ap (λ (o : Own). has o (a .asked) || asksFor (ownName (a .setup) o) (ownType o) (questionShown (a .p .now) (a .q)))
+      (c .is-asked .ensures ∙ ap (λ (o : Own). has o (a .asked) || asksOwn (a .setup) o (questionShown (a .p .now) (a .q)))
       (c .before .record-at .ensures)),
 )
 

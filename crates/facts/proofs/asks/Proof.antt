@@ -7,35 +7,29 @@ use borrow.Author.Needs.{needs}
 use Rattle.facts.proofs.asks.Statement.{statement}
 use Rattle.facts.proofs.asks.Tie as tie
 
+returns : tie.Need-returns
+returns c =
+    let a = c .before .before .before .args in
+    asks-type (a .name .now) (a .takes) (questionShown (a .p .now) (a .q)) (not-true _ (c .if1 .taken))
+
 takes-in-requires : tie.Need-takes-in-requires
 takes-in-requires c κs = search needs
 
-returns : tie.Need-returns
-returns c =
-    let a = c .before .before .before .before .args in
-    asks-type (a .name .now) (a .rtype) (questionShown (a .p .now) (a .q)) _ (c .before .takes-in .ensures) (not-true _ (c .if1 .taken))
-
-takes-in-requires-2 : tie.Need-takes-in-requires-2
-takes-in-requires-2 c κs = search needs
-
 returns-2 : tie.Need-returns-2
 returns-2 c =
-    let a = c .before .before .before .before .before .before .before .args in
-    asks-class (a .name .now) (a .rtype) (questionShown (a .p .now) (a .q)) _ (c .before .takes-in2 .ensures) (not-true _ (c .if2 .taken))
+    let a = c .before .before .before .before .before .before .args in
+    asks-class (a .name .now) (a .takes) (questionShown (a .p .now) (a .q)) _ (c .before .takes-in .ensures) (not-true _ (c .if2 .taken))
 
 name-is-requires : tie.Need-name-is-requires
 name-is-requires c κs = search needs
 
 returns-3 : tie.Need-returns-3
 returns-3 c =
-    let b = c .before .before .before .before .before .before .before .before in
+    let b = c .before .before .before .before .before .before .before in
     let a = b .args in
     let m = question-found (a .p .now) (b .pre .0) _ (sym (b .pre .1)) (a .q) refl in
-    asks-name (a .name .now) (a .rtype) (questionShown (a .p .now) (a .q)) _ _ (c .before .before .before .before .before .takes-in .ensures)
-    (not-false _ (c .before .before .before .before .if1 .left)) (c .before .before .takes-in2 .ensures) (not-false _ (c .before .if2 .left)) _
-    (c .name-is .ensures ∙ m .named (a .name .now))
+    asks-name (a .name .now) (a .takes) (questionShown (a .p .now) (a .q)) (not-false _ (c .before .before .before .before .if1 .left)) _
+    (c .before .before .takes-in .ensures) (not-false _ (c .before .if2 .left)) _ (c .name-is .ensures ∙ m .named (a .name .now))
 
 pub asks-spec : {M : Type 1} → statement M
-asks-spec =
-    tie.close
-    (tie.spec takes-in-requires returns takes-in-requires-2 returns-2 name-is-requires returns-3)
+asks-spec = tie.close (tie.spec returns takes-in-requires returns-2 name-is-requires returns-3)

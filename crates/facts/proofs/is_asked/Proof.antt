@@ -1,9 +1,11 @@
 use mathlib.Core.Path.{_∙_}
+use mathlib.Core.Bool.{false}
+use borrow.Author.Tests.{not-true}
 use Rattle.wire.specs.message.Readable.{questionShown}
-use Rattle.claims.specs.records.Own.{ownType}
-use Rattle.own.specs.records.Records.{ownName}
-use Rattle.facts.specs.Questions.{asksFor}
+use Rattle.facts.specs.Questions.{asksBy}
+use Rattle.facts.specs.Facts.{asksOwn}
 use Rattle.facts.proofs.Owned.{own-part}
+use Rattle.facts.proofs.Tests.{asks-not}
 use Rattle.facts.proofs.Asked.{asked-before, asked-here}
 use borrow.Author.Needs.{needs}
 use Rattle.facts.proofs.is_asked.Statement.{statement}
@@ -15,8 +17,17 @@ is-in-requires c κs = search needs
 returns : tie.Need-returns
 returns c =
     let a = c .before .before .before .args in
-    asked-before (a .asked) (a .o) _ (c .before .is-in .ensures) (c .if1 .taken)
-    (asksFor (ownName (a .setup) (a .o)) (ownType (a .o)) (questionShown (a .p .now) (a .q)))
+    asked-before (a .asked) (a .o) _ (c .before .is-in .ensures) (c .if1 .taken) (asksOwn (a .setup) (a .o) (questionShown (a .p .now) (a .q)))
+
+type-asks-requires : tie.Need-type-asks-requires
+type-asks-requires c κs = search needs
+
+returns-2 : tie.Need-returns-2
+returns-2 c =
+    let a = c .before .before .before .before .before .args in
+    let q = questionShown (a .p .now) (a .q) in
+    asked-here (a .asked) (a .o) _ (c .before .before .before .is-in .ensures) (c .before .before .if1 .left) (asksOwn (a .setup) (a .o) q) false
+    (asks-not (a .setup) (a .o) q _ (c .before .type-asks .ensures) (not-true _ (c .if2 .taken)))
 
 own-name-requires : tie.Need-own-name-requires
 own-name-requires c κs = search needs
@@ -27,19 +38,15 @@ slice-aggregate-part c = search needs
 part-requires : tie.Need-part-requires
 part-requires c κs = search needs
 
-own-type-requires : tie.Need-own-type-requires
-own-type-requires c κs = search needs
-
 asks-requires : tie.Need-asks-requires
 asks-requires c κs = search needs
 
-returns-2 : tie.Need-returns-2
-returns-2 c =
-    let a = c .before .before .before .before .before .before .before .before .before .args in
-    let n = c .before .before .part .ensures .0 ∙ own-part _ _ (c .before .before .before .before .before .own-name .ensures) in
-    asked-here (a .asked) (a .o) _ (c .before .before .before .before .before .before .before .is-in .ensures)
-    (c .before .before .before .before .before .before .if1 .left) _ _
-    (c .asks .ensures ∙ (λ j. asksFor (n j) (c .before .own-type .ensures j) (questionShown (a .p .now) (a .q))))
+returns-3 : tie.Need-returns-3
+returns-3 c =
+    let a = c .before .before .before .before .before .before .before .before .before .before .args in
+    let n = c .before .part .ensures .0 ∙ own-part _ _ (c .before .before .before .before .own-name .ensures) in
+    asked-here (a .asked) (a .o) _ (c .before .before .before .before .before .before .before .before .is-in .ensures) (c .before .before .before .before .before .before .before .if1 .left) _ _
+    (c .asks .ensures ∙ (λ j. asksBy (n j) (c .before .before .before .before .before .before .type-asks .ensures j) (questionShown (a .p .now) (a .q))))
 
 pub is-asked-spec : {M : Type 1} → statement M
 is-asked-spec =
@@ -47,9 +54,10 @@ is-asked-spec =
     (tie.spec
     is-in-requires
     returns
+    type-asks-requires
+    returns-2
     own-name-requires
     slice-aggregate-part
     part-requires
-    own-type-requires
     asks-requires
-    returns-2)
+    returns-3)

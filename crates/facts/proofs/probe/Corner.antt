@@ -6,7 +6,7 @@ use Prim.Native.Nat.{ℕ}
 use Rattle.wire.specs.case_folding.Fold.{sameName}
 use Rattle.wire.specs.name_pieces.Pieces.{pieceAt}
 use Rattle.wire.specs.names.Names.{readFrom, fromRun, nameAt}
-use Rattle.wire.specs.rdata.Rdata.{rdataIn, rdataAt}
+use Rattle.wire.specs.rdata.Rdata.{formIn, rdataIn, rdataAt}
 use Rattle.wire.specs.message.Layout.{questionRead, questionAt, recordRead, recordAt}
 use Rattle.wire.specs.declared.message.Layout.{Layout}
 use Rattle.wire.specs.Lists.{some}
@@ -34,5 +34,5 @@ probeLayout = record {
 }
 
 pub own-probe : isProbe hostName (messageIn probe probeLayout) ≡ true
-unfolding isProbe messageIn probe probeLayout some readable questionAt questionRead recordAt recordRead nameAt fromRun readFrom pieceAt rdataAt rdataIn sameName
+unfolding isProbe messageIn probe probeLayout some readable questionAt questionRead recordAt recordRead nameAt fromRun readFrom pieceAt rdataAt formIn rdataIn sameName
 own-probe = refl

@@ -14,7 +14,7 @@ use Rattle.wire.specs.expansion.Equal.{sameBytes}
 use Rattle.own.specs.declared.records.Setup.{Setup}
 use Rattle.own.specs.declared.records.OwnBytes.{OwnBytes}
 use Rattle.own.specs.records.Setups.{tcp, udp, local, labelHeld, serviceHeld, protocolLabel, serviceLabels, instanceLabels, hostLabels}
-use Rattle.own.specs.records.Records.{labelBytes, Laid, ownOf, srvRdata}
+use Rattle.own.specs.records.Records.{labelBytes, Laid, ownOf, srvRdata, instanceTypes, hostTypes}
 
 -- one part after the other
 pub then : (at a r : ℕ) (xs ys o o₁ o₂ : List ℕ) (m n : ℕ) → Laid at xs m o a o₁ → Laid a ys n o₁ r o₂ → Laid at (xs ++ ys) (m + n) o r o₂
@@ -111,6 +111,18 @@ own-srv s o n f =
     own-laid _ o n 77
     (then 0 6 n (0 ∷ 0 ∷ 0 ∷ 0 ∷ (s .port / 256) ∷ (s .port % 256) ∷ []) (encode (hostLabels s)) (replicate 400 0) (set (set (replicate 400 0) 4 (s .port / 256)) 5 (s .port % 256)) o 6 71
     (record { ended = refl; bytes = refl; few = omega arith }) f) (omega arith)
+
+-- types behind a name
+pub laid-types : (at : ℕ) (types o o₁ : List ℕ) → o₁ ≡ sets o at types → Laid at types (length types) o (at + length types) o₁
+laid-types at types o o₁ w = record { ended = refl; bytes = w; few = omega arith }
+
+pub laid-host-types : (aaaa b : Bool) (at r m : ℕ) (o o₁ : List ℕ) → aaaa ≡ b → Laid at (hostTypes b) m o r o₁ → Laid at (hostTypes aaaa) 6 o r o₁
+laid-host-types aaaa true at r m o o₁ e f = rw e (laid-as at r (hostTypes true) (hostTypes true) o o₁ m 6 f refl (omega arith))
+laid-host-types aaaa false at r m o o₁ e f = rw e (laid-as at r (hostTypes false) (hostTypes false) o o₁ m 6 f refl (omega arith))
+
+pub own-nsec : (name types o o₁ : List ℕ) (end n m k : ℕ) → m + k ≤ 400 → Laid 0 name m (replicate 400 0) end o → Laid end types k o n o₁
+    → _≡_ {A = OwnBytes} (record { bytes = o₁; len = n }) (ownOf (name ++ types))
+own-nsec name types o o₁ end n m k h f g = own-laid _ o₁ n (m + k) (then 0 end n name types (replicate 400 0) o o₁ m k f g) h
 
 -- TXT strings that fill their array
 pub own-full : (bytes : List ℕ) (len : ℕ) → length bytes ≡ 400 → 400 ≤ len → _≡_ {A = OwnBytes} (record { bytes = bytes; len = 400 }) (ownOf (take len bytes))

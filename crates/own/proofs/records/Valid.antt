@@ -17,7 +17,7 @@ use Rattle.wire.specs.expansion.Equal.{sameBytes}
 use Rattle.wire.specs.labels.Labels.{encode, Labels, none, one, IsName}
 use Rattle.wire.proofs.labels.Encoded.{is-name, same-count}
 use Rattle.claims.specs.declared.records.Own.{Own}
-use Rattle.claims.specs.declared.records.Own.the-variants.{Ptr, Srv, Txt, A, Aaaa}
+use Rattle.claims.proofs.records.Sets.{by-record}
 use Rattle.own.specs.declared.records.Setup.{Setup}
 use Rattle.own.specs.utf8.Utf8.{isShown}
 use Rattle.own.specs.utf8.Grammar.{Octets, NoControl}
@@ -132,11 +132,8 @@ module _ (s : Setup) (ok : Valid s) where
 
   pub own-labels : (o : Own) → IsName (ownLabels s o)
   unfolding ownLabels
-  own-labels Ptr = service-name
-  own-labels Srv = instance-name
-  own-labels Txt = instance-name
-  own-labels A = host-name
-  own-labels Aaaa = host-name
+  own-labels =
+      by-record (λ o. IsName (ownLabels s o)) service-name instance-name instance-name host-name host-name instance-name host-name
 
   pub own-is-name : (o : Own) → isName (ownName s o) ≡ true
   unfolding ownName

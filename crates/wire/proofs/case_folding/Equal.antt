@@ -18,9 +18,8 @@ same-lengths [] (y ∷ ys) h = refl
 same-lengths (x ∷ xs) [] h = refl
 same-lengths (x ∷ xs) (y ∷ ys) h = rw (same-lengths xs ys (λ e. h (ap suc e))) (and-false (eqb (lower x) (lower y)))
 
--- a test and a test are true together
 -- what equal names say of their first bytes and of the rest
-heads : (x y : ℕ) (xs ys : List ℕ) → sameName (x ∷ xs) (y ∷ ys) ≡ true → (lower x ≡ lower y) × (sameName xs ys ≡ true)
+pub heads : (x y : ℕ) (xs ys : List ℕ) → sameName (x ∷ xs) (y ∷ ys) ≡ true → (lower x ≡ lower y) × (sameName xs ys ≡ true)
 unfolding sameName
 heads x y xs ys e =
     let h = both (eqb (lower x) (lower y)) (sameName xs ys) .0 e in

@@ -16,7 +16,7 @@ use Rattle.wire.specs.declared.names.Name.{Name}
 use Rattle.wire.specs.declared.names.Name.the-variants as nam
 use Rattle.wire.proofs.names.Use.{as-name, as-malformed}
 use Rattle.wire.proofs.names.Extend.{within}
-use Rattle.wire.specs.rdata.Rdata.{Rdata, rdata, unfit, stringsFill, endingName, formOf, withName, rdataIn, rdataAt}
+use Rattle.wire.specs.rdata.Rdata.{Rdata, rdata, unfit, stringsFill, formOf, nextForm, formIn, withName, rdataIn, rdataAt}
 use Rattle.wire.specs.rdata.Answers.{fits, startIn}
 use Rattle.wire.specs.declared.rdata.Form.{Form}
 use Rattle.wire.specs.declared.message.RecordAt.{RecordAt}
@@ -40,34 +40,39 @@ module _ (p d : List ℕ) (f : RecordAt) where
   unfolding rdataIn
   in-aaaa e = rw e (sym (fits-cond (eqb (length d) 16) d))
 
-  pub in-srv : f .rtype ≡ 33 → (v : Bool) → v ≡ fits (withName p (f .rdata) d 6) → v ≡ fits (rdataIn p f d)
-  unfolding rdataIn
+  pub in-srv : f .rtype ≡ 33 → (v : Bool) → v ≡ fits (withName p (f .rdata) d 6 0) → v ≡ fits (rdataIn p f d)
+  unfolding rdataIn formIn
   in-srv e v h = rw e h
 
-  -- rdata that holds a name
-  pub in-named : formOf (f .rtype) .named ≡ true → rdataIn p f d ≡ withName p (f .rdata) d (formOf (f .rtype) .before)
-  unfolding rdataIn
-  in-named h = go (eqb (f .rtype) 12) (eqb (f .rtype) 33) refl refl h
+  -- rdata that holds a name is of none of the types that are read as they lie
+  types : formIn p f d .named ≡ true → (eqb (f .rtype) 1 ≡ false) × (eqb (f .rtype) 16 ≡ false) × (eqb (f .rtype) 28 ≡ false)
+  unfolding formIn
+  types h = go (eqb (f .rtype) 47) (eqb (f .rtype) 12) (eqb (f .rtype) 33) refl refl refl h
     where
-      go : (a b : Bool) → eqb (f .rtype) 12 ≡ a → eqb (f .rtype) 33 ≡ b → (a || b) ≡ true → rdataIn p f d ≡ withName p (f .rdata) d (formOf (f .rtype) .before)
-      go true b e g t = rw (eqb-true (f .rtype) 12 e)
-      go false true e g t = rw (eqb-true (f .rtype) 33 g)
-      go false false e g t = let z : _≡_ {A = ℕ} 0 1 = cc in absurd (omega arith)
+      go : (n a b : Bool) → eqb (f .rtype) 47 ≡ n → eqb (f .rtype) 12 ≡ a → eqb (f .rtype) 33 ≡ b
+          → cond n (nextForm p (f .owner) (f .rdata) d (nameAt p (f .rdata))) (record { named = a || b; before = cond b 6 0; behind = 0 }) .named ≡ true
+          → (eqb (f .rtype) 1 ≡ false) × (eqb (f .rtype) 16 ≡ false) × (eqb (f .rtype) 28 ≡ false)
+      go true a b k e g t = rw (eqb-true (f .rtype) 47 k) (refl, refl, refl)
+      go false true b k e g t = rw (eqb-true (f .rtype) 12 e) (refl, refl, refl)
+      go false false true k e g t = rw (eqb-true (f .rtype) 33 g) (refl, refl, refl)
+      go false false false k e g t = let z : _≡_ {A = ℕ} 0 1 = cc in absurd (omega arith)
+
+  -- rdata that holds a name
+  pub in-named : formIn p f d .named ≡ true → rdataIn p f d ≡ withName p (f .rdata) d (formIn p f d .before) (formIn p f d .behind)
+  unfolding rdataIn
+  in-named h = let t = types h in simp (t .0, t .1, t .2, h)
 
   -- from the form that the code has found
-  module _ (g : Form) (is : g ≡ formOf (f .rtype)) where
-    before-is : g .before ≡ formOf (f .rtype) .before
-    before-is = ap (λ (y : Form). y .before) is
-
+  module _ (g : Form) (is : g ≡ formIn p f d) where
     pub in-other : (f .rtype ≡ 1 → ⊥) → (f .rtype ≡ 16 → ⊥) → (f .rtype ≡ 28 → ⊥) → g .named ≡ false → true ≡ fits (rdataIn p f d)
     unfolding rdataIn
     in-other a b c e =
-        let none : formOf (f .rtype) .named ≡ false = sym (ap (λ (y : Form). y .named) is) ∙ e in
+        let none : formIn p f d .named ≡ false = sym (ap (λ (y : Form). y .named) is) ∙ e in
         simp (ne-eqb _ _ a, ne-eqb _ _ b, ne-eqb _ _ c, none)
 
-    pub in-form : g .named ≡ true → (v : Bool) → v ≡ fits (withName p (f .rdata) d (g .before)) → v ≡ fits (rdataIn p f d)
+    pub in-form : g .named ≡ true → (v : Bool) → v ≡ fits (withName p (f .rdata) d (g .before) (g .behind)) → v ≡ fits (rdataIn p f d)
     in-form e v k =
-        k ∙ ap (λ (n : ℕ). fits (withName p (f .rdata) d n)) before-is ∙ sym (ap fits (in-named (sym (ap (λ (y : Form). y .named) is) ∙ e)))
+        k ∙ ap (λ (y : Form). fits (withName p (f .rdata) d (y .before) (y .behind))) is ∙ sym (ap fits (in-named (sym (ap (λ (y : Form). y .named) is) ∙ e)))
 
 -- the rdata of a record as it lies
 module _ (p : List ℕ) (f : RecordAt) where
@@ -87,13 +92,13 @@ module _ (p : List ℕ) (f : RecordAt) where
       e ∙ ap (λ (n : ℕ). fits (rdataIn p f (take n (drop (f .rdata) p)))) (add-sub-cancel-left (f .rdata) (f .rdlength)) ∙ sym (ap fits (at-within h))
 
 -- the three forms
-pub form-ptr : (rtype : ℕ) → rtype ≡ 12 → _≡_ {A = Form} (record { named = true; before = 0 }) (formOf rtype)
+pub form-ptr : (rtype : ℕ) → rtype ≡ 12 → _≡_ {A = Form} (record { named = true; before = 0; behind = 0 }) (formOf rtype)
 form-ptr rtype e = rw e
 
-pub form-srv : (rtype : ℕ) → rtype ≡ 33 → _≡_ {A = Form} (record { named = true; before = 6 }) (formOf rtype)
+pub form-srv : (rtype : ℕ) → rtype ≡ 33 → _≡_ {A = Form} (record { named = true; before = 6; behind = 0 }) (formOf rtype)
 form-srv rtype e = rw e
 
-pub form-plain : (rtype : ℕ) → (rtype ≡ 12 → ⊥) → (rtype ≡ 33 → ⊥) → _≡_ {A = Form} (record { named = false; before = 0 }) (formOf rtype)
+pub form-plain : (rtype : ℕ) → (rtype ≡ 12 → ⊥) → (rtype ≡ 33 → ⊥) → _≡_ {A = Form} (record { named = false; before = 0; behind = 0 }) (formOf rtype)
 form-plain rtype a b = simp (ne-eqb _ _ a, ne-eqb _ _ b)
 
 -- a part of a packet, as far as the packet goes

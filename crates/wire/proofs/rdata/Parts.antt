@@ -2,10 +2,10 @@
 use mathlib.Core.Path.{_≡_, refl, sym, ap, _∙_}
 use mathlib.Core.List.{List, [], _++_}
 use mathlib.Core.Bool.{Bool, true, false, cond}
-use Prim.Native.Nat.{ℕ, _+_, _<_, _≤_}
+use Prim.Native.Nat.{ℕ, _+_, _-_, _<_, _≤_}
 use native.Mathlib.Omega.{arith}
 use borrow.Author.Tests.{le-leb, lt-leb, lt-ltb, le-ltb, eq-eqb, ne-eqb, ltb-true, ltb-false, leb-true, leb-false, eqb-true, eqb-false}
-use lib.ListN.{length, getD, take}
+use lib.ListN.{length, getD, take, drop}
 use lib.Dec.{eqb, ltb, leb}
 use Rattle.wire.specs.octets.Octets.{word16}
 use Rattle.wire.specs.names.Names.{Reading, name, malformed, nameAt}
@@ -121,73 +121,84 @@ isFound (nam.Found s) = true
 isFound nam.Malformed = false
 
 -- a name in a part
-module _ (p : List ℕ) (at : ℕ) (d : List ℕ) (before : ℕ) where
-  pub name-outside : length p < at + length d → nam.Malformed ≡ nameIn p at d before
+module _ (p : List ℕ) (at : ℕ) (d : List ℕ) (before behind : ℕ) where
+  -- where it has to end
+  abbrev stop : ℕ
+  stop = at + (length d - behind)
+
+  pub name-outside : length p < at + length d → nam.Malformed ≡ nameIn p at d before behind
   unfolding nameIn
   name-outside h = simp (lt-leb _ _ h)
 
   module _ (inside : at + length d ≤ length p) where
-    pub name-short : length d < before → nam.Malformed ≡ nameIn p at d before
+    pub name-short : length d < before + behind → nam.Malformed ≡ nameIn p at d before behind
     unfolding nameIn
     name-short h = simp (le-leb _ _ inside, lt-leb _ _ h)
 
-    module _ (room : before ≤ length d) where
-      read-there : nameIn p at d before ≡ nameEnding (at + length d) (nameAt p (at + before))
+    module _ (room : before + behind ≤ length d) where
+      read-there : nameIn p at d before behind ≡ nameEnding stop (nameAt p (at + before))
       unfolding nameIn
       read-there = simp (le-leb _ _ inside, le-leb _ _ room)
 
       module _ (r : Name) (is : r ≡ foundOf (nameAt p (at + before))) where
-        pub name-bad : r ≡ nam.Malformed → nam.Malformed ≡ nameIn p at d before
-        name-bad k = sym (read-there ∙ ap (nameEnding (at + length d)) (as-malformed (nameAt p (at + before)) r is k))
+        pub name-bad : r ≡ nam.Malformed → nam.Malformed ≡ nameIn p at d before behind
+        name-bad k = sym (read-there ∙ ap (nameEnding stop) (as-malformed (nameAt p (at + before)) r is k))
 
         module _ (s : Span) (k : r ≡ nam.Found s) where
-          found : nameIn p at d before ≡ cond (eqb (s .end) (at + length d)) (nam.Found s) nam.Malformed
+          found : nameIn p at d before behind ≡ cond (eqb (s .end) stop) (nam.Found s) nam.Malformed
           found =
               let f = as-name (nameAt p (at + before)) r s is k in
-              read-there ∙ ap (nameEnding (at + length d)) (f .1)
-              ∙ ap (λ (x : Span). cond (eqb (s .end) (at + length d)) (nam.Found x) nam.Malformed) (sym (f .3))
+              read-there ∙ ap (nameEnding stop) (f .1)
+              ∙ ap (λ (x : Span). cond (eqb (s .end) stop) (nam.Found x) nam.Malformed) (sym (f .3))
 
-          pub name-ends : s .end ≡ at + length d → nam.Found s ≡ nameIn p at d before
+          pub name-ends : s .end ≡ stop → nam.Found s ≡ nameIn p at d before behind
           name-ends e = sym (found ∙ ap (λ (b : Bool). cond b (nam.Found s) nam.Malformed) (eq-eqb _ _ e))
 
-          pub name-elsewhere : (s .end ≡ at + length d → ⊥) → nam.Malformed ≡ nameIn p at d before
+          pub name-elsewhere : (s .end ≡ stop → ⊥) → nam.Malformed ≡ nameIn p at d before behind
           name-elsewhere e = sym (found ∙ ap (λ (b : Bool). cond b (nam.Found s) nam.Malformed) (ne-eqb _ _ e))
 
   -- a name that is found starts in the packet
-  pub name-starts : (s : Span) → nameIn p at d before ≡ nam.Found s → at + before ≤ length p
+  pub name-starts : (s : Span) → nameIn p at d before behind ≡ nam.Found s → at + before ≤ length p
   unfolding nameIn
-  name-starts s = go (leb (at + length d) (length p)) (leb before (length d)) refl refl
+  name-starts s = go (leb (at + length d) (length p)) (leb (before + behind) (length d)) refl refl
     where
-      go : (a b : Bool) → leb (at + length d) (length p) ≡ a → leb before (length d) ≡ b
-          → cond a (cond b (nameEnding (at + length d) (nameAt p (at + before))) nam.Malformed) nam.Malformed ≡ nam.Found s → at + before ≤ length p
-      go true true e f h = omega (arith, leb-true (at + length d) (length p) e, leb-true before (length d) f)
+      go : (a b : Bool) → leb (at + length d) (length p) ≡ a → leb (before + behind) (length d) ≡ b
+          → cond a (cond b (nameEnding stop (nameAt p (at + before))) nam.Malformed) nam.Malformed ≡ nam.Found s → at + before ≤ length p
+      go true true e f h = omega (arith, leb-true (at + length d) (length p) e, leb-true (before + behind) (length d) f)
       go true false e f h = let z : _≡_ {A = ℕ} 0 1 = cc in absurd (omega arith)
       go false b e f h = let z : _≡_ {A = ℕ} 0 1 = cc in absurd (omega arith)
 
   -- rdata with a name fits exactly where the name is found
-  name-fits : at + length d ≤ length p → isFound (nameIn p at d before) ≡ fits (withName p at d before)
+  name-fits : at + length d ≤ length p → isFound (nameIn p at d before behind) ≡ fits (withName p at d before behind)
   unfolding nameIn
-  name-fits inside = ap (λ (b : Bool). isFound (cond b (cond (leb before (length d)) (nameEnding (at + length d) (nameAt p (at + before))) nam.Malformed) nam.Malformed)) (le-leb _ _ inside) ∙ go (leb before (length d)) (nameAt p (at + before))
+  name-fits inside =
+      ap (λ (b : Bool). isFound (cond b (cond (leb (before + behind) (length d)) (nameEnding stop (nameAt p (at + before))) nam.Malformed) nam.Malformed))
+      (le-leb _ _ inside)
+      ∙ go (leb (before + behind) (length d)) (nameAt p (at + before))
     where
-      end : (bs : List ℕ) (e : ℕ) (b : Bool) → isFound (cond b (nam.Found (spanOf bs e)) nam.Malformed) ≡ fits (cond b (rdata (take before d ++ bs)) unfit)
+      back : List ℕ
+      back = drop (length d - behind) d
+
+      end : (bs : List ℕ) (e : ℕ) (b : Bool) → isFound (cond b (nam.Found (spanOf bs e)) nam.Malformed) ≡ fits (cond b (rdata (take before d ++ (bs ++ back))) unfit)
       end bs e true = refl
       end bs e false = refl
 
-      go : (b : Bool) (x : Reading) → isFound (cond b (nameEnding (at + length d) x) nam.Malformed) ≡ fits (cond b (endingName (take before d) (at + length d) x) unfit)
-      go true (name bs e) = end bs e (eqb e (at + length d))
+      go : (b : Bool) (x : Reading)
+          → isFound (cond b (nameEnding stop x) nam.Malformed) ≡ fits (cond b (endingName (take before d) (drop (length d - behind) d) stop x) unfit)
+      go true (name bs e) = end bs e (eqb e stop)
       go true malformed = refl
       go false x = refl
 
-  module _ (inside : at + length d ≤ length p) (r : Name) (is : r ≡ nameIn p at d before) where
-    pub fits-found : (s : Span) → r ≡ nam.Found s → true ≡ fits (withName p at d before)
+  module _ (inside : at + length d ≤ length p) (r : Name) (is : r ≡ nameIn p at d before behind) where
+    pub fits-found : (s : Span) → r ≡ nam.Found s → true ≡ fits (withName p at d before behind)
     fits-found s k = ap isFound (sym k ∙ is) ∙ name-fits inside
 
-    pub fits-bad : r ≡ nam.Malformed → false ≡ fits (withName p at d before)
+    pub fits-bad : r ≡ nam.Malformed → false ≡ fits (withName p at d before behind)
     fits-bad k = ap isFound (sym k ∙ is) ∙ name-fits inside
 
 -- an SRV: its numbers, and its target as a name in the part
 module _ (p : List ℕ) (at : ℕ) (d : List ℕ) where
-  module _ (r : Name) (is : r ≡ nameIn p at d 6) where
+  module _ (r : Name) (is : r ≡ nameIn p at d 6 0) where
     pub srv-there : (s : Span) → r ≡ nam.Found s → (priority weight port : ℕ) → priority ≡ word16 d 0 → weight ≡ word16 d 2 → port ≡ word16 d 4
         → srv.Found (record { priority = priority; weight = weight; port = port; target = at + 6; span = s }) ≡ srvIn p at d
     unfolding srvIn
@@ -200,17 +211,17 @@ module _ (p : List ℕ) (at : ℕ) (d : List ℕ) where
 
   -- one is there exactly where its target is
   module _ (r : SrvRead) (is : r ≡ srvIn p at d) where
-    pub srv-target : (f : SrvAt) → r ≡ srv.Found f → (s : Span) × (nameIn p at d 6 ≡ nam.Found s)
+    pub srv-target : (f : SrvAt) → r ≡ srv.Found f → (s : Span) × (nameIn p at d 6 0 ≡ nam.Found s)
     unfolding srvIn
-    srv-target f k = go (nameIn p at d 6) (sym is ∙ k)
+    srv-target f k = go (nameIn p at d 6 0) (sym is ∙ k)
       where
         go : (x : Name) → srvWith d (at + 6) x ≡ srv.Found f → (s : Span) × (x ≡ nam.Found s)
         go (nam.Found s) h = (s, refl)
         go nam.Malformed h = let z : _≡_ {A = ℕ} 0 1 = cc in absurd (omega arith)
 
-    pub srv-none : r ≡ srv.Malformed → nameIn p at d 6 ≡ nam.Malformed
+    pub srv-none : r ≡ srv.Malformed → nameIn p at d 6 0 ≡ nam.Malformed
     unfolding srvIn
-    srv-none k = go (nameIn p at d 6) (sym is ∙ k)
+    srv-none k = go (nameIn p at d 6 0) (sym is ∙ k)
       where
         go : (x : Name) → srvWith d (at + 6) x ≡ srv.Malformed → x ≡ nam.Malformed
         go (nam.Found s) h = let z : _≡_ {A = ℕ} 0 1 = cc in absurd (omega arith)

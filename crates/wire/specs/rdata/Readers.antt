@@ -1,7 +1,7 @@
 -- What the readers of a part of the packet find (specification, 'Reading a message' and 'Which places take which form'): "Rdata goes to the TXT, SRV and
 -- address readers as a packet part starting in its middle." `d` is the part and `at` where it starts in the packet `p`.
 -- Assumes nothing: these are definitions.
-use Prim.Native.Nat.{ℕ, _+_}
+use Prim.Native.Nat.{ℕ, _+_, _-_}
 use mathlib.Core.List.{List, []}
 use mathlib.Core.Bool.{cond}
 use lib.ListN.{length}
@@ -31,16 +31,16 @@ stringAt d at =
     (cond (leb (at + 1 + byteAt d at) (length d)) (str.Found (record { text = at + 1; len = byteAt d at; next = at + 1 + byteAt d at })) str.Malformed)
     str.End
 
--- a name "ending exactly at the rdata's end"
+-- a name "ending exactly at" an offset
 abbrev pub nameEnding : ℕ → Reading → Name
 nameEnding end (name bs e) = cond (eqb e end) (nam.Found (spanOf bs e)) nam.Malformed
 nameEnding end malformed = nam.Malformed
 
--- the name behind so many bytes of a part that lies in the packet
-unfoldable pub nameIn : List ℕ → ℕ → List ℕ → ℕ → Name
-nameIn p at d before =
+-- the name between so many bytes of a part that lies in the packet
+unfoldable pub nameIn : List ℕ → ℕ → List ℕ → ℕ → ℕ → Name
+nameIn p at d before behind =
     cond (leb (at + length d) (length p))
-    (cond (leb before (length d)) (nameEnding (at + length d) (nameAt p (at + before))) nam.Malformed)
+    (cond (leb (before + behind) (length d)) (nameEnding (at + (length d - behind)) (nameAt p (at + before))) nam.Malformed)
     nam.Malformed
 
 -- "SRV is 6 bytes and one name": priority, weight and port, each of two bytes, and the target (RFC 2782)
@@ -49,4 +49,4 @@ srvWith d target (nam.Found s) = srv.Found (record { priority = word16 d 0; weig
 srvWith d target nam.Malformed = srv.Malformed
 
 unfoldable pub srvIn : List ℕ → ℕ → List ℕ → SrvRead
-srvIn p at d = srvWith d (at + 6) (nameIn p at d 6)
+srvIn p at d = srvWith d (at + 6) (nameIn p at d 6 0)

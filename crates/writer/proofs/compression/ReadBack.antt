@@ -25,6 +25,7 @@ use Rattle.writer.specs.compression.Compression.{isRead, standsAt, place
 use Rattle.writer.proofs.compression.ByLabels.{cutAt, noneAt, byLabels, placesBy}
 use Rattle.writer.specs.compression.Sentence.{Rising, empty, next}
 use Rattle.wire.proofs.names.Extend.{read-on, within}
+use Rattle.wire.proofs.names.InPlace.{head, tail-at, label-step}
 
 -- what stands at an offset is read there
 pub stands-read : (p s : List ℕ) (o : ℕ) → standsAt p s o ≡ true → (e : ℕ) × (nameAt p o ≡ name s e)
@@ -45,39 +46,6 @@ place-found p s {m = m} o (next {o = x} {os = xs} lo up) h = go (standsAt p s x)
         (standsAt p s o ≡ true)
     go true e k ih = let i : x ≡ o = cc in (omega arith, ap (standsAt p s) (sym i) ∙ e)
     go false e k ih = let f = ih k in (omega (arith, f .0), f .1)
-
--- what stands at a place, from what is left there
-head : (p : List ℕ) (at x : ℕ) (r : List ℕ) → drop at p ≡ x ∷ r → (at < length p) × (getD p at 0 ≡ x) × (drop (suc at) p ≡ r)
-head [] zero x r e = let z : _≡_ {A = ℕ} 0 1 = cc in absurd (omega arith)
-head [] (suc at) x r e = let z : _≡_ {A = ℕ} 0 1 = cc in absurd (omega arith)
-head (y ∷ ys) zero x r e = (omega arith, cc, cc)
-head (y ∷ ys) (suc at) x r e = let h = head ys at x r e in (omega arith, h .1, h .2)
-
--- what follows a label
-tail-at : (P l w post : List ℕ) (at : ℕ) → drop at P ≡ (length l ∷ (l ++ w)) ++ post → drop (at + 1 + length l) P ≡ w ++ post
-tail-at P l w post at e =
-    let g = head P at (length l) (l ++ w ++ post) e in
-    let skip : at + 1 + length l ≡ suc at + length l = omega arith in
-    ap (λ (k : ℕ). drop k P) skip ∙ sym (drop-drop (length l) (suc at) P) ∙ ap (drop (length l)) (g .2 ∙ append-assoc l w post) ∙ drop-at l (w ++ post)
-    (length l) refl
-
--- a label stands at a place, and the rest of the name, written as w, is read as s
-label-step : (P l w s post : List ℕ) (start at used : ℕ) → 1 ≤ length l → length l < 64 → drop at P ≡ (length l ∷ (l ++ w)) ++ post
-    → used + length (length l ∷ (l ++ s)) ≤ 255 → 1 ≤ length s
-    → (drop (at + 1 + length l) P ≡ w ++ post → fromRun P start (at + 1 + length l) (used + 1 + length l) ≡ name s (at + 1 + length l + length w))
-    → fromRun P start at used ≡ name (length l ∷ (l ++ s)) (at + length (length l ∷ (l ++ w)))
-label-step P l w s post start at used lo hi e fits some rest =
-    let n : ℕ = length l in
-    let g = head P at n (l ++ w ++ post) e in
-    let left : length P ≡ at + 1 + (n + length w + length post) = omega
-    (arith, ap length e, length-drop at P, length-append (l ++ w) post, length-append l w) in
-    let at-label : pieceAt P start at used ≡ Label n =
-    piece-label P start at used (g .0) (omega arith) (omega arith) (omega arith) (omega (arith, length-append l s)) ∙ ap Label (g .1) in
-    let body : take (n + 1) (drop at P) ≡ n ∷ l =
-    ap (λ (k : ℕ). take k (drop at P)) (add-one n) ∙ ap (take (suc n)) e
-    ∙ ap (λ (r : List ℕ). n ∷ r) (ap (take n) (append-assoc l w post) ∙ take-at l (w ++ post) n refl) in
-    unroll P start at used ∙ ap (readPiece (fromRun P) P start at used) at-label ∙ ap₂ before body (rest (tail-at P l w post at e))
-    ∙ ap (name (n ∷ (l ++ s))) (omega (arith, length-append l w))
 
 -- the 14 bits of a pointer
 bits : (o : ℕ) → o < 16384 → (192 + o / 256) % 64 * 256 + o % 256 ≡ o

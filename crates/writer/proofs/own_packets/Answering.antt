@@ -33,7 +33,7 @@ use Rattle.writer.specs.own_packets.Packets.{headerBytes, header, putAll
 use Rattle.writer.specs.own_packets.Styles.{responseStyle, probeStyle, ownRecord, asked, styledMessage, packetIn}
 use Rattle.writer.specs.own_packets.Own.{refusalOf, lengthOf, responseRecords, probeRecords, noneIfEmpty, responsePacket, probePacket}
 use Rattle.writer.specs.own_packets.Own.{refusal, unlessRefused, sentOf, writtenOf, laidOver}
-use Rattle.writer.specs.own_packets.Ready.{spotAfter, each, ListReady, listed, Picks, askedSize, askedLabels, AskReady, PacketReady}
+use Rattle.writer.specs.own_packets.Ready.{spotAfter, each, ListReady, listed, Picks, askedSize, askedLabels, AskReady, mostPlaces, PacketReady}
 use Rattle.writer.proofs.own_packets.Owned.{own-front, placed-grown, own-shaped}
 use Rattle.writer.proofs.own_packets.Room.{response-size, response-labels, probe-size, probe-labels, claim-size, claim-labels}
 
@@ -223,7 +223,7 @@ module _ (s : Setup) (style : Style) (name : List ℕ) (list : Picked) (o : List
         go₃ false e = omega arith
 
     -- the header
-    module _ (o₁ : List ℕ) (w₁ : o₁ ≡ sets o 0 H) (pl : List ℕ) (l32 : length pl ≡ 32) where
+    module _ (o₁ : List ℕ) (w₁ : o₁ ≡ sets o 0 H) (pl : List ℕ) (table : length pl ≡ mostPlaces) where
       laid : o₁ ≡ H ++ drop 12 o
       laid = w₁ ∙ sets-eq H o 0 (omega (arith, ready .room))
 

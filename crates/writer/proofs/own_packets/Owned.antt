@@ -9,29 +9,35 @@ use borrow.Author.Tests.{le-leb, eq-eqb}
 use lib.ListN.{length, getD, take, drop, replicate, length-take, take-append-drop, drop-of-length-le, length-map, List·getD-map}
 use lib.Seq.{sets, getD-take, take-at, drop-at, drop-cons, length-take-le, drop-drop}
 use Rattle.wire.specs.labels.Labels.{encode}
+use Rattle.wire.specs.names.Names.{isName}
 use Rattle.wire.proofs.labels.Encoded.{is-name}
 use Rattle.wire.specs.labels.Counted.{labelsIn}
 use Rattle.wire.specs.message.Message.{Record}
 use Rattle.own.specs.declared.records.Setup.{Setup}
 use Rattle.claims.specs.records.Own.{recordAt, ownType}
 use Rattle.claims.specs.declared.records.Own.{Own}
-use Rattle.claims.specs.declared.records.Own.the-variants.{Ptr, Srv, Txt, A, Aaaa}
+use Rattle.claims.specs.declared.records.Own.the-variants.{Ptr, Srv, Txt, A, Aaaa, InstanceNsec, HostNsec}
+use Rattle.claims.proofs.records.Sets.{by-record}
 use Rattle.own.specs.declared.records.OwnBytes.{OwnBytes}
-use Rattle.own.specs.records.Setups.{validSetup, instanceLabels}
-use Rattle.own.specs.records.Records.{ownOf, ownName, ownRdata, srvRdata}
+use Rattle.own.specs.records.Setups.{validSetup, instanceLabels, hostLabels}
+use Rattle.own.specs.records.Records.{ownOf, ownLabels, ownName, ownRdata, srvRdata, instanceTypes, hostTypes}
 use Rattle.own.proofs.records.Valid.{Valid, valid, instance-name, host-name, own-is-name}
 use Rattle.writer.specs.declared.Spot.{Spot}
 use Rattle.writer.specs.declared.Placed.{Placed}
 use Rattle.writer.specs.Items.{Writing, u16, putRecord}
 use Rattle.wire.specs.message.Message.{recordOf}
 use Rattle.writer.specs.Writer.{heldIn, spotOf, roomIn, labelsFor, nameFits, recordFits, Placing, Grown}
-use Rattle.writer.specs.Fit.{isShaped, fitRecord}
-use Rattle.writer.proofs.Fitting.{fit-of}
+use Rattle.wire.specs.rdata.Rdata.{formOf}
+use Rattle.writer.specs.Fit.{formFor, isShaped, fitRecord}
+use Rattle.writer.proofs.Rdata.{held-rest}
+use Rattle.writer.proofs.Fitting.{fit-of, again-shaped}
+use Rattle.writer.proofs.own_packets.Room.{instance-block, host-block}
 use Rattle.writer.proofs.Use.{is-done, is-grown, record-size, record-count, record-low, places-low, held-so}
 use Rattle.writer.specs.own_packets.Packets.{headerBytes, putAll}
 use Rattle.writer.specs.own_packets.Styles.{classIn, ttlIn, ownRecord}
 use Rattle.writer.specs.own_packets.Ready.{spotAfter, sizeOf, labelsOf, sizes, labelCounts, TtlSmall, each, fixed, OwnReady, ListReady}
 use Rattle.writer.specs.declared.own_packets.TtlRule.{TtlRule}
+use Rattle.writer.specs.declared.own_packets.TtlRule.the-variants.{Each}
 use Rattle.writer.specs.declared.own_packets.Style.{Style}
 
 -- six runs of two bytes
@@ -63,23 +69,33 @@ placed-grown fit fits v o pl placed o′ pl′ p u t at count r e =
     subst (λ (x : Spot). Grown v o pl x o′ pl′)
     (sym (e ∙ ap (λ (x : Placed). spotAfter x at count) (is-done fit fits v o pl placed o′ pl′ p u t))) (is-grown fit fits v o pl placed o′ pl′ p u t)
 
+-- an NSEC says its owner again, and then types of its name
+instance-nsec-shaped : (s : Setup) → Valid s → isShaped (ownName s InstanceNsec) 47 (ownRdata s InstanceNsec) ≡ true
+unfolding ownName ownLabels ownRdata
+instance-nsec-shaped s ok = again-shaped (encode (instanceLabels s)) instanceTypes (is-name (instance-name s ok)) instance-block
+
+host-nsec-shaped : (s : Setup) → Valid s → isShaped (ownName s HostNsec) 47 (ownRdata s HostNsec) ≡ true
+unfolding ownName ownLabels ownRdata
+host-nsec-shaped s ok = again-shaped (encode (hostLabels s)) (hostTypes (s .hasaaaa)) (is-name (host-name s ok)) (host-block (s .hasaaaa))
+
 -- an own record has rdata as its type asks, and a TTL that counts
-pub own-shaped : (s : Setup) → Valid s → (o : Own) → isShaped (ownType o) (ownRdata s o) ≡ true
-unfolding isShaped ownRdata srvRdata
+pub own-shaped : (s : Setup) → Valid s → (o : Own) → isShaped (ownName s o) (ownType o) (ownRdata s o) ≡ true
+unfolding isShaped formFor ownRdata srvRdata
 own-shaped s ok Ptr =
     let k : 0 ≤ length (encode (instanceLabels s)) = omega arith in
-    simp (le-leb 0 (length (encode (instanceLabels s))) k) (is-name (instance-name s ok))
-own-shaped s ok Srv = let k : 6 ≤ length (srvRdata s) = omega arith in simp (le-leb 6 (length (srvRdata s)) k) (is-name (host-name s ok))
+    simp (le-leb 0 (length (encode (instanceLabels s))) k) (ap isName (held-rest (formOf 12) (encode (instanceLabels s)) refl) ∙ is-name (instance-name s ok))
+own-shaped s ok Srv =
+    let k : 6 ≤ length (srvRdata s) = omega arith in
+    simp (le-leb 6 (length (srvRdata s)) k) (ap isName (held-rest (formOf 33) (srvRdata s) refl) ∙ is-name (host-name s ok))
 own-shaped s ok Txt = ok .strings
 own-shaped s ok A = eq-eqb _ _ (ok .four)
 own-shaped s ok Aaaa = eq-eqb _ _ (ok .sixteen)
+own-shaped s ok InstanceNsec = instance-nsec-shaped s ok
+own-shaped s ok HostNsec = host-nsec-shaped s ok
 
 pub own-counts : {rule : TtlRule} → TtlSmall rule → (o : Own) → ttlIn rule o < 2147483648
-own-counts each Ptr = omega arith
-own-counts each Srv = omega arith
-own-counts each Txt = omega arith
-own-counts each A = omega arith
-own-counts each Aaaa = omega arith
+own-counts each o =
+    by-record (λ o. ttlIn Each o < 2147483648) (omega arith) (omega arith) (omega arith) (omega arith) (omega arith) (omega arith) (omega arith) o
 own-counts (fixed h) o = h
 
 module _ (s : Setup) (style : Style) (i : Own) (at count : ℕ) (o pl : List ℕ) (ready : OwnReady s style i at count o pl) where
@@ -93,7 +109,8 @@ module _ (s : Setup) (style : Style) (i : Own) (at count : ℕ) (o pl : List ℕ
   fits =
       let b : at + length (ownName s i) + (10 + length (ownRdata s i)) ≤ length o = omega (arith, ready .room) in
       let c : at + length (ownName s i) ≤ 16384 = omega (arith, ready .small) in
-      let d : count + labelsIn (ownName s i) + labelsFor (ownType i) (ownRdata s i) ≤ length pl = omega (arith, ready .slots) in
+      let d : count + labelsIn (ownName s i) + labelsFor (formFor (ownName s i) (ownType i) (ownRdata s i)) (ownRdata s i) ≤ length pl =
+      omega (arith, ready .slots) in
       simp (le-leb _ _ b, le-leb _ _ c, le-leb _ _ d)
 
   module _ (n d : OwnBytes) (en : n ≡ ownOf (ownName s i)) (ed : d ≡ ownOf (ownRdata s i)) (k : ℕ) (ek : k ≡ ownType i) where

@@ -1,27 +1,44 @@
--- "All five always fit in 1,452 bytes": what own records take with their names whole. Assumes nothing.
-use mathlib.Core.Path.{_≡_}
+-- "The largest packet must still fit 1,452 bytes": what own records take with their names whole. Assumes nothing.
+use mathlib.Core.Path.{_≡_, refl, ap, ap₂, _∙_}
 use mathlib.Core.List.{List, [], _∷_}
 use mathlib.Core.Bool.{Bool, true, false, cond, _&&_}
 use Prim.Native.Nat.{ℕ, _+_, _-_, _≤_}
 use native.Mathlib.Omega.{arith}
-use lib.ListN.{length}
+use lib.ListN.{length, length-append}
 use Rattle.wire.specs.labels.Labels.{encode}
 use Rattle.wire.specs.labels.Counted.{labelsIn}
+use Rattle.wire.specs.nsec.Nsec.{names, isBlock}
+use Rattle.wire.proofs.labels.Encoded.{is-name}
 use Rattle.writer.proofs.compression.Written.{labels-in}
 use Rattle.claims.specs.records.Own.{all, ownType, firstOf, claimed, has}
 use Rattle.claims.specs.records.Sets.{picked}
 use Rattle.claims.specs.declared.records.Claim.{Claim}
 use Rattle.claims.specs.declared.records.Claim.the-variants.{Instance, Host}
 use Rattle.claims.specs.declared.records.Own.{Own}
-use Rattle.claims.specs.declared.records.Own.the-variants.{Ptr, Srv, Txt, A, Aaaa}
+use Rattle.claims.specs.declared.records.Own.the-variants.{Ptr, Srv, Txt, A, Aaaa, InstanceNsec, HostNsec}
 use Rattle.claims.specs.declared.records.Set.{Set}
+use Rattle.claims.proofs.records.Sets.{by-record}
 use Rattle.own.specs.declared.records.Setup.{Setup}
 use Rattle.own.specs.records.Setups.{serviceLabels, instanceLabels, hostLabels}
-use Rattle.own.specs.records.Records.{hasRecord, ownLabels, ownName, ownRdata, srvRdata}
+use Rattle.own.specs.records.Records.{hasRecord, ownLabels, ownName, ownRdata, srvRdata, instanceTypes, hostTypes}
 use Rattle.own.proofs.records.Valid.{Valid, service-most, instance-most, host-most, service-name, instance-name, host-name}
+use Rattle.wire.specs.rdata.Rdata.{formOf}
+use Rattle.writer.specs.Fit.{formFor}
 use Rattle.writer.specs.Writer.{labelsFor}
+use Rattle.writer.proofs.Rdata.{held-rest}
+use Rattle.writer.proofs.Fitting.{again-labels}
 use Rattle.writer.specs.own_packets.Own.{responseRecords, probeRecords}
 use Rattle.writer.specs.own_packets.Ready.{sizeOf, labelsOf, sizes, labelCounts}
+
+-- the types of an own NSEC are a window block
+pub instance-block : isBlock instanceTypes ≡ true
+unfolding isBlock names
+instance-block = refl
+
+pub host-block : (aaaa : Bool) → isBlock (hostTypes aaaa) ≡ true
+unfolding isBlock names
+host-block true = refl
+host-block false = refl
 
 -- picking leaves out
 sizes-picked : (s : Setup) (f : Own → Bool) (is : List Own) → sizes s (picked f is) ≤ sizes s is
@@ -63,12 +80,22 @@ module _ (s : Setup) (ok : Valid s) where
   unfolding ownName ownLabels ownRdata
   aaaa-size = omega (arith, host-most s ok, ok .sixteen)
 
+  instance-nsec-size : sizeOf s InstanceNsec ≤ 203
+  unfolding ownName ownLabels ownRdata
+  instance-nsec-size = omega (arith, instance-most s ok, length-append (encode (instanceLabels s)) instanceTypes)
+
+  host-types : (aaaa : Bool) → length (hostTypes aaaa) ≤ 6
+  host-types true = omega arith
+  host-types false = omega arith
+
+  host-nsec-size : sizeOf s HostNsec ≤ 158
+  unfolding ownName ownLabels ownRdata
+  host-nsec-size = omega (arith, host-most s ok, host-types (s .hasaaaa), length-append (encode (hostLabels s)) (hostTypes (s .hasaaaa)))
+
   pub own-size : (o : Own) → sizeOf s o ≤ 503
-  own-size Ptr = omega (arith, ptr-size)
-  own-size Srv = omega (arith, srv-size)
-  own-size Txt = txt-size
-  own-size A = omega (arith, a-size)
-  own-size Aaaa = omega (arith, aaaa-size)
+  own-size =
+      by-record (λ o. sizeOf s o ≤ 503) (omega (arith, ptr-size)) (omega (arith, srv-size)) txt-size (omega (arith, a-size)) (omega (arith, aaaa-size))
+      (omega (arith, instance-nsec-size)) (omega (arith, host-nsec-size))
 
   instance-labels : labelsIn (encode (instanceLabels s)) ≡ 4
   unfolding instanceLabels serviceLabels
@@ -83,34 +110,68 @@ module _ (s : Setup) (ok : Valid s) where
   host-labels = labels-in 0 (host-name s ok .labels)
 
   ptr-labels : labelsOf s Ptr ≡ 7
-  unfolding ownName ownLabels ownRdata labelsFor
-  ptr-labels = omega (arith, service-labels, instance-labels)
+  unfolding ownName ownLabels ownRdata formFor labelsFor
+  ptr-labels = omega (arith, service-labels, instance-labels, ap labelsIn (held-rest (formOf 12) (encode (instanceLabels s)) refl))
 
   srv-labels : labelsOf s Srv ≡ 6
-  unfolding ownName ownLabels ownRdata labelsFor srvRdata
-  srv-labels = omega (arith, instance-labels, host-labels)
+  unfolding ownName ownLabels ownRdata formFor labelsFor srvRdata
+  srv-labels = omega (arith, instance-labels, host-labels, ap labelsIn (held-rest (formOf 33) (srvRdata s) refl))
 
   txt-labels : labelsOf s Txt ≡ 4
-  unfolding ownName ownLabels ownRdata labelsFor
+  unfolding ownName ownLabels ownRdata formFor labelsFor
   txt-labels = omega (arith, instance-labels)
 
   a-labels : labelsOf s A ≡ 2
-  unfolding ownName ownLabels ownRdata labelsFor
+  unfolding ownName ownLabels ownRdata formFor labelsFor
   a-labels = omega (arith, host-labels)
 
   aaaa-labels : labelsOf s Aaaa ≡ 2
-  unfolding ownName ownLabels ownRdata labelsFor
+  unfolding ownName ownLabels ownRdata formFor labelsFor
   aaaa-labels = omega (arith, host-labels)
 
-  -- all five, with their names whole
-  pub response-size : (chosen : Set) → sizes s (responseRecords s chosen) ≤ 997
-  unfolding responseRecords sizes
-  response-size chosen = omega (arith, sizes-picked s (λ (o : Own). has o chosen && hasRecord s o) all, ptr-size, srv-size, txt-size, a-size, aaaa-size)
+  instance-nsec-labels : labelsOf s InstanceNsec ≡ 8
+  unfolding ownName ownLabels ownRdata
+  instance-nsec-labels =
+      let name : List ℕ = encode (instanceLabels s) in
+      ap₂ (λ (x y : ℕ). x + y) instance-labels (again-labels name instanceTypes (is-name (instance-name s ok)) instance-block ∙ instance-labels)
 
-  pub response-labels : (chosen : Set) → labelCounts s (responseRecords s chosen) ≤ 21
+  host-nsec-labels : labelsOf s HostNsec ≡ 4
+  unfolding ownName ownLabels ownRdata
+  host-nsec-labels =
+      let name : List ℕ = encode (hostLabels s) in
+      ap₂ (λ (x y : ℕ). x + y) host-labels
+      (again-labels name (hostTypes (s .hasaaaa)) (is-name (host-name s ok)) (host-block (s .hasaaaa)) ∙ host-labels)
+
+  -- all of them, with their names whole
+  pub response-size : (chosen : Set) → sizes s (responseRecords s chosen) ≤ 1358
+  unfolding responseRecords sizes
+  response-size chosen =
+      omega (
+        arith,
+        sizes-picked s (λ (o : Own). has o chosen && hasRecord s o) all,
+        ptr-size,
+        srv-size,
+        txt-size,
+        a-size,
+        aaaa-size,
+        instance-nsec-size,
+        host-nsec-size,
+      )
+
+  pub response-labels : (chosen : Set) → labelCounts s (responseRecords s chosen) ≤ 33
   unfolding responseRecords labelCounts
   response-labels chosen =
-      omega (arith, labels-picked s (λ (o : Own). has o chosen && hasRecord s o) all, ptr-labels, srv-labels, txt-labels, a-labels, aaaa-labels)
+      omega (
+        arith,
+        labels-picked s (λ (o : Own). has o chosen && hasRecord s o) all,
+        ptr-labels,
+        srv-labels,
+        txt-labels,
+        a-labels,
+        aaaa-labels,
+        instance-nsec-labels,
+        host-nsec-labels,
+      )
 
   pub probe-size : (claim : Claim) → sizes s (probeRecords s claim) ≤ 683
   unfolding probeRecords sizes

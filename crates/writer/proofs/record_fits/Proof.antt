@@ -4,8 +4,12 @@ use Rattle.writer.proofs.record_fits.Statement.{statement}
 use Rattle.writer.proofs.record_fits.Tie as tie
 use Rattle.writer.proofs.record_fits.Reads as reads
 use Rattle.writer.proofs.record_fits.Lts as lts
+use Rattle.writer.proofs.form_for.Reads as form-for-reads
 use Rattle.writer.proofs.labels_for.Reads as labels-for-reads
 use Rattle.writer.proofs.name_fits.Reads as name-fits-reads
+
+form-for-requires : tie.Need-form-for-requires
+form-for-requires c κs = search needs
 
 labels-for-requires : tie.Need-labels-for-requires
 labels-for-requires c κs = search needs
@@ -17,8 +21,10 @@ name-fits-requires : tie.Need-name-fits-requires
 name-fits-requires c κs = search needs
 
 returns : tie.Need-returns
-returns c = by-owner _ _ _ _ _ (c .before .labels-for .ensures) _ (c .name-fits .ensures)
+returns c =
+    by-owner _ _ _ _ _ (c .before .before .form-for .ensures) _ (c .before .labels-for .ensures) _ (c .name-fits .ensures)
 
 pub record-fits-spec : {M : Type 1} → statement M
 record-fits-spec =
-    tie.close (tie.spec labels-for-requires add-name-fits name-fits-requires returns)
+    tie.close
+    (tie.spec form-for-requires labels-for-requires add-name-fits name-fits-requires returns)

@@ -14,6 +14,7 @@ use Rattle.own.specs.records.Records.{ownName, ownRdata}
 use Rattle.writer.specs.declared.Spot.{Spot}
 use Rattle.writer.specs.declared.Placed.{Placed}
 use Rattle.writer.specs.declared.Placed.the-variants.{Done, Full, Unfit}
+use Rattle.writer.specs.Fit.{formFor}
 use Rattle.writer.specs.Writer.{spotOf, labelsFor}
 use Rattle.writer.specs.declared.own_packets.Picked.{Picked}
 use Rattle.writer.specs.declared.own_packets.TtlRule.{TtlRule}
@@ -40,7 +41,7 @@ abbrev pub sizeOf : Setup → Own → ℕ
 sizeOf s o = length (ownName s o) + 10 + length (ownRdata s o)
 
 abbrev pub labelsOf : Setup → Own → ℕ
-labelsOf s o = labelsIn (ownName s o) + labelsFor (ownType o) (ownRdata s o)
+labelsOf s o = labelsIn (ownName s o) + labelsFor (formFor (ownName s o) (ownType o) (ownRdata s o)) (ownRdata s o)
 
 -- those of a list of records
 unfoldable pub sizes : Setup → List Own → ℕ
@@ -83,13 +84,17 @@ pub record AskReady (style : Style) (name out places : List ℕ) : Type 0 where
   pub small : askedSize style name ≤ 16372
   pub slots : askedLabels style name ≤ length places
 
+-- how many offsets are noted in a packet at most
+abbrev pub mostPlaces : ℕ
+mostPlaces = 40
+
 pub record PacketReady (s : Setup) (style : Style) (name : List ℕ) (os : List Own) (out : List ℕ) : Type 0 where
   pub ok : validSetup s ≡ true
   pub named : style .asks ≡ true → isName name ≡ true
   pub counts : TtlSmall (style .ttl)
   pub room : 12 + askedSize style name + sizes s os ≤ length out
   pub small : askedSize style name + sizes s os ≤ 16372
-  pub slots : askedLabels style name + labelCounts s os ≤ 32
+  pub slots : askedLabels style name + labelCounts s os ≤ mostPlaces
 
 -- the records of the indices
 abbrev pub listed : Picked → List Own

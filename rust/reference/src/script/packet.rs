@@ -8,13 +8,15 @@ use crate::rtype;
 pub const CLASSES: [u16; 12] = [
     1, 1, 1, 1, 0x8001, 0x8001, 0x8001, 255, 0x80ff, 3, 0, 0x8003,
 ];
-pub const TYPES: [u16; 12] = [1, 12, 16, 28, 33, 255, 99, 47, 0, 2, 13, 0x8001];
+pub const TYPES: [u16; 14] = [1, 12, 16, 28, 33, 255, 99, 47, 47, 0, 2, 13, 256, 0x8001];
 
 #[derive(Clone)]
 pub enum DraftData {
     Bytes(Vec<u8>),
     Name(Vec<u8>),
     Service([u8; 6], Vec<u8>),
+    /// A name and what stands behind it.
+    Next(Vec<u8>, Vec<u8>),
 }
 
 #[derive(Clone)]
@@ -46,6 +48,10 @@ impl DraftRecord {
                 let (numbers, target) = rdata.split_at(6);
                 DraftData::Service(numbers.try_into().expect("six bytes"), target.to_vec())
             }
+            rtype::NSEC => match name_length(rdata) {
+                Some(length) => DraftData::Next(rdata[..length].to_vec(), rdata[length..].to_vec()),
+                None => DraftData::Bytes(rdata.to_vec()),
+            },
             _ => DraftData::Bytes(rdata.to_vec()),
         };
         DraftRecord {
@@ -54,6 +60,18 @@ impl DraftRecord {
             class,
             ttl,
             data,
+        }
+    }
+}
+
+/// The length of the uncompressed name that `bytes` begin with.
+fn name_length(bytes: &[u8]) -> Option<usize> {
+    let mut at = 0;
+    loop {
+        match *bytes.get(at)? {
+            0 => return Some(at + 1),
+            length @ 1..64 => at += 1 + usize::from(length),
+            _ => return None,
         }
     }
 }
@@ -119,6 +137,10 @@ impl Encoder<'_> {
             DraftData::Service(numbers, target) => {
                 self.bytes.extend(numbers);
                 self.name(target);
+            }
+            DraftData::Next(next, behind) => {
+                self.name(next);
+                self.bytes.extend(behind);
             }
         }
         let length = (self.bytes.len() - length_at - 2) as u16;
@@ -288,9 +310,75 @@ pub fn txt_of(random: &mut Random, length: usize) -> Vec<u8> {
     txt
 }
 
-/// Rdata that is legal for its type, expanded.
-pub fn some_rdata(random: &mut Random, rtype: u16) -> Vec<u8> {
+/// What stands behind the next name of an NSEC: most times as in the restricted
+/// form, else nearly so.
+pub fn window_block(random: &mut Random) -> Vec<u8> {
+    let length = random.pick(&[1, 1, 2, 4, 5, 5, 6, 6, 7, 31, 32, 32]);
+    let mut bitmap = match random.below(4) {
+        0 => vec![0; length],
+        1 => vec![0xff; length],
+        _ => random.bytes(length),
+    };
+    if let Some(byte) = bitmap.get_mut(5) {
+        *byte &= 0xfe;
+    }
+    if random.chance(35) {
+        bitmap = random
+            .pick(&[
+                &b"\x40"[..],
+                b"\x40\x00\x00\x08",
+                b"\x00\x00\x80\x00\x40",
+                b"\x40\x00",
+                b"\x00",
+            ])
+            .to_vec();
+    }
+    let mut block = [vec![0, bitmap.len() as u8], bitmap].concat();
+    match random.below(36) {
+        0 => block[0] = random.pick(&[1, 2, 128, 255]),
+        1 => block[1] += 1,
+        2 => block[1] -= 1,
+        3 => {
+            block.pop();
+        }
+        4 => block.push(random.pick(&[0, 0, 0x40])),
+        5 => block = vec![0, 0],
+        6 => {
+            block.resize(2 + 33, 0x40);
+            block[7] &= 0xfe;
+            block[1] = 33;
+        }
+        7 | 8 => {
+            // the bit of NSEC itself
+            let length = block.len().max(8);
+            block.resize(length, 0);
+            block[1] = length as u8 - 2;
+            block[7] |= 1;
+        }
+        9 => block.extend_from_within(..),
+        10 => block.truncate(random.below(3)),
+        _ => (),
+    }
+    block
+}
+
+/// Rdata of an NSEC of this owner: most times of the restricted form.
+pub fn nsec_rdata(random: &mut Random, owner: &[u8]) -> Vec<u8> {
+    let next = match random.below(12) {
+        0 => some_name(random),
+        1..=3 => random.recase(owner),
+        // a name that goes on, or one that ends sooner
+        4 if owner.len() < 250 => [b"\x01x", owner].concat(),
+        5 if owner.len() > 1 => owner[1 + usize::from(owner[0])..].to_vec(),
+        _ => owner.to_vec(),
+    };
+    [next, window_block(random)].concat()
+}
+
+/// Rdata that is legal for its type, expanded; of NSEC not always.
+pub fn some_rdata(random: &mut Random, owner: &[u8], rtype: u16) -> Vec<u8> {
     match rtype {
+        rtype::NSEC if random.chance(90) => nsec_rdata(random, owner),
         rtype::A => vec![10, random.byte() & 0x81, 0, random.byte() & 3],
         rtype::AAAA => [vec![0xfe, 0x80], random.bytes(14)].concat(),
         rtype::PTR => some_name(random),
@@ -371,7 +459,7 @@ fn name_starts_at(name: &[u8], at: usize) -> bool {
 
 /// A message at a corner of the reading rules.
 pub fn corner(random: &mut Random) -> Vec<u8> {
-    match random.below(19) {
+    match random.below(22) {
         0 => {
             let length = random.pick(&[0, 1, 11, 12, 13, 8971, 8972, 8973, 9000]);
             let mut bytes = vec![0; length];
@@ -535,8 +623,52 @@ pub fn corner(random: &mut Random) -> Vec<u8> {
             bytes.extend(rdata);
             bytes
         }
+        18..=20 => {
+            // an NSEC of the name at 12, with bad and good names before its bitmap
+            let owner = random.pick(&[&b"\x04desk\x05local\x00"[..], b"\x01a\x00", b"\x00"]);
+            let rdata_at = (HEADER + owner.len() + 4 + 12) as u8;
+            let own = [0xc0, rdata_at];
+            let forward = [0xc0, rdata_at + 1];
+            let far = [0xc0, rdata_at + 2];
+            let next: &[u8] = random.pick(&[
+                owner,
+                owner,
+                b"\xc0\x0c",
+                b"\xc0\x0c",
+                b"\x04desk\xc0\x11",
+                b"\x04DESK\xc0\x11",
+                b"\x04desk\x05LOCAL\x00",
+                b"\x01A\x00",
+                b"\xc0\x11",
+                b"\xc0\x0b",
+                b"\xc0\x00",
+                b"\xc0",
+                b"\xff\xff",
+                &own,
+                &forward,
+                &far,
+                b"\x40",
+                b"\xbf",
+                b"\x3f",
+                b"\x01b\x00",
+                b"",
+            ]);
+            let mut rdata = [next, &window_block(random)].concat();
+            if random.chance(10) {
+                rdata.truncate(random.below(rdata.len() + 1));
+            }
+            let mut bytes = header(random.pick(&[0, 0x8400]), [1, 0, 0, 0]);
+            let count_at = random.pick(&[7, 7, 9, 11]);
+            bytes[count_at] = 1;
+            bytes.extend(owner);
+            bytes.extend([0, 1, 0, 1, 0xc0, 12, 0, 47]);
+            bytes.extend(random.pick(&CLASSES).to_be_bytes());
+            bytes.extend([0, 0, 0, 9, 0, rdata.len() as u8]);
+            bytes.extend(rdata);
+            bytes
+        }
         17 => {
-            // class and TTL of any kind, all five types, any section
+            // class and TTL of any kind, all six types, any section
             let mut draft = Draft {
                 flags: random.pick(&[0, 0x8000, 0x8400]),
                 ..Draft::default()
@@ -565,7 +697,7 @@ pub fn corner(random: &mut Random) -> Vec<u8> {
 pub fn some_record(random: &mut Random) -> DraftRecord {
     let rtype = random.pick(&TYPES);
     let owner = some_name(random);
-    let rdata = some_rdata(random, rtype);
+    let rdata = some_rdata(random, &owner, rtype);
     let class = random.pick(&CLASSES);
     let ttl = some_ttl(random);
     DraftRecord::new(&owner, rtype, class, ttl, &rdata)

@@ -2,12 +2,14 @@
 //! held and lost, with packets aimed at the claims it has.
 
 use super::packet::{corner, largest, long_name, some_name, some_rdata, some_record, txt_of};
-use super::packet::{Draft, DraftData, DraftRecord, CLASSES, TYPES};
+use super::packet::{window_block, Draft, DraftData, DraftRecord, CLASSES, TYPES};
 use super::Script;
 use crate::responder::Claim;
 use crate::setup::{ClaimName, Kind, OwnRecord, Setup};
 use crate::{rtype, MOST_TIME};
 
+/// Types that a claim may have no record of.
+const ABSENT: [u16; 14] = [28, 28, 28, 1, 12, 16, 33, 47, 47, 0, 99, 256, 284, 65_535];
 const PROTOCOLS: [&[u8]; 2] = [b"_tcp", b"_udp"];
 /// Forms of UTF-8, the first and the last of each kind, and some that are
 /// seldom met: C1 controls, U+FEFF, noncharacters.
@@ -323,10 +325,13 @@ impl Script {
         self.model.responder.setup.records()
     }
 
+    /// The same, and the two NSEC.
+    fn all_records(&self) -> Vec<OwnRecord> {
+        self.model.responder.setup.all_records()
+    }
+
     fn claimed(&self, claim: ClaimName) -> Vec<OwnRecord> {
-        let mut records = self.own_records();
-        records.retain(|record| record.kind.is_claimed() && record.kind.claim() == claim);
-        records
+        self.model.responder.setup.claimed_records(claim)
     }
 
     /// The claims that are being probed for, which a later probe defers.
@@ -383,6 +388,22 @@ impl Script {
                 _ => {
                     let at = self.random.below(6);
                     numbers[at] = numbers[at].wrapping_add(self.random.pick(&[1, 255]));
+                }
+            },
+            DraftData::Next(next, window) => match self.random.below(6) {
+                0 | 1 => *next = self.random.recase(next),
+                2 => *next = some_name(&mut self.random),
+                3 => *window = window_block(&mut self.random),
+                4 if window.len() < 34 => {
+                    // a zero byte at the end
+                    window.push(0);
+                    window[1] += 1;
+                }
+                _ => {
+                    let at = self.random.below(window.len().max(1));
+                    if let Some(byte) = window.get_mut(at) {
+                        *byte ^= 1 << self.random.below(8);
+                    }
                 }
             },
             DraftData::Bytes(bytes) if record.rtype == rtype::TXT => {
@@ -447,9 +468,9 @@ impl Script {
                 }
                 9 => {
                     // one more of an own type
-                    let rtype = self.random.pick(&[1, 16, 28, 33]);
+                    let rtype = self.random.pick(&[1, 16, 28, 33, 47]);
                     let name = self.model.responder.setup.claim_name(claim);
-                    let rdata = some_rdata(&mut self.random, rtype);
+                    let rdata = some_rdata(&mut self.random, name.wire(), rtype);
                     records.push(DraftRecord::new(name.wire(), rtype, 1, 120, &rdata));
                 }
                 _ => (),
@@ -484,8 +505,12 @@ impl Script {
             let section = self.random.pick(&[1, 1, 1, 1, 1, 1, 1, 1, 0, 2]);
             draft.sections[section].extend(rivals);
         }
-        if self.random.chance(25) {
-            let question = if self.random.chance(50) {
+        if self.random.chance(35) {
+            let question = if self.random.chance(40) {
+                // what its claim has no record of
+                let name = draft.questions[0].0.clone();
+                (name, self.random.pick(&ABSENT), 1)
+            } else if self.random.chance(40) {
                 // the service's PTR, asked along with the probe
                 let service = self.model.responder.setup.service_name();
                 (service.wire().to_vec(), rtype::PTR, 1)
@@ -510,6 +535,11 @@ impl Script {
     fn some_question(&mut self) -> (Vec<u8>, u16, u16) {
         let own = self.own_records();
         let class = self.random.pick(&[1, 1, 1, 0x8001, 255, 0x80ff, 3, 0]);
+        if self.random.chance(25) {
+            // what a claim has no record of, most times
+            let name = self.aimed_name();
+            return (name, self.random.pick(&ABSENT), class);
+        }
         if self.random.chance(70) {
             let record = self.random.pick(&own);
             let name = self.maybe_recase(record.owner.wire());
@@ -520,7 +550,7 @@ impl Script {
     }
 
     fn add_known_answers(&mut self, draft: &mut Draft) {
-        for own in self.own_records() {
+        for own in self.all_records() {
             if self.random.chance(40) {
                 continue;
             }
@@ -557,6 +587,15 @@ impl Script {
             draft.questions.push(question);
         }
         if self.random.chance(15) {
+            // all that can go out at once
+            for claim in [ClaimName::Instance, ClaimName::Host] {
+                let name = self.model.responder.setup.claim_name(claim);
+                let name = self.maybe_recase(name.wire());
+                draft.questions.push((name.clone(), rtype::ANY, 1));
+                draft.questions.push((name, self.random.pick(&ABSENT), 1));
+            }
+        }
+        if self.random.chance(15) {
             draft.questions.extend_from_within(..);
         }
         if self.random.chance(40) {
@@ -580,7 +619,7 @@ impl Script {
             self.hostility
         };
         let hostile = self.random.chance(hostility);
-        for own in self.own_records() {
+        for own in self.all_records() {
             if self.random.chance(50) {
                 continue;
             }
@@ -607,6 +646,7 @@ impl Script {
                         }
                     }
                     3 if own.kind == Kind::Ptr => self.change_data(&mut record),
+                    3 | 4 if own.kind.is_negative() => self.change_data(&mut record),
                     _ => (),
                 }
             }
@@ -616,7 +656,7 @@ impl Script {
         // an AAAA, which the host may not have
         if self.model.responder.setup.aaaa.is_none() && self.random.chance(30) {
             let owner = self.model.responder.setup.host_name();
-            let rdata = some_rdata(&mut self.random, rtype::AAAA);
+            let rdata = some_rdata(&mut self.random, owner.wire(), rtype::AAAA);
             draft.sections[0].push(DraftRecord::new(owner.wire(), rtype::AAAA, 1, 120, &rdata));
         }
         if hostile && self.random.chance(30) {

@@ -1,8 +1,8 @@
 //! Lives of the cache: tables of all sizes, full ones, flushes, goodbyes, times
 //! at the boundaries.
 
-use super::packet::{corner, labelled_name, long_name, some_rdata, some_record, some_ttl, txt_of};
-use super::packet::{Draft, DraftRecord};
+use super::packet::{corner, labelled_name, long_name, nsec_rdata, some_rdata, some_record};
+use super::packet::{some_ttl, txt_of, Draft, DraftRecord};
 use super::Script;
 use crate::cache::SLOT;
 use crate::{rtype, MOST_TIME};
@@ -46,7 +46,15 @@ const ODD_TABLES: [&str; 24] = [
 ];
 /// So many records of one long owner fit in a message.
 const MOST_FILL: u64 = 530;
-const FIVE: [u16; 5] = [rtype::A, rtype::PTR, rtype::TXT, rtype::AAAA, rtype::SRV];
+const SIX: [u16; 7] = [
+    rtype::A,
+    rtype::PTR,
+    rtype::TXT,
+    rtype::AAAA,
+    rtype::SRV,
+    rtype::NSEC,
+    rtype::NSEC,
+];
 
 impl Script {
     /// A while of puts and looks, with or without a new table before it.
@@ -205,7 +213,7 @@ impl Script {
                 _ => entry.owner,
             };
             let rdata = if self.random.chance(30) {
-                some_rdata(&mut self.random, entry.rtype)
+                some_rdata(&mut self.random, &owner, entry.rtype)
             } else {
                 entry.rdata
             };
@@ -215,6 +223,16 @@ impl Script {
                     [&rdata[..6], &target].concat()
                 }
                 (rtype::PTR, 0) => self.random.recase(&rdata),
+                (rtype::NSEC, 0 | 1) => {
+                    // a next name of other case, or of another owner's
+                    let owner = self.random.recase(&owner);
+                    nsec_rdata(&mut self.random, &owner)
+                }
+                (rtype::NSEC, 2 | 3) => {
+                    let next = rdata.len().min(owner.len());
+                    let next = self.random.recase(&rdata[..next]);
+                    [&next, &rdata[next.len()..]].concat()
+                }
                 _ => rdata,
             };
             return DraftRecord::new(&owner, entry.rtype, class, ttl, &rdata);
@@ -244,9 +262,10 @@ impl Script {
                 DraftRecord::new(&owner, rtype::SRV, class, ttl, &rdata)
             }
             _ => {
-                let rtype = self.random.pick(&FIVE);
-                let rdata = some_rdata(&mut self.random, rtype);
-                DraftRecord::new(&self.owner(), rtype, class, ttl, &rdata)
+                let rtype = self.random.pick(&SIX);
+                let owner = self.owner();
+                let rdata = some_rdata(&mut self.random, &owner, rtype);
+                DraftRecord::new(&owner, rtype, class, ttl, &rdata)
             }
         }
     }
@@ -343,7 +362,7 @@ impl Script {
     fn look_some(&mut self, now: u64) {
         let used = self.used_slots();
         let (owner, rtype) = if used.is_empty() || self.random.chance(15) {
-            (self.owner(), self.random.pick(&FIVE))
+            (self.owner(), self.random.pick(&SIX))
         } else {
             let slot = self.random.pick(&used);
             let entry = &self.model.cache.entries()[slot];

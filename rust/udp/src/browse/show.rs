@@ -65,6 +65,9 @@ fn block(what: &str, instance: &Instance, factory: &[u8]) -> Vec<String> {
     for address in &instance.addresses {
         lines.push(format!("  address  {address}"));
     }
+    if instance.no_ipv6 {
+        lines.push("  address  no IPv6".to_string());
+    }
     let txt = instance.txt.as_deref().unwrap_or_default();
     lines.extend(
         pairs(txt, factory)
@@ -138,6 +141,7 @@ mod tests {
             }),
             txt: Some(b"\x06room=3\x07PassReq\x02e=\x06ROOM=4".to_vec()),
             addresses: vec![[10, 0, 0, 7].into()],
+            no_ipv6: false,
         }
     }
 

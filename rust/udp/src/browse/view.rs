@@ -12,6 +12,8 @@ pub struct Instance {
     pub server: Option<Server>,
     pub txt: Option<Vec<u8>>,
     pub addresses: Vec<IpAddr>,
+    /// The host says that it has no IPv6 address.
+    pub no_ipv6: bool,
 }
 
 /// Where an instance is served: its SRV.
@@ -52,11 +54,16 @@ fn instance(cache: &Cache, now: u64, name: &[u8]) -> Result<Instance, Refusal> {
         Some(server) => addresses(cache, now, &server.host)?,
         None => Vec::new(),
     };
+    let no_ipv6 = match &server {
+        Some(server) => is_denied(cache, now, &server.host, rtype::AAAA)?,
+        None => false,
+    };
     Ok(Instance {
         name: name.to_vec(),
         server,
         txt,
         addresses,
+        no_ipv6,
     })
 }
 
@@ -69,6 +76,14 @@ pub fn server(rdata: &[u8]) -> Option<Server> {
         }),
         _ => None,
     }
+}
+
+/// A live NSEC says that a name has no record of a type.
+pub fn is_denied(cache: &Cache, now: u64, name: &[u8], rtype: u16) -> Result<bool, Refusal> {
+    let denials = cache.all(now, name, rtype::NSEC)?;
+    Ok(denials.iter().any(|entry| {
+        matches!(Data::of(rtype::NSEC, entry.rdata), Some(Data::Nsec(nsec)) if !nsec.names(rtype))
+    }))
 }
 
 /// A host's addresses in rising order.
@@ -159,6 +174,18 @@ pub mod tests {
             (service_name(), rtype::PTR, 4500, capitals),
         ]);
         assert_eq!(instances(&cache, 1, &service_name()).unwrap().len(), 1);
+    }
+
+    pub fn no_aaaa() -> Vec<u8> {
+        [&host_name()[..], &[0, 1, 0x40]].concat()
+    }
+
+    #[test]
+    fn a_denial_counts_while_it_lives() {
+        let cache = heard(&[(host_name(), rtype::NSEC, 120, no_aaaa())]);
+        assert!(is_denied(&cache, 119_999, &host_name(), rtype::AAAA).unwrap());
+        assert!(!is_denied(&cache, 119_999, &host_name(), rtype::A).unwrap());
+        assert!(!is_denied(&cache, 120_000, &host_name(), rtype::AAAA).unwrap());
     }
 
     #[test]

@@ -1,8 +1,9 @@
-//! What the browser wants to know: who there is, always; SRV, TXT, A and AAAA that are missing; and records about to lapse (RFC 6762 section 5.2).
+//! What the browser wants to know: who there is, always; SRV, TXT, A and AAAA that are missing, unless an NSEC says that there is none; and records about to
+//! lapse (RFC 6762 section 5.2).
 
 use kurgashel::{Cache, Found, Refusal};
 
-use super::view::server;
+use super::view::{is_denied, server};
 
 use crate::query::{KnownAnswer, Question};
 use crate::rtype;
@@ -50,7 +51,9 @@ fn need<'a>(
 ) -> Result<Vec<Found<'a>>, Refusal> {
     let found = cache.all(now, name, rtype)?;
     if found.is_empty() {
-        wants.push(want(name, rtype, Reason::Missing));
+        if !is_denied(cache, now, name, rtype)? {
+            wants.push(want(name, rtype, Reason::Missing));
+        }
     } else if found.iter().any(|entry| is_stale(entry, now)) {
         wants.push(want(name, rtype, Reason::Refresh));
     }
@@ -89,7 +92,7 @@ pub fn known_pointers(
 
 #[cfg(test)]
 mod tests {
-    use super::super::view::tests::{heard, host_name, instance_name, service_name, srv};
+    use super::super::view::tests::{heard, host_name, instance_name, no_aaaa, service_name, srv};
     use super::*;
 
     fn types(cache: &Cache, now: u64, reason: Reason) -> Vec<u16> {
@@ -123,6 +126,17 @@ mod tests {
             types(&cache, 3_600_000, Reason::Refresh),
             [rtype::PTR, rtype::TXT]
         );
+    }
+
+    #[test]
+    fn what_does_not_exist_is_not_wanted() {
+        let cache = heard(&[
+            (service_name(), rtype::PTR, 4500, instance_name()),
+            (instance_name(), rtype::SRV, 120, srv()),
+            (instance_name(), rtype::TXT, 4500, vec![0]),
+            (host_name(), rtype::NSEC, 120, no_aaaa()),
+        ]);
+        assert_eq!(types(&cache, 0, Reason::Missing), [rtype::A]);
     }
 
     #[test]

@@ -1,3 +1,5 @@
+use mathlib.Core.Path.{ap}
+use Rattle.wire.specs.declared.rdata.Form.{Form}
 use Rattle.cache.proofs.records.Whole.{heard-found, heard-not}
 use borrow.Author.Needs.{needs}
 use Rattle.cache.proofs.records.hear.Statement.{statement}
@@ -7,6 +9,7 @@ use Rattle.cache.proofs.records.hear.Lts as lts
 use Rattle.wire.proofs.expansion.open.Reads as open-reads
 use Rattle.wire.proofs.expansion.view.Reads as view-reads
 use Rattle.wire.proofs.message.whole_record.Reads as whole-record-reads
+use Rattle.wire.proofs.rdata.form_at.Reads as form-at-reads
 
 whole-record-requires : tie.Need-whole-record-requires
 whole-record-requires c κs = search needs
@@ -23,11 +26,17 @@ slice-aggregate-view c = search needs
 view-requires : tie.Need-view-requires
 view-requires c κs = search needs
 
+form-at-requires : tie.Need-form-at-requires
+form-at-requires c κs = search needs
+
 enum-told : tie.Need-enum-told
 enum-told c = search needs
 
 returns : tie.Need-returns
-returns c = heard-found _ _ _ (c .before .before .before .before .before .before .before .whole-record .ensures) _ (c .before .before .before .before .before .f .given .1) _ (c .before .before .before .open .ensures) _ (c .view .ensures .0)
+returns c =
+    heard-found _ _ _ (c .before .before .before .before .before .before .before .before .whole-record .ensures) _
+    (c .before .before .before .before .before .before .f .given .1) _ (c .before .before .before .before .open .ensures) _ (c .before .view .ensures .0) _
+    (ap (λ (y : Form). y .named) (c .form-at .ensures))
 
 returns-2 : tie.Need-returns-2
 returns-2 c = heard-not _ _ _ (c .before .before .whole-record .ensures) (c .enum-told .given .1)
@@ -41,6 +50,7 @@ hear-spec =
     open-requires
     slice-aggregate-view
     view-requires
+    form-at-requires
     enum-told
     returns
     returns-2)

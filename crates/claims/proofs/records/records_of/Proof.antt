@@ -4,14 +4,14 @@ use Prim.Native.Nat.{_≤_, _-_}
 use mathlib.Core.Path.{_≡_}
 use mathlib.Core.Bool.{false, _&&_}
 use native.Mathlib.Omega.{arith}
-use Rattle.claims.specs.records.Own.{claimFor, sameClaim, present}
+use Rattle.claims.specs.records.Own.{claimFor, sameClaim, present, carriesData}
 use Rattle.claims.specs.records.Sets.{recordsOf}
 use borrow.Author.Needs.{needs}
 use Rattle.claims.proofs.records.records_of.Statement.{statement}
 use Rattle.claims.proofs.records.records_of.Tie as tie
 
 abbrev Inv-loop : tie.InvT-loop
-Inv-loop claim aaaa flags₀ i₀ flags i = (i ≤ records) × (flags ≡ filled false (λ o. sameClaim (claimFor o) claim && present o aaaa) i)
+Inv-loop claim aaaa flags₀ i₀ flags i = (i ≤ records) × (flags ≡ filled false (λ o. sameClaim (claimFor o) claim && (carriesData o && present o aaaa)) i)
 
 abbrev μ-loop : tie.MeasureT-loop
 μ-loop claim aaaa flags₀ i₀ flags i = records - i
@@ -28,11 +28,17 @@ claim-for-requires c κs = search needs
 same-claim-requires : tie.Need-same-claim-requires Inv-loop μ-loop
 same-claim-requires c κs = search needs
 
+carries-data-requires : tie.Need-carries-data-requires Inv-loop μ-loop
+carries-data-requires c κs = search needs
+
 is-present-requires : tie.Need-is-present-requires Inv-loop μ-loop
 is-present-requires c κs = search needs
 
 both-requires : tie.Need-both-requires Inv-loop μ-loop
 both-requires c κs = search needs
+
+both-requires-2 : tie.Need-both-requires-2 Inv-loop μ-loop
+both-requires-2 c κs = search needs
 
 array-write-flags : tie.Need-array-write-flags Inv-loop μ-loop
 array-write-flags c = search needs
@@ -44,7 +50,7 @@ loop-less : tie.Need-loop-less Inv-loop μ-loop
 loop-less c = search needs
 
 loop-again : tie.Need-loop-again Inv-loop μ-loop
-loop-again c = (omega arith, next-filled false _ _ _ _ (c .before .before .before .before .before .before .loop .inv .1) (simp (c .both .ensures, c .before .is-present .ensures, c .before .before .same-claim .ensures, c .before .before .before .claim-for .ensures, c .before .before .before .before .record-at .ensures)))
+loop-again c = (omega arith, next-filled false _ _ _ _ (c .before .before .before .before .before .before .before .before .loop .inv .1) (simp (c .both2 .ensures, c .before .both .ensures, c .before .before .is-present .ensures, c .before .before .before .carries-data .ensures, c .before .before .before .before .same-claim .ensures, c .before .before .before .before .before .claim-for .ensures, c .before .before .before .before .before .before .record-at .ensures)))
 
 set-of-requires : tie.Need-set-of-requires Inv-loop μ-loop
 set-of-requires c κs = search needs
@@ -63,8 +69,10 @@ records-of-spec =
     record-at-requires
     claim-for-requires
     same-claim-requires
+    carries-data-requires
     is-present-requires
     both-requires
+    both-requires-2
     array-write-flags
     add-i
     loop-less

@@ -1,7 +1,9 @@
 -- `facts::probe::some_asks` meets its contract. Assumes nothing.
 use Rattle.wire.specs.message.Readable.{questionShown}
 use Rattle.wire.proofs.message.Walk.{some-found, some-on, some-broken, some-done, question-found, question-broken}
-use mathlib.Core.Path.{sym, _∙_}
+use mathlib.Core.Path.{sym, ap, _∙_}
+use mathlib.Core.Bool.{Bool}
+use Rattle.facts.specs.Questions.{asksBy}
 use borrow.Author.Needs.{needs}
 use mathlib.Core.Path.{_≡_}
 use native.Mathlib.Omega.{arith}
@@ -27,17 +29,20 @@ question-at-requires c κs = search needs
 enum-known-q : tie.Need-enum-known-q Inv-loop μ-loop
 enum-known-q c = search needs
 
+takes-in-requires : tie.Need-takes-in-requires Inv-loop μ-loop
+takes-in-requires c κs = search needs
+
 asks-requires : tie.Need-asks-requires Inv-loop μ-loop
-asks-requires c κs = (c .before .before .before .before .before .loop .here, sym (c .before .before .before .question-at .ensures) ∙ c .before .q .given .1)
+asks-requires c κs = (c .before .before .before .before .before .before .loop .here, sym (c .before .before .before .before .question-at .ensures) ∙ c .before .before .q .given .1)
 
 returns : tie.Need-returns Inv-loop μ-loop
 returns c =
-    let a = c .before .before .before .before .before .before .before .before .before .before .args in
-    let l = c .before .before .before .before .before .before .before .loop in
-    let m = question-found (a .p .now) (l .here) _ (c .before .before .before .before .before .question-at .ensures) _
-    (c .before .before .before .q .given .1) in
-    some-found (asksAll (a .name .now)) (questionAt (a .p .now)) _ (l .left) (l .here) (l .inv) (omega arith)
-    (questionShown (a .p .now) (c .before .before .before .q .given .0 .0)) _ (m .here) _ (c .before .asks .ensures) (c .if1 .taken)
+    let a = c .before .before .before .before .before .before .before .before .before .before .before .args in
+    let l = c .before .before .before .before .before .before .before .before .loop in
+    let q = questionShown (a .p .now) (c .before .before .before .before .q .given .0 .0) in
+    let m = question-found (a .p .now) (l .here) _ (c .before .before .before .before .before .before .question-at .ensures) _ (c .before .before .before .before .q .given .1) in
+    some-found (asksAll (a .name .now)) (questionAt (a .p .now)) _ (l .left) (l .here) (l .inv) (omega arith) q _ (m .here) _
+    (c .before .asks .ensures ∙ ap (λ (b : Bool). asksBy (a .name .now) b q) (c .before .before .takes-in .ensures)) (c .if1 .taken)
 
 enum-told : tie.Need-enum-told Inv-loop μ-loop
 enum-told c = search needs
@@ -57,12 +62,12 @@ loop-less c = search needs
 
 loop-again : tie.Need-loop-again Inv-loop μ-loop
 loop-again c =
-    let a = c .before .before .before .before .before .before .before .before .before .before .args in
-    let l = c .before .before .before .before .before .before .before .loop in
-    let m = question-found (a .p .now) (l .here) _ (c .before .before .before .before .before .question-at .ensures) _
-    (c .before .before .before .q .given .1) in
-    some-on (asksAll (a .name .now)) (questionAt (a .p .now)) _ (l .left) (l .here) (l .inv) (omega arith)
-    (questionShown (a .p .now) (c .before .before .before .q .given .0 .0)) _ (m .here) _ (c .before .asks .ensures) (c .if1 .left)
+    let a = c .before .before .before .before .before .before .before .before .before .before .before .args in
+    let l = c .before .before .before .before .before .before .before .before .loop in
+    let q = questionShown (a .p .now) (c .before .before .before .before .q .given .0 .0) in
+    let m = question-found (a .p .now) (l .here) _ (c .before .before .before .before .before .before .question-at .ensures) _ (c .before .before .before .before .q .given .1) in
+    some-on (asksAll (a .name .now)) (questionAt (a .p .now)) _ (l .left) (l .here) (l .inv) (omega arith) q _ (m .here) _
+    (c .before .asks .ensures ∙ ap (λ (b : Bool). asksBy (a .name .now) b q) (c .before .before .takes-in .ensures)) (c .if1 .left)
 
 returns-3 : tie.Need-returns-3 Inv-loop μ-loop
 returns-3 c =
@@ -79,6 +84,7 @@ some-asks-spec =
     loop-holds
     question-at-requires
     enum-known-q
+    takes-in-requires
     asks-requires
     returns
     enum-told

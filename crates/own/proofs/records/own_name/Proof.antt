@@ -33,6 +33,18 @@ enum-told-5 c = search needs
 host-name-requires-2 : tie.Need-host-name-requires-2
 host-name-requires-2 c κs = search needs
 
+enum-told-6 : tie.Need-enum-told-6
+enum-told-6 c = search needs
+
+instance-name-requires-3 : tie.Need-instance-name-requires-3
+instance-name-requires-3 c κs = search needs
+
+enum-told-7 : tie.Need-enum-told-7
+enum-told-7 c = search needs
+
+host-name-requires-3 : tie.Need-host-name-requires-3
+host-name-requires-3 c κs = search needs
+
 returns : tie.Need-returns
 unfolding ownName ownLabels
 returns c = rw (c .before .enum-told .given .1) (c .service-name .ensures)
@@ -53,6 +65,14 @@ returns-5 : tie.Need-returns-5
 unfolding ownName ownLabels
 returns-5 c = rw (c .before .enum-told5 .given .1) (c .host-name2 .ensures)
 
+returns-6 : tie.Need-returns-6
+unfolding ownName ownLabels
+returns-6 c = rw (c .before .enum-told6 .given .1) (c .instance-name3 .ensures)
+
+returns-7 : tie.Need-returns-7
+unfolding ownName ownLabels
+returns-7 c = rw (c .before .enum-told7 .given .1) (c .host-name3 .ensures)
+
 pub own-name-spec : {M : Type 1} → statement M
 own-name-spec =
     tie.close
@@ -67,8 +87,14 @@ own-name-spec =
     host-name-requires
     enum-told-5
     host-name-requires-2
+    enum-told-6
+    instance-name-requires-3
+    enum-told-7
+    host-name-requires-3
     returns
     returns-2
     returns-3
     returns-4
-    returns-5)
+    returns-5
+    returns-6
+    returns-7)

@@ -33,6 +33,18 @@ enum-told-5 c = search needs
 aaaa-rdata-requires : tie.Need-aaaa-rdata-requires
 aaaa-rdata-requires c κs = search needs
 
+enum-told-6 : tie.Need-enum-told-6
+enum-told-6 c = search needs
+
+instance-nsec-requires : tie.Need-instance-nsec-requires
+instance-nsec-requires c κs = search needs
+
+enum-told-7 : tie.Need-enum-told-7
+enum-told-7 c = search needs
+
+host-nsec-requires : tie.Need-host-nsec-requires
+host-nsec-requires c κs = search needs
+
 returns : tie.Need-returns
 unfolding ownRdata
 returns c = rw (c .before .enum-told .given .1) (c .instance-name .ensures)
@@ -53,6 +65,14 @@ returns-5 : tie.Need-returns-5
 unfolding ownRdata
 returns-5 c = rw (c .before .enum-told5 .given .1) (c .aaaa-rdata .ensures)
 
+returns-6 : tie.Need-returns-6
+unfolding ownRdata
+returns-6 c = rw (c .before .enum-told6 .given .1) (c .instance-nsec .ensures)
+
+returns-7 : tie.Need-returns-7
+unfolding ownRdata
+returns-7 c = rw (c .before .enum-told7 .given .1) (c .host-nsec .ensures)
+
 pub own-rdata-spec : {M : Type 1} → statement M
 own-rdata-spec =
     tie.close
@@ -67,8 +87,14 @@ own-rdata-spec =
     a-rdata-requires
     enum-told-5
     aaaa-rdata-requires
+    enum-told-6
+    instance-nsec-requires
+    enum-told-7
+    host-nsec-requires
     returns
     returns-2
     returns-3
     returns-4
-    returns-5)
+    returns-5
+    returns-6
+    returns-7)

@@ -7,7 +7,7 @@ use Rattle.wire.proofs.expansion.open.Tie as tie
 use Rattle.wire.proofs.expansion.open.Reads as reads
 use Rattle.wire.proofs.expansion.open.Lts as lts
 use Rattle.wire.proofs.expansion.open_name.Reads as open-name-reads
-use Rattle.wire.proofs.rdata.form_of.Reads as form-of-reads
+use Rattle.wire.proofs.rdata.form_at.Reads as form-at-reads
 use Rattle.wire.proofs.rdata.rdata_fits.Reads as rdata-fits-reads
 
 rdata-fits-requires : tie.Need-rdata-fits-requires
@@ -16,19 +16,19 @@ rdata-fits-requires c κs = search needs
 returns : tie.Need-returns
 returns c = let a = c .before .before .before .args in open-unfit (a .p .now) (a .f) (sym (c .before .rdata-fits .ensures) ∙ not-true _ (c .if1 .taken))
 
-form-of-requires : tie.Need-form-of-requires
-form-of-requires c κs = search needs
+form-at-requires : tie.Need-form-at-requires
+form-at-requires c κs = search needs
 
 open-name-requires : tie.Need-open-name-requires
-open-name-requires c κs = let a = c .before .before .before .before .before .args in name-room (a .p .now) (a .f) _ (c .before .form-of .ensures) (c .if2 .taken) (sym (c .before .before .before .rdata-fits .ensures) ∙ not-false _ (c .before .before .if1 .left))
+open-name-requires c κs = let a = c .before .before .before .before .before .args in name-room (a .p .now) (a .f) _ (c .before .form-at .ensures) (c .if2 .taken) (sym (c .before .before .before .rdata-fits .ensures) ∙ not-false _ (c .before .before .if1 .left))
 
 returns-2 : tie.Need-returns-2
-returns-2 c = let a = c .before .before .before .before .before .before .args in open-named (a .p .now) (a .f) _ (c .before .before .form-of .ensures) (c .before .if2 .taken) (sym (c .before .before .before .before .rdata-fits .ensures) ∙ not-false _ (c .before .before .before .if1 .left)) _ (c .open-name .ensures)
+returns-2 c = let a = c .before .before .before .before .before .before .args in open-named (a .p .now) (a .f) _ (c .before .before .form-at .ensures) (c .before .if2 .taken) (sym (c .before .before .before .before .rdata-fits .ensures) ∙ not-false _ (c .before .before .before .if1 .left)) _ (c .open-name .ensures)
 
 returns-3 : tie.Need-returns-3
-returns-3 c = let a = c .before .before .before .before .before .args in open-other (a .p .now) (a .f) _ (c .before .form-of .ensures) (c .if2 .left)
+returns-3 c = let a = c .before .before .before .before .before .args in open-other (a .p .now) (a .f) _ (c .before .form-at .ensures) (c .if2 .left)
 
 pub open-spec : {M : Type 1} → statement M
 open-spec =
     tie.close
-    (tie.spec rdata-fits-requires returns form-of-requires open-name-requires returns-2 returns-3)
+    (tie.spec rdata-fits-requires returns form-at-requires open-name-requires returns-2 returns-3)

@@ -25,7 +25,7 @@ be16-requires-3 : tie.Need-be16-requires-3
 be16-requires-3 c κs = search needs
 
 add-t10 : tie.Need-add-t10
-add-t10 c = omega (arith, name-starts _ _ _ _ _ (sym (c .before .before .before .before .before .before .name-in .ensures) ∙ c .before .before .before .before .span .given .1))
+add-t10 c = omega (arith, name-starts _ _ _ _ _ _ (sym (c .before .before .before .before .before .before .name-in .ensures) ∙ c .before .before .before .before .span .given .1))
 
 enum-told : tie.Need-enum-told
 enum-told c = search needs

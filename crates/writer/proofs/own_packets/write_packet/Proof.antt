@@ -1,6 +1,7 @@
 use mathlib.Core.Path.{refl}
 use native.Mathlib.Omega.{arith}
 use lib.ListN.{replicate}
+use Rattle.writer.specs.own_packets.Ready.{mostPlaces}
 use Rattle.writer.proofs.own_packets.Answering.{counts-small, list-ready, packet-written}
 use borrow.Author.Needs.{needs}
 use Rattle.writer.proofs.own_packets.write_packet.Statement.{statement}
@@ -60,7 +61,7 @@ write-list-requires c κs =
       list-ready (a .s) (a .style) (a .name .now) (a .list) (a .out .now) (pre .0) (pre .1) _ _ _
           (ten .before .before .before .before .before .before .either .ensures) (ten .before .before .before .before .before .either2 .ensures)
           (ten .before .before .before .before .either3 .ensures) _ (ten .put-header .ensures)
-          (replicate 32 0) refl _ _ _ (c .before .before .before .before .before .write-asked .ensures)
+          (replicate mostPlaces 0) refl _ _ _ (c .before .before .before .before .before .write-asked .ensures)
           (c .before .before .before .before .before .write-asked .kept .1 .1 .0) (c .before .before .before .before .before .write-asked .kept .1 .1 .1 .0),
       pre .1,
     )
@@ -77,7 +78,7 @@ returns c =
     packet-written (a .s) (a .style) (a .name .now) (a .list) (a .out .now) (pre .0) (pre .1) _ _ _ (twenty .either .ensures)
     (ten .before .before .before .before .before .before .before .before .before .either2 .ensures)
     (ten .before .before .before .before .before .before .before .before .either3 .ensures) _ (ten .before .before .before .before .put-header .ensures)
-    (replicate 32 0) refl _ _ _ (c .before .before .before .before .before .before .before .before .before .write-asked .ensures)
+    (replicate mostPlaces 0) refl _ _ _ (c .before .before .before .before .before .before .before .before .before .write-asked .ensures)
     (c .before .before .before .before .before .before .before .before .before .write-asked .kept .1 .1 .0)
     (c .before .before .before .before .before .before .before .before .before .write-asked .kept .1 .1 .1 .0)
     _ _ _ (c .before .before .before .write-list .ensures)
