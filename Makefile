@@ -29,8 +29,9 @@ install: library ## copy the header, both archives and kurgashel.pc under $(DEST
 uninstall: ## remove what install copied
 	rm -f "$(include)/kurgashel.h" "$(lib)/libkurgashel.a" "$(lib)/libkurgashel_reader.a" "$(lib)/pkgconfig/kurgashel.pc"
 
-bench: library ## time the proved library beside the reference program, and the cache
-	cargo run --release --quiet --manifest-path rust/bench/Cargo.toml
+bench: library ## time the proved library beside ordinary Rust and the peers that are installed, and draw docs/benchmark.svg
+	rust/peers/build.sh
+	cargo run --release --quiet --manifest-path rust/bench/Cargo.toml -- --svg docs/benchmark.svg
 	tests/cache.sh bench
 
 clean: ## remove all that was built and proved

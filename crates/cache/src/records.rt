@@ -1,8 +1,14 @@
 // One record of a message as it lies, against one entry by value (specification, 'The cache'): its owner and rdata are compared with the packet in place.
 // What the rules do to the entries follows from what was seen of them.
 ghost use mathlib.Core.Path.{_≡_};
+ghost use mathlib.Core.Bool.{false};
+ghost use lib.ListN.{take};
+ghost use Rattle.wire.specs.names.Answers.{nameIs};
+ghost use Rattle.wire.specs.rdata.Rdata.{rdataAt};
+ghost use Rattle.wire.specs.expansion.Equal.{rdataIs};
+ghost use Rattle.cache.specs.entries.Entries.{slotOf};
 ghost use Rattle.cache.specs.entries.Cache.{cachedAs};
-ghost use Rattle.cache.specs.records.Heard.{heardAt, isTaken, isFlushing, isSought, isOfHeard, liveHeard, holdsHeard, flushedHeard};
+ghost use Rattle.cache.specs.records.Heard.{heardAt, isTaken, isFlushing, isSought, isAlike, liveHeard, holdsHeard, flushedHeard};
 ghost use Rattle.cache.specs.records.Heard.{firstSlot, nothingSeen, freeNext, seenNext, chosenOf};
 use crate::entries::Entry;
 use crate::entries::Slot;
@@ -75,16 +81,24 @@ pub fn hear(p: &[u8], at: usize) -> Heard
 {
     match wire::message::whole_record(p, at) {
         wire::message::RecordRead::Found(f) => {
+            let form = wire::rdata::form_at(p, f);
+            if !form.named {
+                return Heard {
+                    whole: true,
+                    at: f,
+                    len: f.rdlength,
+                    named: false,
+                };
+            }
             let opened = wire::expansion::open(p, f);
             let bytes = opened.bytes;
             let content = wire::expansion::view(p, &bytes, opened.len, f);
             let len = content.len();
-            let form = wire::rdata::form_at(p, f);
             Heard {
                 whole: true,
                 at: f,
                 len,
-                named: form.named,
+                named: true,
             }
         }
         wire::message::RecordRead::Malformed => Heard {
@@ -142,52 +156,73 @@ pub fn is_sought(h: Heard) -> bool
     is_taken(h)
 }
 
-// Whether the entry in slot i is of a record's name and type. The type and the lengths are compared before any byte is folded.
-pub fn is_of_heard(e: Entry, i: usize, store: &[u8], p: &[u8], h: Heard) -> bool
-    ensures { λ r. ⌜ r ≡ isOfHeard (now (store .entry)) (now (p .entry)) h i e ⌝ }
+// Whether the owner in slot i, of so many bytes, is the name at an offset of a packet. It takes numbers and no record, so that a loop over a table copies no
+// record for each entry.
+pub fn is_owner(store: &[u8], i: usize, len: usize, p: &[u8], at: usize) -> bool
+    ensures { λ r. ⌜ r ≡ nameIs (now (p .entry)) at (take len (slotOf (now (store .entry)) i)) ⌝ }
+{
+    wire::names::name_is(
+        p,
+        at,
+        wire::rdata::part(crate::entries::slot_of(store, i), 0, len),
+    )
+}
+
+// Whether an entry is live and agrees with a record in its type and in the length of its owner: before any byte is looked at.
+fn is_alike(e: Entry, time: u64, h: Heard) -> bool
+    ensures { λ r. ⌜ r ≡ isAlike time h e ⌝ }
 {
     let f = h.at;
+    if !crate::entries::is_live(e, time) {
+        return false;
+    }
     if e.rtype != f.rtype {
         return false;
     }
-    let len = e.owner as usize;
-    if len != f.span.len {
-        return false;
-    }
-    wire::names::name_is(
-        p,
-        f.owner,
-        wire::rdata::part(crate::entries::slot_of(store, i), 0, len),
-    )
+    e.owner as usize == f.span.len
 }
 
 // Whether the entry in slot i is a live one of a record's name and type.
 pub fn is_live_heard(e: Entry, i: usize, store: &[u8], time: u64, p: &[u8], h: Heard) -> bool
     ensures { λ r. ⌜ r ≡ liveHeard time (now (store .entry)) (now (p .entry)) h i e ⌝ }
 {
-    if !crate::entries::is_live(e, time) {
+    let f = h.at;
+    if !is_alike(e, time, h) {
         return false;
     }
-    is_of_heard(e, i, store, p, h)
+    is_owner(store, i, e.owner as usize, p, f.owner)
+}
+
+// Whether expanded bytes may be the rdata of a record: of a PTR record only where they are its name but for case. It is compared in place, nothing is expanded.
+fn may_be_rdata(p: &[u8], f: wire::message::RecordAt, other: &[u8]) -> bool
+    ensures { λ r. ⌜ (r ≡ false → rdataIs (rdataAt (now (p .entry)) f) (now (other .entry)) ≡ false) ⌝ }
+{
+    if f.rtype != wire::rdata::PTR {
+        return true;
+    }
+    wire::names::name_is(p, f.rdata, other)
 }
 
 // Whether the entry in slot i is live and holds a record.
 pub fn is_equal(e: Entry, i: usize, store: &[u8], time: u64, p: &[u8], h: Heard) -> bool
     ensures { λ r. ⌜ r ≡ holdsHeard time (now (store .entry)) (now (p .entry)) h i e ⌝ }
 {
+    let f = h.at;
     let len = e.rdata as usize;
     if len != h.len {
         return false;
     }
-    if !is_live_heard(e, i, store, time, p, h) {
+    if !is_alike(e, time, h) {
         return false;
     }
-    let f = h.at;
-    wire::expansion::rdata_is(
-        p,
-        f,
-        wire::rdata::part(crate::entries::slot_of(store, i), 256, len),
-    )
+    let held = wire::rdata::part(crate::entries::slot_of(store, i), 256, len);
+    if !may_be_rdata(p, f, held) {
+        return false;
+    }
+    if !is_owner(store, i, e.owner as usize, p, f.owner) {
+        return false;
+    }
+    wire::expansion::rdata_is(p, f, held)
 }
 
 // Rule 1 on the entry in slot i.

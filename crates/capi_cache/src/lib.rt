@@ -467,7 +467,8 @@ fn take_records(
     first: Cursor,
 ) -> TakenNumbers
     requires { ⌜ Taking time (length (now table)) (length (now store)) first ⌝ }
-    ensures { λ r. ⌜ (let c : Cache = takeRecords time (recordsFrom (now (message .entry)) first) (cacheAt first (now (table .entry)) (now (store .entry))) in
+    ensures { λ r. ⌜ (let was : Cache = cacheAt first (now (table .entry)) (now (store .entry)) in
+        let c : Cache = takeRecords time (recordsFrom (now (message .entry)) first) was in
         (r ≡ countedTake (c .turned) (c .passed)) × ((now (table .exit) ≡ c .entries) × (now (store .exit) ≡ c .store))) ⌝ }
 {
     let mut c = first;

@@ -1,7 +1,8 @@
 // The packet reader for C and Rust. It stands on the reader alone, so that a device that only reads links nothing else. A message is read once,
-// then walked (crate `capi_reader_walk`). The source port is not known here: the caller tests it. c/include/kurgashel.h declares these functions.
+// then walked (crate `capi_reader_walk`); `capi_reader_refusal` answers a message's refusal alone. The source port is not known here: the caller tests it.
+// c/include/kurgashel.h declares these functions.
 ghost use mathlib.Core.Path.{_≡_};
-ghost use Rattle.wire.specs.message.Layout.{messageAt, readOf, refusalOf};
+ghost use Rattle.wire.specs.message.Layout.{messageAt, readOf};
 ghost use Rattle.wire.specs.names.Names.{nameAt};
 ghost use Rattle.capi_reader.specs.Reader.{endOf, lengthOf, nameOf, sectionsOf};
 
@@ -30,17 +31,6 @@ pub struct Sections {
     pub authorities_at: usize,
     pub additionals_at: usize,
     pub end: usize,
-}
-
-// The refusal of a whole message, 4, 5 or 6, and 0 where it is well formed.
-#[no_mangle]
-pub extern "C" fn kurgashel_message_refusal(message: &[u8]) -> u8
-    ensures { λ r. ⌜ r ≡ refusalOf (readOf (messageAt (now (message .entry)))) ⌝ }
-{
-    match wire::message::read_message(message) {
-        wire::message::MessageRead::Read(_) => 0,
-        wire::message::MessageRead::Refused(number) => number,
-    }
 }
 
 // The offset past the name at an offset, and 0 where it is malformed. Nothing is copied.

@@ -2,3 +2,4 @@
 pub mod States
 pub mod Starting
 pub mod Calling
+pub mod Idling

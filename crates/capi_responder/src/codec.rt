@@ -197,6 +197,18 @@ pub fn read_setup(b: &[u8]) -> Setup
     blank.setup
 }
 
+// What changes of the state that a buffer holds; its set-up stays unread.
+pub fn read_progress(b: &[u8]) -> Progress
+    ensures { λ r. ⌜ r ≡ decode (now (b .entry)) .progress ⌝ }
+{
+    let size = b.len();
+    if size == layout::STATE_SIZE {
+        return progress_at(b);
+    }
+    let blank = responder::blank_state();
+    blank.progress
+}
+
 // The state that a buffer holds.
 pub fn read_state(b: &[u8]) -> State
     ensures { λ r. ⌜ r ≡ decode (now (b .entry)) ⌝ }

@@ -7,7 +7,7 @@ ghost use Rattle.capi_responder.specs.codec.Numbers.{bytes64, Fits64};
 ghost use Rattle.capi_responder.specs.codec.Layout as layout;
 ghost use Rattle.capi_responder.specs.codec.Codec.{claimTag, claimDue, whenFlag, whenTime};
 ghost use Rattle.capi_responder.specs.codec.Codec.{caseBytes, claimBytes, whenBytes, multicastsBytes, progressBytes};
-ghost use Rattle.capi_responder.specs.codec.Codec.{decode, MulticastsFit, ProgressFits, withProgress, stateWith, withSetup};
+ghost use Rattle.capi_responder.specs.codec.Codec.{decode, MulticastsFit, ProgressFits, withProgress, withTime, stateWith, withSetup};
 ghost use Rattle.capi_responder.specs.encoder.Laid.{Laid};
 use crate::layout;
 use claims::ClaimState;
@@ -158,10 +158,21 @@ fn lay_progress(out: &mut [u8], progress: Progress)
 
 // Writes what changes into a state's bytes; those of its set-up stay, and so does a buffer of another length.
 pub fn put_progress(state: &mut [u8], progress: Progress)
-    ensures { λ _. ⌜ (now (state .exit) ≡ withProgress (now (state .entry)) progress) × (decode (now (state .exit)) ≡ stateWith (now (state .entry)) progress) ⌝ }
+    ensures { λ _. ⌜ (now (state .exit) ≡ withProgress (now (state .entry)) progress)
+        × (decode (now (state .exit)) ≡ stateWith (now (state .entry)) progress) ⌝ }
 {
     if state.len() == layout::STATE_SIZE {
         lay_progress(state, progress);
+    }
+}
+
+// Writes the time of the last call into a state's bytes; the others stay, and so does a buffer of another length.
+pub fn put_time(state: &mut [u8], time: u64)
+    ensures { λ _. ⌜ now (state .exit) ≡ withTime (now (state .entry)) time ⌝ }
+{
+    let size = state.len();
+    if size == layout::STATE_SIZE {
+        put_number(state, layout::LAST, time);
     }
 }
 

@@ -2,7 +2,9 @@
 // in numbers. What a state says is in `state`. c/include/kurgashel.h declares these functions.
 pub mod codec;
 pub mod encoder;
+pub mod idle;
 pub mod layout;
+pub mod setup_test;
 pub mod state;
 
 ghost use mathlib.Core.Path.{_≡_};
@@ -118,6 +120,10 @@ pub extern "C" fn kurgashel_tick(state: &mut [u8], time: u64, out: &mut [u8]) ->
     ensures { λ r. ⌜ (let t : Tick = record { time = time; room = length (now (out .entry)) } in
         Calls (now (state .entry)) (ticked t) (now (out .entry)) r (now (state .exit)) (now (out .exit))) ⌝ }
 {
+    if crate::idle::is_idle(state, time, out.len()) {
+        crate::encoder::put_time(state, time);
+        return answered(Answer::Quiet, false);
+    }
     let walked = responder::tick(crate::codec::read_state(state), time, out);
     let answer = walked.answer;
     let more = walked.more;

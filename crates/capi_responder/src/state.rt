@@ -16,8 +16,7 @@ pub struct NextStep {
 pub extern "C" fn kurgashel_claim(state: &[u8], claim: u8) -> u8
     ensures { λ r. ⌜ r ≡ claimNumber (now (state .entry)) claim ⌝ }
 {
-    let read = crate::codec::read_state(state);
-    let progress = read.progress;
+    let progress = crate::codec::read_progress(state);
     if claim == 0 {
         let instance = progress.instance;
         return claims::state_number(instance);
@@ -31,8 +30,7 @@ pub extern "C" fn kurgashel_claim(state: &[u8], claim: u8) -> u8
 pub extern "C" fn kurgashel_due(state: &[u8]) -> NextStep
     ensures { λ r. ⌜ r ≡ nextStep (now (state .entry)) ⌝ }
 {
-    let read = crate::codec::read_state(state);
-    let progress = read.progress;
+    let progress = crate::codec::read_progress(state);
     match claims::due::next_due(progress) {
         When::Never => NextStep {
             due: false,

@@ -3,7 +3,8 @@
 ghost use mathlib.Core.Path.{_≡_};
 ghost use mathlib.Core.Bool.{false, _&&_};
 ghost use lib.ListN.{getD};
-ghost use Rattle.claims.specs.records.Own.{indexOf, recordAt, ownType, ownClass, ownTtl, claimFor, sameClaim, present, carriesData, goesAtOnce, firstOf, secondOf, has, each};
+ghost use Rattle.claims.specs.records.Own.{indexOf, recordAt, ownType, ownClass, ownTtl, claimFor, sameClaim, present, carriesData, goesAtOnce};
+ghost use Rattle.claims.specs.records.Own.{firstOf, secondOf, has, each};
 ghost use Rattle.claims.specs.records.Sets.{noRecord, only, anyOf, atOnce, recordsOf};
 
 // The two claims: to the instance's name and to the host's.

@@ -5,3 +5,4 @@ mod Asked
 mod Known
 mod Responses
 mod Said
+mod Types

@@ -1,5 +1,6 @@
 pub mod Facts
 pub mod Questions
 pub mod Found
+pub mod Types
 pub mod probe
 pub mod tiebreak

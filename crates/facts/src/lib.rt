@@ -15,6 +15,7 @@ ghost use Rattle.own.specs.records.Records.{hasRecord};
 ghost use Rattle.facts.specs.Questions.{takesIn, asksBy};
 ghost use Rattle.facts.specs.Found.{QuestionFound, RecordFound};
 ghost use Rattle.facts.specs.tiebreak.Later.{isLater};
+ghost use Rattle.facts.specs.Types.{canConflict, someType, mayConflict};
 ghost use Rattle.facts.specs.Facts.{typeAsks, asksOwn, isAsked, isKnown, suppresses, conflicts, conflicted, theirsLater, responseTo, queryTo, factsOf};
 use claims::answers::Facts;
 use claims::answers::Heard;
@@ -293,6 +294,61 @@ fn has_conflict(p: &[u8], l: wire::message::Layout, setup: Setup, o: Own) -> boo
     )
 }
 
+// Whether a type is that of a claimed record: A, TXT, AAAA or SRV.
+fn can_conflict(rtype: u16) -> bool
+    ensures { λ r. ⌜ r ≡ canConflict rtype ⌝ }
+{
+    if rtype == 1 {
+        return true;
+    }
+    if rtype == 16 {
+        return true;
+    }
+    if rtype == 28 {
+        return true;
+    }
+    rtype == 33
+}
+
+// Whether a record of a section has such a type, by steps from record to record that leave its rdata unread.
+fn some_type(p: &[u8], s: wire::message::Section) -> bool
+    ensures { λ r. ⌜ r ≡ someType (now (p .entry)) s ⌝ }
+{
+    let mut here = s.at;
+    let mut left = s.count;
+    while 0 < left {
+        match wire::message::record_at(p, here) {
+            wire::message::RecordRead::Found(f) => {
+                if can_conflict(f.rtype) {
+                    return true;
+                }
+                here = f.next;
+            }
+            wire::message::RecordRead::Malformed => {
+                return false;
+            }
+        }
+        left -= 1;
+    }
+    false
+}
+
+// Whether a record of any section has such a type. Where none has, there is no conflict.
+fn may_conflict(p: &[u8], l: wire::message::Layout) -> bool
+    ensures { λ r. ⌜ r ≡ mayConflict (now (p .entry)) l ⌝ }
+{
+    let answers = l.answers;
+    if some_type(p, answers) {
+        return true;
+    }
+    let authorities = l.authorities;
+    if some_type(p, authorities) {
+        return true;
+    }
+    let additionals = l.additionals;
+    some_type(p, additionals)
+}
+
 // What a response says to a claim.
 fn response_to(p: &[u8], l: wire::message::Layout, setup: Setup, claim: Claim) -> Heard
     ensures { λ r. ⌜ r ≡ responseTo setup claim (messageIn (now (p .entry)) l) ⌝ }
@@ -371,6 +427,23 @@ pub fn facts(p: &[u8], l: wire::message::Layout, setup: Setup) -> Facts
     ensures { λ r. ⌜ r ≡ factsOf setup (messageIn (now (p .entry)) l) ⌝ }
 {
     if 32768 <= l.flags {
+        if !may_conflict(p, l) {
+            return Facts {
+                response: true,
+                asked: claims::records::no_record(),
+                known: claims::records::no_record(),
+                instance: Heard {
+                    probe: false,
+                    later: false,
+                    conflict: false,
+                },
+                host: Heard {
+                    probe: false,
+                    later: false,
+                    conflict: false,
+                },
+            };
+        }
         return Facts {
             response: true,
             asked: claims::records::no_record(),

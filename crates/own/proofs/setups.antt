@@ -1,2 +1,2 @@
 -- Laws of the rules.
-mod Rules
+pub mod Rules

@@ -93,7 +93,7 @@ fn hyphens_apart(s: &[u8]) -> bool
 }
 
 // The rule for a service label: "_" and a name by RFC 6335.
-fn service_rule(s: &[u8]) -> bool
+pub fn service_rule(s: &[u8]) -> bool
     ensures { λ r. ⌜ r ≡ serviceRule (now (s .entry)) ⌝ }
 {
     if s.len() == 0 {

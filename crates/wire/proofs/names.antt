@@ -1,6 +1,6 @@
 -- Laws that belong to no one function. For callers: Rest (a name piece by piece), Use, Extend, Plain, InPlace.
 pub mod Rest
-mod Walked
+pub mod Walked
 pub mod Compare
 pub mod Whole
 pub mod Use

@@ -8,4 +8,5 @@ pub mod labels
 pub mod nsec
 pub mod rdata
 pub mod message
+pub mod long_message
 pub mod expansion

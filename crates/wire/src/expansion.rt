@@ -96,12 +96,16 @@ pub fn view<'a>(p: &'a [u8], opened: &'a [u8], n: usize, f: RecordAt) -> &'a [u8
     crate::rdata::part(p, f.rdata, f.rdlength)
 }
 
-// Whether the rdata of a record equals expanded bytes. Rdata that is not as its type asks equals nothing.
+// Whether the rdata of a record equals expanded bytes. Rdata that is not as its type asks equals nothing; what holds no name is compared as it lies.
 pub fn rdata_is(p: &[u8], f: RecordAt, other: &[u8]) -> bool
     ensures { λ r. ⌜ r ≡ rdataIs (rdataAt (now (p .entry)) f) (now (other .entry)) ⌝ }
 {
     if !crate::rdata::rdata_fits(p, f) {
         return false;
+    }
+    let held = crate::rdata::form_at(p, f);
+    if !held.named {
+        return same_bytes(crate::rdata::part(p, f.rdata, f.rdlength), other);
     }
     let o = open(p, f);
     let b = o.bytes;

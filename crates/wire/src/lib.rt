@@ -3,6 +3,7 @@ pub mod buffer;
 pub mod case_folding;
 pub mod expansion;
 pub mod labels;
+pub mod long_message;
 pub mod message;
 pub mod name_pieces;
 pub mod names;

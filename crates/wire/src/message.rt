@@ -13,6 +13,9 @@ pub const LEAST_MESSAGE: usize = 12;
 
 pub const MOST_MESSAGE: usize = 8972;
 
+// The longest message that one Ethernet frame carries. A longer one is read with notes (`long_message`), whose clearing costs more than reading a short one.
+pub const MOST_IN_FRAME: usize = 1472;
+
 // The port that messages come from.
 pub const MDNS_PORT: u16 = 5353;
 
@@ -227,7 +230,7 @@ fn records_end(p: &[u8], at: usize, count: u16) -> Place
 }
 
 // Whether the opcode and the RCODE of a header's flags are zero.
-fn plain_header(flags: u16) -> bool
+pub fn plain_header(flags: u16) -> bool
     ensures { λ r. ⌜ r ≡ plainHeader flags ⌝ }
 {
     if flags / 2048 % 16 != 0 {
@@ -236,7 +239,7 @@ fn plain_header(flags: u16) -> bool
     flags % 16 == 0
 }
 
-// The sections of a packet that is long enough for a header.
+// The sections of a packet that is long enough for a header. Those of records are read by one loop, so that the code that reads a record stands in it once.
 fn read_sections(p: &[u8]) -> MessageRead
     ensures { λ r. ⌜ r ≡ readOf (sectionsOf (now (p .entry))) ⌝ }
 {
@@ -247,15 +250,24 @@ fn read_sections(p: &[u8]) -> MessageRead
     let Place::At(a) = questions_end(p, LEAST_MESSAGE, questions) else {
         return MessageRead::Refused(crate::refusals::MALFORMED);
     };
-    let Place::At(b) = records_end(p, a, answers) else {
-        return MessageRead::Refused(crate::refusals::MALFORMED);
-    };
-    let Place::At(c) = records_end(p, b, authorities) else {
-        return MessageRead::Refused(crate::refusals::MALFORMED);
-    };
-    let Place::At(end) = records_end(p, c, additionals) else {
-        return MessageRead::Refused(crate::refusals::MALFORMED);
-    };
+    // where the two sections before the one at `end` begin
+    let mut b = a;
+    let mut c = a;
+    let mut end = a;
+    let mut k = 0;
+    while k < 3 {
+        match records_end(p, end, crate::octets::be16(p, 6 + 2 * k)) {
+            Place::At(next) => {
+                b = c;
+                c = end;
+                end = next;
+            }
+            Place::Malformed => {
+                return MessageRead::Refused(crate::refusals::MALFORMED);
+            }
+        }
+        k += 1;
+    }
     MessageRead::Read(Layout {
         id: crate::octets::be16(p, 0),
         flags: crate::octets::be16(p, 2),
@@ -287,8 +299,8 @@ pub fn read_message(p: &[u8]) -> MessageRead
     if p.len() < LEAST_MESSAGE {
         return MessageRead::Refused(crate::refusals::LENGTH);
     }
-    if MOST_MESSAGE < p.len() {
-        return MessageRead::Refused(crate::refusals::LENGTH);
+    if MOST_IN_FRAME < p.len() {
+        return crate::long_message::read_long(p);
     }
     if !plain_header(crate::octets::be16(p, 2)) {
         return MessageRead::Refused(crate::refusals::HEADER);

@@ -26,10 +26,13 @@ pub fn piece_at(p: &[u8], start: usize, at: usize, used: usize) -> Piece
         return Piece::Root;
     }
     if n < 64 {
-        if p.len() - at <= n {
+        if p.len() < at + 1 + n {
             return Piece::Bad;
         }
-        if MOST_NAME - 1 - n <= used {
+        if MOST_NAME <= used {
+            return Piece::Bad;
+        }
+        if MOST_NAME <= used + 1 + n {
             return Piece::Bad;
         }
         return Piece::Label(n);

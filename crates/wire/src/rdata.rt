@@ -226,10 +226,10 @@ pub fn next_form(p: &[u8], owner: usize, at: usize, d: &[u8]) -> Form
 pub fn form_in(p: &[u8], f: RecordAt, d: &[u8]) -> Form
     ensures { λ r. ⌜ r ≡ formIn (now (p .entry)) f (now (d .entry)) ⌝ }
 {
-    if f.rtype == NSEC {
-        return next_form(p, f.owner, f.rdata, d);
+    if f.rtype != NSEC {
+        return form_of(f.rtype);
     }
-    form_of(f.rtype)
+    next_form(p, f.owner, f.rdata, d)
 }
 
 // The form of a record's rdata as it lies.
@@ -240,9 +240,10 @@ pub fn form_at(p: &[u8], f: RecordAt) -> Form
 }
 
 // Whether `d`, the part of `p` that is a record's rdata, is as its type asks: A 4 bytes, PTR one name, TXT strings, AAAA 16 bytes, SRV 6 bytes and one
-// name; of an NSEC and of other types nothing is asked.
+// name; of other types nothing is asked. An NSEC is not handed in, so that the form is known by the type alone.
 fn part_fits(p: &[u8], d: &[u8], f: RecordAt) -> bool
     requires { ⌜ f .rdata + length (now d) ≤ length (now p) ⌝ }
+    requires { ⌜ (f .rtype ≡ 47 → ⊥) ⌝ }
     ensures { λ r. ⌜ r ≡ fits (rdataIn (now (p .entry)) f (now (d .entry))) ⌝ }
 {
     if f.rtype == A {
@@ -260,7 +261,7 @@ fn part_fits(p: &[u8], d: &[u8], f: RecordAt) -> bool
             SrvRead::Malformed => false,
         };
     }
-    let held = form_in(p, f, d);
+    let held = form_of(f.rtype);
     if !held.named {
         return true;
     }
@@ -270,7 +271,7 @@ fn part_fits(p: &[u8], d: &[u8], f: RecordAt) -> bool
     }
 }
 
-// Whether the rdata of a record as it lies is as its type asks.
+// Whether the rdata of a record as it lies is as its type asks; of an NSEC nothing is asked.
 pub fn rdata_fits(p: &[u8], f: RecordAt) -> bool
     ensures { λ r. ⌜ r ≡ fits (rdataAt (now (p .entry)) f) ⌝ }
 {
@@ -280,6 +281,9 @@ pub fn rdata_fits(p: &[u8], f: RecordAt) -> bool
     }
     if p.len() - at < f.rdlength {
         return false;
+    }
+    if f.rtype == NSEC {
+        return true;
     }
     let end = at + f.rdlength;
     part_fits(p, &p[at..end], f)

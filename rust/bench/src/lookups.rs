@@ -4,6 +4,7 @@ use std::hint::black_box;
 
 use kurgashel::{Cache, PORT};
 
+use crate::ordinary_cache::OrdinaryCache;
 use crate::packets;
 use crate::timing;
 
@@ -27,6 +28,7 @@ pub struct Lookup {
 /// A cache of live A records, and what is looked up in it.
 pub struct Lookups {
     cache: Cache,
+    ordinary: OrdinaryCache,
     /// By a length and a type that no entry has.
     pub other_length_and_type: Lookup,
     /// By a type that no entry has; all have the name's length.
@@ -43,11 +45,13 @@ impl Lookups {
     /// Of a cache of so many entries, each live with an owner of 200 bytes.
     pub fn among(entries: usize) -> Lookups {
         let mut cache = Cache::with_entries(entries).expect("a size");
+        let mut ordinary = OrdinaryCache::with_entries(entries);
         for slot in 0..entries {
             let owner = packets::long_name(OWNER_BYTES, letter(slot, entries));
             let message = packets::shared_address(&owner, slot as u32);
             let taken = cache.take(RECEIVED, PORT, &message).expect("accepted");
             assert_eq!((taken.turned_away, taken.passed_over), (0, 0));
+            ordinary.take(RECEIVED, PORT, &message).expect("accepted");
         }
         let lookup = |bytes, letter, rtype, found| Lookup {
             name: packets::long_name(bytes, letter),
@@ -56,6 +60,7 @@ impl Lookups {
         };
         Lookups {
             cache,
+            ordinary,
             other_length_and_type: lookup(SHORTER_BYTES, b'x', AAAA, None),
             other_type: lookup(OWNER_BYTES, b'x', AAAA, None),
             other_letter: lookup(OWNER_BYTES, b'x', A, None),
@@ -75,6 +80,22 @@ impl Lookups {
             .look_up(NOW, &lookup.name, lookup.rtype, 0)
             .expect("accepted")
             .map(|found| found.slot)
+    }
+
+    /// The slot that a lookup finds in the ordinary cache.
+    pub fn ordinary_slot(&self, lookup: &Lookup) -> Option<usize> {
+        self.ordinary
+            .look_up(NOW, &lookup.name, lookup.rtype, 0)
+            .expect("accepted")
+            .map(|found| found.slot)
+    }
+
+    /// The least times of a lookup in the proved cache and in the ordinary one.
+    pub fn beside_ordinary(&self, lookup: &Lookup) -> [f64; 2] {
+        timing::least(
+            || _ = black_box(self.slot(black_box(lookup))),
+            || _ = black_box(self.ordinary_slot(black_box(lookup))),
+        )
     }
 
     /// The median times of two lookups, in nanoseconds, taken in turns.

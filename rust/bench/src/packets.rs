@@ -17,7 +17,7 @@ impl Random {
 }
 
 const HEADER: usize = 12;
-const MOST_MESSAGE: usize = 8972;
+pub const MOST_MESSAGE: usize = 8972;
 
 /// A response's header with so many answers.
 fn response(answers: u16) -> Vec<u8> {
@@ -62,6 +62,18 @@ pub fn address_of(number: u16) -> Vec<u8> {
     p.push(0);
     fields(&mut p, 1, 1, 120, 4);
     p.extend([10, 0]);
+    p.extend(number.to_be_bytes());
+    p
+}
+
+/// A response with the address of a host of its own name; nothing is flushed, and it lives for 4,500 s.
+pub fn host_address(number: u16) -> Vec<u8> {
+    let mut p = response(1);
+    label(&mut p, format!("host-{number:03}").as_bytes());
+    label(&mut p, b"local");
+    p.push(0);
+    fields(&mut p, 1, 1, 4500, 4);
+    p.extend([10, 1]);
     p.extend(number.to_be_bytes());
     p
 }
@@ -122,6 +134,11 @@ pub fn service() -> Vec<u8> {
 
 /// A packet of at most 1,452 bytes full of PTR records whose targets share their ends.
 pub fn full() -> Vec<u8> {
+    pointers(1452)
+}
+
+/// As many PTR records as a packet of so many bytes has room for, their targets sharing their ends.
+pub fn pointers(most: usize) -> Vec<u8> {
     let mut body = Vec::new();
     let service = HEADER;
     let mut count = 0u16;
@@ -138,7 +155,7 @@ pub fn full() -> Vec<u8> {
         fields(&mut record, 12, 1, 4500, name.len() + 3);
         label(&mut record, name.as_bytes());
         pointer(&mut record, service);
-        if HEADER + body.len() + record.len() > 1452 {
+        if HEADER + body.len() + record.len() > most {
             break;
         }
         body.extend(record);
@@ -177,12 +194,12 @@ pub fn mix() -> Vec<Vec<u8>> {
 }
 
 /// A chain of pointers, each to the one before it, the first to the zero byte at offset 12: the rdata of a record of an unknown type, which no
-/// reader looks into by itself. Gives the packet and the offset of the last pointer; `tail` bytes are left free.
-fn chain(answers: u16, tail: usize) -> (Vec<u8>, usize) {
+/// reader looks into by itself. Gives the packet and the offset of the last pointer; of `most` bytes `tail` are left free.
+fn chain(most: usize, answers: u16, tail: usize) -> (Vec<u8>, usize) {
     let mut p = response(answers);
     p.push(0);
     let start = p.len() + 10;
-    let count = (MOST_MESSAGE - start - tail) / 2;
+    let count = (most - start - tail) / 2;
     fields(&mut p, 99, 1, 120, 2 * count);
     for i in 0..count {
         pointer(&mut p, if i == 0 { HEADER } else { start + 2 * (i - 1) });
@@ -193,14 +210,19 @@ fn chain(answers: u16, tail: usize) -> (Vec<u8>, usize) {
 
 /// The longest chain of pointers that a legal message holds, and the offset at which it begins.
 pub fn longest_chain() -> (Vec<u8>, usize) {
-    chain(1, 0)
+    chain(MOST_MESSAGE, 1, 0)
 }
 
-/// The legal message that takes longest: a chain through half of it, and as many PTR records as fit whose owner and target both follow it.
+/// The legal message that takes longest.
 pub fn worst() -> Vec<u8> {
-    let half = MOST_MESSAGE / 2;
-    let count = half / 14;
-    let (mut p, last) = chain(1 + count as u16, 14 * count);
+    worst_of(MOST_MESSAGE)
+}
+
+/// The legal message of at most so many bytes, at least 64, that takes longest: a chain through half of it, and as many PTR records as fit whose owner and
+/// target both follow it.
+pub fn worst_of(most: usize) -> Vec<u8> {
+    let count = most / 2 / 14;
+    let (mut p, last) = chain(most, 1 + count as u16, 14 * count);
     for _ in 0..count {
         pointer(&mut p, last);
         fields(&mut p, 12, 1, 120, 2);

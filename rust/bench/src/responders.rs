@@ -4,6 +4,8 @@ use kurgashel::{Responder, Setup, OUT_BYTES, PORT};
 use reference::responder::Responder as ReferenceResponder;
 use reference::setup::Setup as ReferenceSetup;
 
+use crate::state_bytes::{self, STATE_BYTES};
+
 /// A responder with its clock and its out buffer.
 pub trait Calls {
     /// Takes a packet `gap` ms after the last call, and tells the length of what is sent.
@@ -22,6 +24,33 @@ pub struct Reference {
     responder: ReferenceResponder,
     now: u64,
     out: [u8; OUT_BYTES],
+}
+
+/// An ordinary responder whose state is handed in as bytes; it ticks only.
+pub struct OnBytes {
+    state: [u8; STATE_BYTES],
+    now: u64,
+    out: [u8; OUT_BYTES],
+}
+
+impl OnBytes {
+    /// Ticks `gap` ms after the last call, and tells the length of what is sent.
+    pub fn tick(&mut self, gap: u64) -> usize {
+        self.now += gap;
+        state_bytes::tick(&mut self.state, self.now, &mut self.out)
+            .expect("accepted")
+            .map_or(0, |sent| sent.length)
+    }
+}
+
+/// The ordinary responder on the bytes of the proved one.
+pub fn on_bytes(instance: &str) -> OnBytes {
+    let proved = proved(instance);
+    OnBytes {
+        state: *proved.responder.bytes(),
+        now: proved.now,
+        out: [0; OUT_BYTES],
+    }
 }
 
 impl Calls for Proved {

@@ -1,9 +1,14 @@
-//! Two calls timed beside each other.
+//! Calls timed beside each other.
 
 use std::hint::black_box;
 use std::time::Instant;
 
-const ROUNDS: usize = 25;
+/// Whether a reader takes a message.
+pub type Reader<'a> = &'a dyn Fn(&[u8]) -> bool;
+
+/// How many rounds there are, and how long one is, in nanoseconds: so short that many of them are not broken off by other work.
+pub const ROUNDS: usize = 100;
+const ROUND: f64 = 500_000.0;
 const MEDIAN_ROUNDS: usize = 101;
 
 /// The time of `repeat` calls, in nanoseconds a call.
@@ -15,14 +20,34 @@ fn time(repeat: usize, call: &mut dyn FnMut()) -> f64 {
     start.elapsed().as_nanos() as f64 / repeat as f64
 }
 
-/// The least times of the two, in nanoseconds a call. Their rounds take turns, so that other work on the machine meets both alike.
-pub fn least(repeat: usize, mut ours: impl FnMut(), mut reference: impl FnMut()) -> [f64; 2] {
-    let mut least = [f64::MAX; 2];
+/// How often a call is made in a round, at least once.
+fn repeats(call: &mut dyn FnMut()) -> usize {
+    let mut repeat = 1;
+    loop {
+        let once = time(repeat, call);
+        if once * repeat as f64 > ROUND / 10.0 {
+            return ((ROUND / once) as usize).max(1);
+        }
+        repeat *= 4;
+    }
+}
+
+/// The least times of the calls, in nanoseconds a call. Their rounds take turns, so that other work on the machine meets all alike.
+pub fn least_of(calls: &mut [&mut dyn FnMut()]) -> Vec<f64> {
+    let repeats: Vec<usize> = calls.iter_mut().map(|call| repeats(call)).collect();
+    let mut least = vec![f64::MAX; calls.len()];
     for _ in 0..ROUNDS {
-        least[0] = least[0].min(time(repeat, &mut ours));
-        least[1] = least[1].min(time(repeat, &mut reference));
+        for (i, call) in calls.iter_mut().enumerate() {
+            least[i] = least[i].min(time(repeats[i], call));
+        }
     }
     least
+}
+
+/// The least times of two calls.
+pub fn least(mut ours: impl FnMut(), mut ordinary: impl FnMut()) -> [f64; 2] {
+    let times = least_of(&mut [&mut ours, &mut ordinary]);
+    [times[0], times[1]]
 }
 
 /// The median times of the two, in nanoseconds a call; their rounds take turns.
@@ -38,19 +63,28 @@ pub fn medians(repeat: usize, mut a: impl FnMut(), mut b: impl FnMut()) -> [f64;
     })
 }
 
-/// Both readers over all packets: the least times, in nanoseconds a packet.
-pub fn readers(packets: &[Vec<u8>], repeat: usize) -> [f64; 2] {
-    let over_all = |read: fn(&[u8]) -> u8| {
-        move || {
-            packets
-                .iter()
-                .for_each(|packet| _ = black_box(read(black_box(packet))))
-        }
-    };
-    least(
-        repeat,
-        over_all(crate::refusal),
-        over_all(crate::reference_refusal),
-    )
-    .map(|time| time / packets.len() as f64)
+/// Readers over all packets: the least times, in nanoseconds a packet.
+pub fn over_all(packets: &[Vec<u8>], readers: &[Reader]) -> Vec<f64> {
+    let mut runs: Vec<_> = readers
+        .iter()
+        .map(|reads| {
+            move || {
+                packets
+                    .iter()
+                    .for_each(|packet| _ = black_box(reads(black_box(packet))))
+            }
+        })
+        .collect();
+    let mut calls: Vec<&mut dyn FnMut()> = runs.iter_mut().map(|run| run as _).collect();
+    let times = least_of(&mut calls);
+    times
+        .iter()
+        .map(|time| time / packets.len() as f64)
+        .collect()
+}
+
+/// The proved reader and the ordinary one over all packets: the least times, in nanoseconds a packet.
+pub fn readers(packets: &[Vec<u8>]) -> [f64; 2] {
+    let times = over_all(packets, &[&crate::reads, &crate::ordinary_reads]);
+    [times[0], times[1]]
 }

@@ -1,13 +1,62 @@
-//! The proved reader takes at most twice the time of the reference program's on mixed traffic. It takes about as long (docs/BENCHMARKS.md): the room is for other
-//! work on the machine.
+//! Limits on time that hold on a busy machine too: each compares two calls of one run, whose rounds take turns, and leaves twice or thrice what is measured
+//! (docs/BENCHMARKS.md). The first is the one that is asked for; the others notice where time grows faster than it should.
 
-use bench::{packets, timing};
+use std::hint::black_box;
+use std::sync::{Mutex, PoisonError};
+
+use bench::caches::Caches;
+use bench::packets::{self, MOST_MESSAGE};
+use bench::{captured, timing};
+
+/// Only one of these tests is timed at once.
+static ALONE: Mutex<()> = Mutex::new(());
+
+fn within_twice_the_ordinary_reader(packets: &[Vec<u8>]) {
+    let _alone = ALONE.lock().unwrap_or_else(PoisonError::into_inner);
+    let [ours, ordinary] = timing::readers(packets);
+    assert!(
+        ours <= 2.0 * ordinary,
+        "{ours:.0} ns a packet, the ordinary reader's {ordinary:.0} ns"
+    );
+}
 
 #[test]
-fn within_twice_the_reference_reader() {
-    let [ours, reference] = timing::readers(&packets::mix(), 100);
-    assert!(
-        ours <= 2.0 * reference,
-        "{ours:.0} ns a packet, the reference program's {reference:.0} ns"
+fn the_mix() {
+    within_twice_the_ordinary_reader(&packets::mix());
+}
+
+#[test]
+fn messages_of_real_responders() {
+    within_twice_the_ordinary_reader(&captured::all());
+}
+
+#[test]
+fn the_worst_legal_message() {
+    within_twice_the_ordinary_reader(&[packets::worst()]);
+}
+
+/// A byte of a message of 8,972 bytes of PTR records takes no longer than one of 1,452: at most thrice.
+#[test]
+fn reading_grows_with_the_message() {
+    let _alone = ALONE.lock().unwrap_or_else(PoisonError::into_inner);
+    let (short, long) = (packets::full(), packets::pointers(MOST_MESSAGE));
+    let [a, b] = timing::least(
+        || _ = black_box(bench::refusal(black_box(&short))),
+        || _ = black_box(bench::refusal(black_box(&long))),
     );
+    let growth = (b / long.len() as f64) / (a / short.len() as f64);
+    assert!(growth <= 3.0, "{growth:.1} times as long for a byte");
+}
+
+/// With eight times the entries, taking an announcement takes eight times as long: at most 24 times.
+#[test]
+fn taking_grows_with_the_table() {
+    let _alone = ALONE.lock().unwrap_or_else(PoisonError::into_inner);
+    let message = packets::address();
+    let (mut few, mut many) = (Caches::among(64, &message), Caches::among(512, &message));
+    let [a, b] = timing::least(
+        || _ = black_box(few.proved.take(&message)),
+        || _ = black_box(many.proved.take(&message)),
+    );
+    assert!(b <= 24.0 * a, "{a:.0} ns among 64, {b:.0} ns among 512");
 }

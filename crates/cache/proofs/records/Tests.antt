@@ -1,7 +1,7 @@
 -- The tests and rules on one entry for a record as it lies, from what the code has tested. Assumes nothing.
-use mathlib.Core.Path.{_≡_, sym, ap, _∙_}
+use mathlib.Core.Path.{_≡_, refl, sym, ap, _∙_}
 use mathlib.Core.List.{List}
-use mathlib.Core.Bool.{Bool, true, false, cond, and-false}
+use mathlib.Core.Bool.{Bool, true, false, cond, _&&_, and-false}
 use Prim.Native.Nat.{ℕ, _+_, _%_, _<_, _≤_}
 use native.Mathlib.Omega.{arith}
 use lib.ListN.{take, drop}
@@ -10,14 +10,14 @@ use borrow.Author.Tests.{lt-ltb, le-ltb, le-leb, lt-leb, eq-eqb, ne-eqb}
 use Rattle.wire.specs.names.Answers.{nameIs}
 use Rattle.wire.specs.rdata.Rdata.{rdataAt}
 use Rattle.wire.specs.expansion.Equal.{rdataIs}
-use Rattle.cache.specs.entries.Entries.{slotOf, isLive, soon}
+use Rattle.cache.specs.entries.Entries.{slotOf, ownerHeld, isLive, soon}
 use Rattle.cache.specs.entries.Cache.{cachedAs}
 use Rattle.cache.specs.declared.entries.Entry.{Entry}
 use Rattle.cache.specs.declared.entries.Slot.{Slot}
 use Rattle.cache.specs.declared.entries.Slot.the-variants.{At, Nowhere}
 use Rattle.cache.specs.declared.records.Heard.{Heard}
 use Rattle.cache.specs.declared.records.Seen.{Seen}
-use Rattle.cache.specs.records.Heard.{isTaken, isFlushing, isSought, isOfHeard, liveHeard, holdsHeard, flushedHeard, firstSlot, freeNext, seenAfter, seenNext, change, chosenFree, chosenSlot, chosenOf}
+use Rattle.cache.specs.records.Heard.{isTaken, isFlushing, isSought, isAlike, isOfHeard, liveHeard, holdsHeard, flushedHeard, firstSlot, freeNext, seenAfter, seenNext, change, chosenFree, chosenSlot, chosenOf}
 
 module _ (h : Heard) where
   pub taken-not : h .whole ≡ false → false ≡ isTaken h
@@ -85,28 +85,44 @@ begins b n t is k = ap (λ (x : Bool). firstSlot x n) (sym k ∙ is)
 pub begins-not : (b : Bool) (n : ℕ) (t : Bool) → t ≡ b → t ≡ false → n ≡ firstSlot b n
 begins-not b n t is k = ap (λ (x : Bool). firstSlot x n) (sym k ∙ is)
 
-module _ (store p : List ℕ) (h : Heard) (i : ℕ) (e : Entry) where
-  pub of-type : (e .rtype ≡ h .at .rtype → ⊥) → false ≡ isOfHeard store p h i e
-  unfolding isOfHeard
-  of-type n = sym (simp (ne-eqb _ _ n))
+module _ (now : ℕ) (h : Heard) (e : Entry) where
+  pub alike-dead : isLive now e ≡ false → false ≡ isAlike now h e
+  unfolding isAlike
+  alike-dead n = sym (simp n)
 
-  pub of-length : e .rtype ≡ h .at .rtype → (e .owner ≡ h .at .span .len → ⊥) → false ≡ isOfHeard store p h i e
-  unfolding isOfHeard
-  of-length t n = sym (simp (eq-eqb _ _ t, ne-eqb _ _ n))
+  module _ (live : isLive now e ≡ true) where
+    pub alike-type : (e .rtype ≡ h .at .rtype → ⊥) → false ≡ isAlike now h e
+    unfolding isAlike
+    alike-type n = sym (simp (live, ne-eqb _ _ n))
 
-  pub of-name : e .rtype ≡ h .at .rtype → e .owner ≡ h .at .span .len → (r : Bool) (slot part : List ℕ) → slot ≡ slotOf store i → part ≡ take (e .owner) slot → r ≡ nameIs p (h .at .owner) part → r ≡ isOfHeard store p h i e
-  unfolding isOfHeard
-  of-name t l r slot part s q is =
-      is ∙ ap (nameIs p (h .at .owner)) (q ∙ ap (take (e .owner)) s) ∙ sym (simp (eq-eqb _ _ t, eq-eqb _ _ l))
+    pub alike-length : e .rtype ≡ h .at .rtype → eqb (e .owner) (h .at .span .len) ≡ isAlike now h e
+    unfolding isAlike
+    alike-length t = sym (simp (live, eq-eqb _ _ t))
+
+-- the owner in a slot, as the code has read it
+pub is-owned : (store p : List ℕ) (i len at : ℕ) (r : Bool) (slot part : List ℕ) → slot ≡ slotOf store i → part ≡ take len slot → r ≡ nameIs p at part → r ≡ nameIs p at (take len (slotOf store i))
+is-owned store p i len at r slot part s q is = is ∙ ap (nameIs p at) (q ∙ ap (take len) s)
 
 module _ (now : ℕ) (store p : List ℕ) (h : Heard) (i : ℕ) (e : Entry) where
-  pub live-not : isLive now e ≡ false → false ≡ liveHeard now store p h i e
-  unfolding liveHeard
-  live-not n = sym (simp n)
+  pub live-not : isAlike now h e ≡ false → false ≡ liveHeard now store p h i e
+  unfolding liveHeard isOfHeard isAlike
+  live-not n = go (isLive now e) (eqb (e .rtype) (h .at .rtype)) (eqb (e .owner) (h .at .span .len)) (nameIs p (h .at .owner) (ownerHeld store i e)) n
+    where
+      go : (a b c d : Bool) → (a && (b && c)) ≡ false → false ≡ (a && (b && (c && d)))
+      go true true true d k = let z : _≡_ {A = ℕ} 0 1 = cc in absurd (omega arith)
+      go true true false d k = refl
+      go true false c d k = refl
+      go false b c d k = refl
 
-  pub live-is : isLive now e ≡ true → (r : Bool) → r ≡ isOfHeard store p h i e → r ≡ liveHeard now store p h i e
-  unfolding liveHeard
-  live-is l r k = k ∙ sym (simp l)
+  pub live-is : isAlike now h e ≡ true → (r : Bool) → r ≡ nameIs p (h .at .owner) (take (e .owner) (slotOf store i)) → r ≡ liveHeard now store p h i e
+  unfolding liveHeard isOfHeard isAlike
+  live-is l r k = k ∙ go (isLive now e) (eqb (e .rtype) (h .at .rtype)) (eqb (e .owner) (h .at .span .len)) (nameIs p (h .at .owner) (ownerHeld store i e)) l
+    where
+      go : (a b c d : Bool) → (a && (b && c)) ≡ true → d ≡ (a && (b && (c && d)))
+      go true true true d k = refl
+      go true true false d k = let z : _≡_ {A = ℕ} 0 1 = cc in absurd (omega arith)
+      go true false c d k = let z : _≡_ {A = ℕ} 0 1 = cc in absurd (omega arith)
+      go false b c d k = let z : _≡_ {A = ℕ} 0 1 = cc in absurd (omega arith)
 
   pub holds-length : (e .rdata ≡ h .len → ⊥) → false ≡ holdsHeard now store p h i e
   unfolding holdsHeard
@@ -121,6 +137,18 @@ module _ (now : ℕ) (store p : List ℕ) (h : Heard) (i : ℕ) (e : Entry) wher
   unfolding holdsHeard
   holds-bytes l v r slot part s q is =
       is ∙ ap (rdataIs (rdataAt p (h .at))) (q ∙ ap (λ (b : List ℕ). take (e .rdata) (drop 256 b)) s) ∙ sym (simp (v, eq-eqb _ _ l))
+
+  pub holds-other : (slot part : List ℕ) → slot ≡ slotOf store i → part ≡ take (e .rdata) (drop 256 slot) → rdataIs (rdataAt p (h .at)) part ≡ false
+      → false ≡ holdsHeard now store p h i e
+  unfolding holdsHeard
+  holds-other slot part s q is =
+      let held : part ≡ take (e .rdata) (drop 256 (slotOf store i)) = q ∙ ap (λ (b : List ℕ). take (e .rdata) (drop 256 b)) s in
+      sym (go (liveHeard now store p h i e) (eqb (e .rdata) (h .len)) _ (ap (rdataIs (rdataAt p (h .at))) (sym held) ∙ is))
+    where
+      go : (a b c : Bool) → c ≡ false → (a && (b && c)) ≡ false
+      go true true c k = k
+      go true false c k = refl
+      go false b c k = refl
 
   pub flush-young : now ≤ e .received + 1000 → e ≡ flushedHeard now store p h i e
   unfolding flushedHeard

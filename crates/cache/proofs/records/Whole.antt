@@ -3,7 +3,8 @@ use mathlib.Core.Path.{_≡_, refl, sym, ap, ap₂, _∙_}
 use mathlib.Core.List.{List, [], _∷_}
 use mathlib.Core.Bool.{Bool, true, false, _&&_}
 use Prim.Native.Nat.{ℕ}
-use lib.ListN.{length}
+use lib.ListN.{length, take, drop, length-drop}
+use lib.Seq.{length-take-le}
 use native.Mathlib.Omega.{arith}
 use lib.Dec.{eqb}
 use borrow.Author.Tests.{eq-eqb, ne-eqb, eqb-true}
@@ -11,9 +12,10 @@ use Rattle.wire.specs.case_folding.Fold.{lower, sameName}
 use Rattle.wire.specs.expansion.Equal.{sameBytes, rdataIs}
 use Rattle.wire.specs.expansion.Opened.{openedAt, viewOf}
 use Rattle.wire.specs.declared.expansion.Opened.{Opened}
-use Rattle.wire.proofs.expansion.Views.{view-is}
+use Rattle.wire.proofs.expansion.Views.{within, plain-is, view-is}
 use Rattle.wire.specs.rdata.Rdata.{Rdata, rdata, rdataAt, formAt}
 use Rattle.wire.specs.rdata.Answers.{fits, dataOf}
+use Rattle.wire.specs.declared.rdata.Form.{Form}
 use Rattle.wire.specs.message.Message.{Record}
 use Rattle.wire.specs.message.Readable.{wholeRead, recordShown}
 use Rattle.wire.specs.declared.message.RecordAt.{RecordAt}
@@ -55,6 +57,19 @@ module _ (p : List ℕ) (at : ℕ) (a : RecordRead) (is : a ≡ wholeRead p at) 
       let met : RecordMet p at f = record-found p at a is f e in
       let bytes : rdata seen ≡ rdataAt p f = ap rdata s ∙ sym (view-is p f (ap fits (met .content)) o opened) in
       ap₂ (λ (d : Rdata) (b : Bool). record { whole = true; at = f; len = length (dataOf d); named = b }) bytes n ∙ ap (heardOf p) (sym e ∙ is)
+
+  -- of rdata that holds no name the length is that of the record
+  pub heard-lying : (f : RecordAt) → a ≡ r.Found f → (g : Form) → g ≡ formAt p f → g .named ≡ false
+      → _≡_ {A = Heard} (record { whole = true; at = f; len = f .rdlength; named = false }) (heardAt p at)
+  unfolding heardAt
+  heard-lying f e g form n =
+      let met : RecordMet p at f = record-found p at a is f e in
+      let fit : fits (rdataAt p f) ≡ true = ap fits (met .content) in
+      let none : formAt p f .named ≡ false = sym (ap (λ (y : Form). y .named) form) ∙ n in
+      let part : List ℕ = take (f .rdlength) (drop (f .rdata) p) in
+      let long : f .rdlength ≡ length part = sym (length-take-le (f .rdlength) (drop (f .rdata) p) (omega (arith, length-drop (f .rdata) p, within p f fit))) in
+      let size : f .rdlength ≡ length (dataOf (rdataAt p f)) = long ∙ sym (ap (λ (d : Rdata). length (dataOf d)) (plain-is p f none fit)) in
+      ap₂ (λ (k : ℕ) (b : Bool). record { whole = true; at = f; len = k; named = b }) size (sym none) ∙ ap (heardOf p) (sym e ∙ is)
 
   pub heard-not : a ≡ r.Malformed → _≡_ {A = Heard} (record { whole = false; at = blankRecord; len = 0; named = false }) (heardAt p at)
   unfolding heardAt

@@ -55,6 +55,10 @@ liveHeard now store p h i e = isLive now e && isOfHeard store p h i e
 unfoldable pub holdsHeard : ℕ → List ℕ → List ℕ → Heard → ℕ → Entry → Bool
 holdsHeard now store p h i e = liveHeard now store p h i e && (eqb (e .rdata) (h .len) && rdataIs (rdataAt p (h .at)) (rdataHeld store i e))
 
+-- the entry is live, and agrees in its type and in the length of its owner
+unfoldable pub isAlike : ℕ → Heard → Entry → Bool
+isAlike now h e = isLive now e && (eqb (e .rtype) (h .at .rtype) && eqb (e .owner) (h .at .span .len))
+
 -- rule 1 on the entry in slot i
 unfoldable pub flushedHeard : ℕ → List ℕ → List ℕ → Heard → ℕ → Entry → Entry
 flushedHeard now store p h i e = cond (isFlushing h && (liveHeard now store p h i e && isOld now e)) (soon now e) e

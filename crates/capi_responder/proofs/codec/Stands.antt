@@ -46,7 +46,7 @@ module _ (b : List ℕ) (at : ℕ) where
   word32-from : (k i : ℕ) → i ≡ at + k → word32 b i ≡ word32 (drop at b) k
   word32-from k i e = omega (arith, word16-from k i e, word16-from (k + 2) (i + 2) (omega arith))
 
-  word64-from : word64 b at ≡ word64 (drop at b) 0
+  pub word64-from : word64 b at ≡ word64 (drop at b) 0
   word64-from = omega (arith, word32-from 0 at (omega arith), word32-from 4 (at + 4) (omega arith))
 
 module _ {b : List ℕ} {at : ℕ} where

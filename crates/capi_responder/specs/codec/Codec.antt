@@ -108,6 +108,10 @@ pub record ProgressFits (progress : Progress) : Type 0 where
 unfoldable pub withProgress : List ℕ → Progress → List ℕ
 withProgress b progress = cond (eqb (length b) layout.stateSize) (take layout.setupSize b ++ progressBytes progress) b
 
+-- The bytes of a state after the time of the last call alone has become `time`.
+unfoldable pub withTime : List ℕ → ℕ → List ℕ
+withTime b time = cond (eqb (length b) layout.stateSize) (take layout.last b ++ bytes64 time) b
+
 -- What those bytes say: the set-up as it was, with `progress`.
 unfoldable pub stateWith : List ℕ → Progress → State
 stateWith b progress = cond (eqb (length b) layout.stateSize) (record { setup = setupAt b; progress = progress }) blank

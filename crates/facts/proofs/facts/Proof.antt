@@ -1,3 +1,7 @@
+use mathlib.Core.Path.{sym, _∙_}
+use borrow.Author.Tests.{not-true}
+use Rattle.claims.specs.declared.records.Claim.the-variants.{Instance, Host}
+use Rattle.facts.proofs.Types.{quiet-claim}
 use native.Mathlib.Omega.{arith}
 use Rattle.wire.specs.message.Readable.{messageIn}
 use Rattle.facts.proofs.Said.{says-response, says-query}
@@ -5,11 +9,29 @@ use borrow.Author.Needs.{needs}
 use Rattle.facts.proofs.facts.Statement.{statement}
 use Rattle.facts.proofs.facts.Tie as tie
 
+may-conflict-requires : tie.Need-may-conflict-requires
+may-conflict-requires c κs = search needs
+
 no-record-requires : tie.Need-no-record-requires
 no-record-requires c κs = search needs
 
 no-record-requires-2 : tie.Need-no-record-requires-2
 no-record-requires-2 c κs = search needs
+
+returns : tie.Need-returns
+unfolding messageIn
+returns c =
+    let if2 = c .before .before in
+    let a = if2 .before .before .before .before .before .args in
+    let none = sym (if2 .before .may-conflict .ensures) ∙ not-true _ (if2 .if2 .taken) in
+    says-response (a .setup) (messageIn (a .p .now) (a .l)) _ _ _ _ (omega arith) (c .before .no-record .ensures) (c .no-record2 .ensures)
+    (quiet-claim (a .setup) (a .p .now) (a .l) none Instance) (quiet-claim (a .setup) (a .p .now) (a .l) none Host)
+
+no-record-requires-3 : tie.Need-no-record-requires-3
+no-record-requires-3 c κs = search needs
+
+no-record-requires-4 : tie.Need-no-record-requires-4
+no-record-requires-4 c κs = search needs
 
 response-to-requires : tie.Need-response-to-requires
 response-to-requires c κs = search needs
@@ -17,12 +39,12 @@ response-to-requires c κs = search needs
 response-to-requires-2 : tie.Need-response-to-requires-2
 response-to-requires-2 c κs = search needs
 
-returns : tie.Need-returns
+returns-2 : tie.Need-returns-2
 unfolding messageIn
-returns c =
-    let a = c .before .before .before .before .before .before .before .args in
+returns-2 c =
+    let a = c .before .before .before .before .before .before .before .before .before .args in
     says-response (a .setup) (messageIn (a .p .now) (a .l)) _ _ _ _ (omega arith)
-    (c .before .before .before .no-record .ensures) (c .before .before .no-record2 .ensures) (c .before .response-to .ensures) (c .response-to2 .ensures)
+    (c .before .before .before .no-record3 .ensures) (c .before .before .no-record4 .ensures) (c .before .response-to .ensures) (c .response-to2 .ensures)
 
 asked-for-requires : tie.Need-asked-for-requires
 asked-for-requires c κs = search needs
@@ -36,9 +58,9 @@ query-to-requires c κs = search needs
 query-to-requires-2 : tie.Need-query-to-requires-2
 query-to-requires-2 c κs = search needs
 
-returns-2 : tie.Need-returns-2
+returns-3 : tie.Need-returns-3
 unfolding messageIn
-returns-2 c =
+returns-3 c =
     let a = c .before .before .before .before .before .before .before .args in
     says-query (a .setup) (messageIn (a .p .now) (a .l)) _ _ _ _ (omega arith)
     (c .before .before .before .asked-for .ensures) (c .before .before .known-in .ensures) (c .before .query-to .ensures) (c .query-to2 .ensures)
@@ -47,13 +69,17 @@ pub facts-spec : {M : Type 1} → statement M
 facts-spec =
     tie.close
     (tie.spec
+    may-conflict-requires
     no-record-requires
     no-record-requires-2
+    returns
+    no-record-requires-3
+    no-record-requires-4
     response-to-requires
     response-to-requires-2
-    returns
+    returns-2
     asked-for-requires
     known-in-requires
     query-to-requires
     query-to-requires-2
-    returns-2)
+    returns-3)

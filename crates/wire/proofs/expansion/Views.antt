@@ -202,7 +202,7 @@ module _ (p : List ℕ) (f : RecordAt) where
           (sym (ap (λ (b : Bool). cond b (take n opened) part) t), sym (ap (λ (b : Bool). cond b (startIn opened 0 openedPlace) (startIn p (f .rdata) place)) t))
 
   -- other rdata is the part of the packet
-  plain-is : formAt p f .named ≡ false → fits (rdataAt p f) ≡ true → rdataAt p f ≡ rdata part
+  pub plain-is : formAt p f .named ≡ false → fits (rdataAt p f) ≡ true → rdataAt p f ≡ rdata part
   unfolding rdataIn
   plain-is t h = in-part h ∙ go part (eqb (f .rtype) 1) (eqb (f .rtype) 16) (eqb (f .rtype) 28) (formAt p f .named) (eqb (length part) 4) (stringsFill 0 part) (eqb (length part) 16) t (sym (ap fits (in-part h)) ∙ h)
     where
@@ -238,3 +238,8 @@ module _ (p : List ℕ) (f : RecordAt) where
       → (seen : List ℕ) → seen ≡ viewOf p (o .bytes) (o .len) f → (other : List ℕ) (r : Bool) → r ≡ sameBytes seen other → r ≡ rdataIs (rdataAt p f) other
   is-viewed v e t o k seen s other r h =
       h ∙ ap (λ (l : List ℕ). sameBytes l other) s ∙ sym (ap (λ (x : Rdata). rdataIs x other) (view-is (sym e ∙ t) o k))
+
+  pub is-lying : (v : Bool) → v ≡ fits (rdataAt p f) → v ≡ true → (g : Form) → g ≡ formAt p f → g .named ≡ false
+      → (seen : List ℕ) → seen ≡ part → (other : List ℕ) (r : Bool) → r ≡ sameBytes seen other → r ≡ rdataIs (rdataAt p f) other
+  is-lying v e t g is n seen s other r h =
+      h ∙ ap (λ (l : List ℕ). sameBytes l other) s ∙ sym (ap (λ (x : Rdata). rdataIs x other) (plain-is (named-is g is false n) (sym e ∙ t)))

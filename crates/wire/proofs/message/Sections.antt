@@ -2,7 +2,7 @@
 use mathlib.Core.Path.{_≡_, refl, sym, ap, _∙_}
 use mathlib.Core.List.{List}
 use mathlib.Core.Bool.{Bool, true, false, _||_, or-true}
-use Prim.Native.Nat.{ℕ, _<_, _≤_}
+use Prim.Native.Nat.{ℕ, zero, suc, _+_, _*_, _<_, _≤_}
 use native.Mathlib.Omega.{arith}
 use borrow.Author.Tests.{lt-ltb, le-ltb}
 use lib.ListN.{length}
@@ -86,6 +86,96 @@ module _ (p : List ℕ) (n₀ n₁ n₂ n₃ : ℕ) (e₀ : n₀ ≡ word16 p 4)
               additionals = record { at = c; count = e₃ j };
               end = d;
             }))
+
+-- the records of the section whose count stands at `n`, from `at` on, end at `e`
+abbrev pub Past : List ℕ → ℕ → ℕ → ℕ → Type 0
+Past p n at e = pastList (listFrom (recordAt p) (word16 p n) at) ≡ At e
+
+-- k of the three sections of records, of which the first begins at `a`, are read: the last two before `e` begin at `b` and `c`
+pub record Through (p : List ℕ) (a k b c e : ℕ) : Type 0 where
+  pub few : k ≤ 3
+  pub none : k ≡ 0 → e ≡ a
+  pub one : k ≡ 1 → (c ≡ a) × Past p 6 a e
+  pub two : k ≡ 2 → (b ≡ a) × (Past p 6 a c × Past p 8 c e)
+  pub three : k ≡ 3 → Past p 6 a b × (Past p 8 b c × Past p 10 c e)
+
+pub through-none : (p : List ℕ) (a b c : ℕ) → Through p a 0 b c a
+through-none p a b c = record {
+  few = omega arith;
+  none = λ z. refl;
+  one = λ z. absurd (omega arith);
+  two = λ z. absurd (omega arith);
+  three = λ z. absurd (omega arith);
+}
+
+-- one section more
+module _ (p : List ℕ) (a k b c e : ℕ) (so : Through p a k b c e) (lt : k < 3) (n : ℕ) (en : n ≡ word16 p (6 + 2 * k))
+    (r : Place) (h : r ≡ pastList (listFrom (recordAt p) n e)) where
+  here : (j i : ℕ) → k ≡ j → 6 + 2 * j ≡ i → r ≡ pastList (listFrom (recordAt p) (word16 p i) e)
+  here j i z w =
+      let g : n ≡ word16 p i = en ∙ ap (λ (m : ℕ). word16 p (6 + 2 * m)) z ∙ ap (word16 p) w in
+      h ∙ ap (λ (m : ℕ). pastList (listFrom (recordAt p) m e)) g
+
+  pub through-next : (next : ℕ) → r ≡ At next → Through p a (k + 1) c e next
+  through-next next f = record {
+    few = omega arith;
+    none = λ z. absurd (omega arith);
+    one = λ z.
+        let y : k ≡ 0 = omega arith in
+        let g : e ≡ a = so .none y in
+        (g, ap (λ (m : ℕ). pastList (listFrom (recordAt p) (word16 p 6) m)) (sym g) ∙ sym (here 0 6 y refl) ∙ f);
+    two = λ z.
+        let y : k ≡ 1 = omega arith in
+        (so .one y .0, (so .one y .1, sym (here 1 8 y refl) ∙ f));
+    three = λ z.
+        let y : k ≡ 2 = omega arith in
+        (so .two y .1 .0, (so .two y .1 .1, sym (here 2 10 y refl) ∙ f));
+  }
+
+module _ (p : List ℕ) (n₀ : ℕ) (e₀ : n₀ ≡ word16 p 4) (q : Place) (hq : q ≡ pastList (listFrom (questionAt p) n₀ 12)) (a : ℕ) (ea : q ≡ At a)
+    (k b c e : ℕ) (so : Through p a k b c e) where
+  abbrev past : ℕ → ℕ → Place
+  past n at = pastList (listFrom (recordAt p) (word16 p n) at)
+
+  pub through-cut : k < 3 → (n : ℕ) → n ≡ word16 p (6 + 2 * k) → (r : Place) → r ≡ pastList (listFrom (recordAt p) n e) → r ≡ Malformed → m.Refused 6 ≡ readOf (sectionsOf p)
+  through-cut lt n en r h f = go k refl
+    where
+      go : (j : ℕ) → k ≡ j → m.Refused 6 ≡ readOf (sectionsOf p)
+      go zero z =
+          answers-cut p n₀ (word16 p 6) (word16 p 8) (word16 p 10) e₀ refl refl refl q hq a ea
+          r (here p a k b c e so lt n en r h 0 6 z refl ∙ ap (past 6) (so .none z)) f
+      go (suc zero) z =
+          authorities-cut p n₀ (word16 p 6) (word16 p 8) (word16 p 10) e₀ refl refl refl q hq a ea (past 6 a) refl e (so .one z .1)
+          r (here p a k b c e so lt n en r h 1 8 z refl) f
+      go (suc (suc zero)) z =
+          additionals-cut p n₀ (word16 p 6) (word16 p 8) (word16 p 10) e₀ refl refl refl q hq a ea (past 6 a) refl c (so .two z .1 .0)
+          (past 8 c) refl e (so .two z .1 .1) r (here p a k b c e so lt n en r h 2 10 z refl) f
+      go (suc (suc (suc j))) z = absurd (omega arith)
+
+  pub through-all : 3 ≤ k → (n₁ n₂ n₃ : ℕ) → n₁ ≡ word16 p 6 → n₂ ≡ word16 p 8 → n₃ ≡ word16 p 10 → (i f : ℕ) → i ≡ word16 p 0 → f ≡ word16 p 2
+      → m.Read (record {
+        id = i;
+        flags = f;
+        questions = record { at = 12; count = n₀ };
+        answers = record { at = a; count = n₁ };
+        authorities = record { at = b; count = n₂ };
+        additionals = record { at = c; count = n₃ };
+        end = e;
+      }) ≡ readOf (sectionsOf p)
+  through-all all n₁ n₂ n₃ e₁ e₂ e₃ i f ei ef =
+      let z : k ≡ 3 = omega (arith, so .few) in
+      let t = so .three z in
+      (λ j. m.Read (record {
+        id = i;
+        flags = f;
+        questions = record { at = 12; count = n₀ };
+        answers = record { at = a; count = e₁ j };
+        authorities = record { at = b; count = e₂ j };
+        additionals = record { at = c; count = e₃ j };
+        end = e;
+      }))
+      ∙ sections-read p n₀ (word16 p 6) (word16 p 8) (word16 p 10) e₀ refl refl refl q hq a ea (past 6 a) refl b (t .0) (past 8 b) refl c (t .1 .0)
+      (past 10 c) refl e (t .1 .1) i f ei ef
 
 -- the tests before the sections
 module _ (p : List ℕ) where

@@ -101,6 +101,11 @@ module _ (p q : List ℕ) where
   extend (suc f) start at used used′ bs e h fits =
       step (readFrom f p) (nonempty f p) (extend f) start at used used′ bs e (pieceAt p start at used) refl h fits
 
+  -- a name that was read on from a place where `used` bytes were read, read on from one where `used′` were
+  pub read-moved : (o used used′ : ℕ) (bs : List ℕ) (e : ℕ) → fromRun p o o used ≡ name bs e → used′ + length bs ≤ 255 → fromRun (p ++ q) o o used′ ≡ name bs e
+  unfolding fromRun
+  read-moved o used used′ bs e h fits = extend (o + 256) o o used used′ bs e h fits
+
   -- a name at an offset, read on from a place where `used` bytes were read
   pub read-on : (o used : ℕ) (bs : List ℕ) (e : ℕ) → nameAt p o ≡ name bs e → used + length bs ≤ 255 → fromRun (p ++ q) o o used ≡ name bs e
   unfolding nameAt fromRun

@@ -1,6 +1,7 @@
-use mathlib.Core.Path.{ap}
+use mathlib.Core.Path.{refl, sym, ap, _∙_}
+use borrow.Author.Tests.{not-true, not-false}
 use Rattle.wire.specs.declared.rdata.Form.{Form}
-use Rattle.cache.proofs.records.Whole.{heard-found, heard-not}
+use Rattle.cache.proofs.records.Whole.{heard-found, heard-lying, heard-not}
 use borrow.Author.Needs.{needs}
 use Rattle.cache.proofs.records.hear.Statement.{statement}
 use Rattle.cache.proofs.records.hear.Tie as tie
@@ -17,6 +18,12 @@ whole-record-requires c κs = search needs
 enum-known-f : tie.Need-enum-known-f
 enum-known-f c = search needs
 
+form-at-requires : tie.Need-form-at-requires
+form-at-requires c κs = search needs
+
+returns : tie.Need-returns
+returns c = heard-lying _ _ _ (c .before .before .before .before .before .before .whole-record .ensures) _ (c .before .before .before .before .f .given .1) _ (c .before .before .form-at .ensures) (not-true _ (c .if1 .taken))
+
 open-requires : tie.Need-open-requires
 open-requires c κs = search needs
 
@@ -26,20 +33,14 @@ slice-aggregate-view c = search needs
 view-requires : tie.Need-view-requires
 view-requires c κs = search needs
 
-form-at-requires : tie.Need-form-at-requires
-form-at-requires c κs = search needs
-
 enum-told : tie.Need-enum-told
 enum-told c = search needs
 
-returns : tie.Need-returns
-returns c =
-    heard-found _ _ _ (c .before .before .before .before .before .before .before .before .whole-record .ensures) _
-    (c .before .before .before .before .before .before .f .given .1) _ (c .before .before .before .before .open .ensures) _ (c .before .view .ensures .0) _
-    (ap (λ (y : Form). y .named) (c .form-at .ensures))
-
 returns-2 : tie.Need-returns-2
-returns-2 c = heard-not _ _ _ (c .before .before .whole-record .ensures) (c .enum-told .given .1)
+returns-2 c = heard-found _ _ _ (c .before .before .before .before .before .before .before .before .before .before .whole-record .ensures) _ (c .before .before .before .before .before .before .before .before .f .given .1) _ (c .before .before .before .open .ensures) _ (c .view .ensures .0) _ (sym (not-false _ (c .before .before .before .before .if1 .left)) ∙ ap (λ (y : Form). y .named) (c .before .before .before .before .before .before .form-at .ensures))
+
+returns-3 : tie.Need-returns-3
+returns-3 c = heard-not _ _ _ (c .before .before .whole-record .ensures) (c .enum-told .given .1)
 
 pub hear-spec : {M : Type 1} → statement M
 hear-spec =
@@ -47,10 +48,11 @@ hear-spec =
     (tie.spec
     whole-record-requires
     enum-known-f
+    form-at-requires
+    returns
     open-requires
     slice-aggregate-view
     view-requires
-    form-at-requires
     enum-told
-    returns
-    returns-2)
+    returns-2
+    returns-3)

@@ -6,20 +6,24 @@ use Rattle.cache.proofs.records.is_live_heard.Statement.{statement}
 use Rattle.cache.proofs.records.is_live_heard.Tie as tie
 use Rattle.cache.proofs.records.is_live_heard.Reads as reads
 use Rattle.cache.proofs.records.is_live_heard.Lts as lts
-use Rattle.cache.proofs.entries.is_live.Reads as is-live-reads
-use Rattle.cache.proofs.records.is_of_heard.Reads as is-of-heard-reads
+use Rattle.cache.proofs.records.is_alike.Reads as is-alike-reads
+use Rattle.cache.proofs.records.is_owner.Reads as is-owner-reads
 
-is-live-requires : tie.Need-is-live-requires
-is-live-requires c κs = search needs
+is-alike-requires : tie.Need-is-alike-requires
+is-alike-requires c κs = search needs
 
 returns : tie.Need-returns
-returns c = live-not _ _ _ _ _ _ (sym (c .before .is-live .ensures) ∙ not-true _ (c .if1 .taken))
+returns c = live-not _ _ _ _ _ _ (sym (c .before .is-alike .ensures) ∙ not-true _ (c .if1 .taken))
 
-is-of-heard-requires : tie.Need-is-of-heard-requires
-is-of-heard-requires c κs = search needs
+cast-is-owner : tie.Need-cast-is-owner
+cast-is-owner c = search needs
+
+is-owner-requires : tie.Need-is-owner-requires
+is-owner-requires c κs = search needs
 
 returns-2 : tie.Need-returns-2
-returns-2 c = live-is _ _ _ _ _ _ (sym (c .before .before .is-live .ensures) ∙ not-false _ (c .before .if1 .left)) _ (c .is-of-heard .ensures)
+returns-2 c = live-is _ _ _ _ _ _ (sym (c .before .before .before .is-alike .ensures) ∙ not-false _ (c .before .before .if1 .left)) _ (c .is-owner .ensures)
 
 pub is-live-heard-spec : {M : Type 1} → statement M
-is-live-heard-spec = tie.close (tie.spec is-live-requires returns is-of-heard-requires returns-2)
+is-live-heard-spec =
+    tie.close (tie.spec is-alike-requires returns cast-is-owner is-owner-requires returns-2)

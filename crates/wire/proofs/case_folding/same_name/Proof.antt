@@ -11,6 +11,7 @@ use Rattle.wire.proofs.case_folding.same_name.Tie as tie
 use Rattle.wire.proofs.case_folding.same_name.Reads as reads
 use Rattle.wire.proofs.case_folding.same_name.Lts as lts
 use Rattle.wire.proofs.case_folding.lowered.Reads as lowered-reads
+use Rattle.wire.proofs.case_folding.same_front.Reads as same-front-reads
 
 abbrev Inv-loop : tie.InvT-loop
 Inv-loop a b i₀ i = (i ≤ length a) × (sameName a b ≡ sameName (drop i a) (drop i b))
@@ -21,8 +22,11 @@ abbrev μ-loop : tie.MeasureT-loop
 returns : tie.Need-returns Inv-loop μ-loop
 returns c = sym (same-lengths _ _ (c .if1 .taken))
 
+same-front-requires : tie.Need-same-front-requires Inv-loop μ-loop
+same-front-requires c κs = search needs
+
 loop-holds : tie.Need-loop-holds Inv-loop μ-loop
-loop-holds c = (search needs, refl)
+loop-holds c = (c .same-front .ensures .0, c .same-front .ensures .1)
 
 shared-slice-read-lowered : tie.Need-shared-slice-read-lowered Inv-loop μ-loop
 shared-slice-read-lowered c = omega arith
@@ -50,7 +54,7 @@ loop-again c = (omega arith, turn-agree _ _ _ _ _ (omega arith) (omega arith) (c
 
 returns-3 : tie.Need-returns-3 Inv-loop μ-loop
 returns-3 c =
-    let a = c .before .before .before .before .before .args in
+    let a = c .before .before .before .before .before .before .args in
     sym (c .before .loop .inv .1 ∙ same-end (a .a .now) (a .b .now) (c .before .loop .i) (omega arith) (omega arith))
 
 pub same-name-spec : {M : Type 1} → statement M
@@ -60,6 +64,7 @@ same-name-spec =
     Inv-loop
     μ-loop
     returns
+    same-front-requires
     loop-holds
     shared-slice-read-lowered
     lowered-requires

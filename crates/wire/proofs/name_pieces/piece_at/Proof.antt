@@ -18,32 +18,38 @@ cast-n c = omega (arith, c .shared-slice-known .given (c .before .before .args .
 returns-2 : tie.Need-returns-2
 returns-2 c = sym (piece-root _ _ _ _ (omega arith) (omega arith))
 
-sub-if4 : tie.Need-sub-if4
-sub-if4 c = search needs
+add-if4 : tie.Need-add-if4
+add-if4 c = search needs
+
+add-if4-2 : tie.Need-add-if4-2
+add-if4-2 c = search needs
 
 returns-3 : tie.Need-returns-3
 returns-3 c = sym (piece-long _ _ _ _ (omega arith) (omega arith) (omega arith) (omega arith))
 
-sub-if5 : tie.Need-sub-if5
-sub-if5 c = omega arith
-
-sub-if5-2 : tie.Need-sub-if5-2
-sub-if5-2 c = omega arith
-
 returns-4 : tie.Need-returns-4
 returns-4 c = sym (piece-full _ _ _ _ (omega arith) (omega arith) (omega arith) (omega arith) (omega arith))
 
+add-if6 : tie.Need-add-if6
+add-if6 c = search needs
+
+add-if6-2 : tie.Need-add-if6-2
+add-if6-2 c = search needs
+
 returns-5 : tie.Need-returns-5
-returns-5 c = sym (piece-label _ _ _ _ (omega arith) (omega arith) (omega arith) (omega arith) (omega arith))
+returns-5 c = sym (piece-full _ _ _ _ (omega arith) (omega arith) (omega arith) (omega arith) (omega arith))
 
 returns-6 : tie.Need-returns-6
-returns-6 c = sym (piece-reserved _ _ _ _ (omega arith) (omega arith) (omega arith) (omega arith))
+returns-6 c = sym (piece-label _ _ _ _ (omega arith) (omega arith) (omega arith) (omega arith) (omega arith))
+
+returns-7 : tie.Need-returns-7
+returns-7 c = sym (piece-reserved _ _ _ _ (omega arith) (omega arith) (omega arith) (omega arith))
 
 add-next : tie.Need-add-next
 add-next c = search needs
 
-returns-7 : tie.Need-returns-7
-returns-7 c = sym (piece-short _ _ _ _ (omega arith) (omega arith) (omega arith))
+returns-8 : tie.Need-returns-8
+returns-8 c = sym (piece-short _ _ _ _ (omega arith) (omega arith) (omega arith))
 
 mul-target : tie.Need-mul-target
 mul-target c = search needs
@@ -57,14 +63,14 @@ cast-target c = omega (arith, c .shared-slice-known2 .given (c .before .before .
 add-target : tie.Need-add-target
 add-target c = omega (arith, c .shared-slice-known2 .given (c .before .before .before .before .before .before .before .args .at + 1))
 
-returns-8 : tie.Need-returns-8
-returns-8 c = sym (piece-header _ _ _ _ (omega arith) (omega arith) (omega arith) (c .if8 .taken))
-
 returns-9 : tie.Need-returns-9
-returns-9 c = sym (piece-forward _ _ _ _ (omega arith) (omega arith) (omega arith) (omega arith) (omega arith))
+returns-9 c = sym (piece-header _ _ _ _ (omega arith) (omega arith) (omega arith) (c .if9 .taken))
 
 returns-10 : tie.Need-returns-10
-returns-10 c = sym (piece-pointer _ _ _ _ (omega arith) (omega arith) (omega arith) (omega arith) (omega arith))
+returns-10 c = sym (piece-forward _ _ _ _ (omega arith) (omega arith) (omega arith) (omega arith) (omega arith))
+
+returns-11 : tie.Need-returns-11
+returns-11 c = sym (piece-pointer _ _ _ _ (omega arith) (omega arith) (omega arith) (omega arith) (omega arith))
 
 pub piece-at-spec : {M : Type 1} → statement M
 piece-at-spec =
@@ -74,19 +80,21 @@ piece-at-spec =
     shared-slice-read-n
     cast-n
     returns-2
-    sub-if4
+    add-if4
+    add-if4-2
     returns-3
-    sub-if5
-    sub-if5-2
     returns-4
+    add-if6
+    add-if6-2
     returns-5
     returns-6
-    add-next
     returns-7
+    add-next
+    returns-8
     mul-target
     shared-slice-read-target
     cast-target
     add-target
-    returns-8
     returns-9
-    returns-10)
+    returns-10
+    returns-11)

@@ -3,13 +3,14 @@ use mathlib.Core.Path.{refl, _∙_}
 use borrow.Author.Tests.{not-true, not-false}
 use Rattle.wire.proofs.rdata.Parts.{address-long, fits-found, fits-bad, srv-target, srv-none}
 use Rattle.wire.proofs.rdata.Fits.{in-a, in-txt, in-aaaa, in-srv, in-other, in-form}
+use Rattle.wire.proofs.rdata.Forms.{in-typed}
 use borrow.Author.Needs.{needs}
 use Rattle.wire.proofs.rdata.part_fits.Statement.{statement}
 use Rattle.wire.proofs.rdata.part_fits.Tie as tie
 use Rattle.wire.proofs.rdata.part_fits.Reads as reads
 use Rattle.wire.proofs.rdata.part_fits.Lts as lts
 use Rattle.wire.proofs.rdata.address_in.Reads as address-in-reads
-use Rattle.wire.proofs.rdata.form_in.Reads as form-in-reads
+use Rattle.wire.proofs.rdata.form_of.Reads as form-of-reads
 use Rattle.wire.proofs.rdata.name_in.Reads as name-in-reads
 use Rattle.wire.proofs.rdata.srv_in.Reads as srv-in-reads
 use Rattle.wire.proofs.rdata.strings_fill.Reads as strings-fill-reads
@@ -47,11 +48,11 @@ returns-4 c = let t = srv-target _ _ _ _ (c .before .before .srv-in .ensures) _ 
 returns-5 : tie.Need-returns-5
 returns-5 c = in-srv _ _ _ (omega arith) _ (fits-bad _ _ _ _ _ (omega arith) _ refl (srv-none _ _ _ _ (c .before .before .srv-in .ensures) (c .enum-told2 .given .1)))
 
-form-in-requires : tie.Need-form-in-requires
-form-in-requires c κs = search needs
+form-of-requires : tie.Need-form-of-requires
+form-of-requires c κs = search needs
 
 returns-6 : tie.Need-returns-6
-returns-6 c = in-other _ _ _ _ (c .before .before .form-in .ensures) (λ e. omega arith) (λ e. omega arith) (λ e. omega arith) (not-true _ (c .if5 .taken))
+returns-6 c = in-other _ _ _ _ (in-typed _ _ _ (λ e. omega arith) _ (c .before .before .form-of .ensures)) (λ e. omega arith) (λ e. omega arith) (λ e. omega arith) (not-true _ (c .if5 .taken))
 
 name-in-requires : tie.Need-name-in-requires
 name-in-requires c κs = search needs
@@ -63,10 +64,10 @@ enum-told-4 : tie.Need-enum-told-4
 enum-told-4 c = search needs
 
 returns-7 : tie.Need-returns-7
-returns-7 c = in-form _ _ _ _ (c .before .before .before .before .before .form-in .ensures) (not-false _ (c .before .before .before .if5 .left)) _ (fits-found _ _ _ _ _ (omega arith) _ (c .before .before .name-in .ensures) _ (c .enum-told3 .given .1))
+returns-7 c = in-form _ _ _ _ (in-typed _ _ _ (λ e. omega arith) _ (c .before .before .before .before .before .form-of .ensures)) (not-false _ (c .before .before .before .if5 .left)) _ (fits-found _ _ _ _ _ (omega arith) _ (c .before .before .name-in .ensures) _ (c .enum-told3 .given .1))
 
 returns-8 : tie.Need-returns-8
-returns-8 c = in-form _ _ _ _ (c .before .before .before .before .before .form-in .ensures) (not-false _ (c .before .before .before .if5 .left)) _ (fits-bad _ _ _ _ _ (omega arith) _ (c .before .before .name-in .ensures) (c .enum-told4 .given .1))
+returns-8 c = in-form _ _ _ _ (in-typed _ _ _ (λ e. omega arith) _ (c .before .before .before .before .before .form-of .ensures)) (not-false _ (c .before .before .before .if5 .left)) _ (fits-bad _ _ _ _ _ (omega arith) _ (c .before .before .name-in .ensures) (c .enum-told4 .given .1))
 
 pub part-fits-spec : {M : Type 1} → statement M
 part-fits-spec =
@@ -83,7 +84,7 @@ part-fits-spec =
     enum-told-2
     returns-4
     returns-5
-    form-in-requires
+    form-of-requires
     returns-6
     name-in-requires
     enum-told-3

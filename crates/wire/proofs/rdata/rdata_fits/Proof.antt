@@ -1,5 +1,7 @@
 use native.Mathlib.Omega.{arith}
+use mathlib.Core.Path.{sym}
 use Rattle.wire.proofs.rdata.Fits.{fits-past, fits-within}
+use Rattle.wire.proofs.rdata.Restricted.{never-unfit}
 use borrow.Author.Needs.{needs}
 use Rattle.wire.proofs.rdata.rdata_fits.Statement.{statement}
 use Rattle.wire.proofs.rdata.rdata_fits.Tie as tie
@@ -16,6 +18,9 @@ sub-if2 c = search needs
 returns-2 : tie.Need-returns-2
 returns-2 c = fits-past _ _ (omega arith)
 
+returns-3 : tie.Need-returns-3
+returns-3 c = sym (never-unfit _ _ (omega arith) (omega arith))
+
 add-end : tie.Need-add-end
 add-end c = search needs
 
@@ -29,10 +34,10 @@ part-part-fits-end : tie.Need-part-part-fits-end
 part-part-fits-end c = search needs
 
 part-fits-requires : tie.Need-part-fits-requires
-part-fits-requires c κs = search needs
+part-fits-requires c κs = (search needs, λ e. omega arith)
 
-returns-3 : tie.Need-returns-3
-returns-3 c = fits-within _ _ (omega arith) _ (c .part-fits .ensures)
+returns-4 : tie.Need-returns-4
+returns-4 c = fits-within _ _ (omega arith) _ (c .part-fits .ensures)
 
 pub rdata-fits-spec : {M : Type 1} → statement M
 rdata-fits-spec =
@@ -41,9 +46,10 @@ rdata-fits-spec =
     returns
     sub-if2
     returns-2
+    returns-3
     add-end
     sub-part-fits
     part-part-fits-start
     part-part-fits-end
     part-fits-requires
-    returns-3)
+    returns-4)

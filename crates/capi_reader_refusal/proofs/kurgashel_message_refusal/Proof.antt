@@ -1,10 +1,10 @@
 use mathlib.Core.Path.{sym, ap, _∙_}
 use Rattle.wire.specs.message.Layout.{refusalOf}
 use borrow.Author.Needs.{needs}
-use Rattle.capi_reader.proofs.kurgashel_message_refusal.Statement.{statement}
-use Rattle.capi_reader.proofs.kurgashel_message_refusal.Tie as tie
-use Rattle.capi_reader.proofs.kurgashel_message_refusal.Reads as reads
-use Rattle.capi_reader.proofs.kurgashel_message_refusal.Lts as lts
+use Rattle.capi_reader_refusal.proofs.kurgashel_message_refusal.Statement.{statement}
+use Rattle.capi_reader_refusal.proofs.kurgashel_message_refusal.Tie as tie
+use Rattle.capi_reader_refusal.proofs.kurgashel_message_refusal.Reads as reads
+use Rattle.capi_reader_refusal.proofs.kurgashel_message_refusal.Lts as lts
 use Rattle.wire.proofs.message.read_message.Reads as read-message-reads
 
 read-message-requires : tie.Need-read-message-requires

@@ -1,0 +1,38 @@
+use mathlib.Core.Path.{refl}
+use Rattle.capi_responder.proofs.idle.Tests.{reply-unset, reply-unknown, reply-come, reply-to-come}
+use borrow.Author.Needs.{needs}
+use Rattle.capi_responder.proofs.idle.reply_rests.Statement.{statement}
+use Rattle.capi_responder.proofs.idle.reply_rests.Tie as tie
+
+shared-slice-read-flag : tie.Need-shared-slice-read-flag
+shared-slice-read-flag c = search needs
+
+add-number-at : tie.Need-add-number-at
+add-number-at c = search needs
+
+number-at-requires : tie.Need-number-at-requires
+number-at-requires c κs = search needs
+
+returns : tie.Need-returns
+returns c = let a = c .before .before .before .before .args in reply-unset (a .b .now) (a .at) _ _ refl (c .before .number-at .ensures) (a .time) (c .if1 .taken)
+
+returns-2 : tie.Need-returns-2
+returns-2 c = let a = c .before .before .before .before .before .args in reply-unknown (a .b .now) (a .at) _ _ refl (c .before .before .number-at .ensures) (a .time) (c .before .if1 .left) (c .if2 .taken)
+
+returns-3 : tie.Need-returns-3
+returns-3 c = let a = c .before .before .before .before .before .before .args in reply-come (a .b .now) (a .at) _ _ refl (c .before .before .before .number-at .ensures) (a .time) (c .before .if2 .left) (c .if3 .taken)
+
+returns-4 : tie.Need-returns-4
+returns-4 c = let a = c .before .before .before .before .before .before .args in reply-to-come (a .b .now) (a .at) _ _ refl (c .before .before .before .number-at .ensures) (a .time) (c .before .if2 .left) (c .if3 .left)
+
+pub reply-rests-spec : {M : Type 1} → statement M
+reply-rests-spec =
+    tie.close
+    (tie.spec
+    shared-slice-read-flag
+    add-number-at
+    number-at-requires
+    returns
+    returns-2
+    returns-3
+    returns-4)

@@ -1,0 +1,2 @@
+-- Laws of the rules on a state's bytes.
+mod InPlace
