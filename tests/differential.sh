@@ -39,6 +39,14 @@ recv sent response of 6
 recv sent response with 1 NSEC
 recv sent response with 2 NSEC
 recv refused 7
+recv quiet from another port
+recv refused 5 from another port
+recv refused 6 from another port
+recv unicast of 1
+recv unicast of 2
+recv unicast with PTR
+recv unicast with SRV
+recv unicast in other case
 tick sent probe more
 tick sent response of 3 more
 claims instance waiting
@@ -69,6 +77,8 @@ put refused 4
 put refused 5
 put refused 6
 put refused 8
+put cached from another port
+put refused 5 from another port
 look slot in a table of 1
 look slot in a table of 2 to 63
 look slot in a table of 64

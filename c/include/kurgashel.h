@@ -27,7 +27,7 @@ enum {
     KURGASHEL_DRAW = 2,      /* draw outside 0..250 (start) or 20..120 (packet received) */
     KURGASHEL_BUFFER = 3,    /* out buffer under 1,452 bytes */
     KURGASHEL_LENGTH = 4,    /* message under 12 or over 8,972 bytes */
-    KURGASHEL_HEADER = 5,    /* opcode or RCODE not zero, or source port not 5353 */
+    KURGASHEL_HEADER = 5,    /* opcode or RCODE not zero, or a response from a source port other than 5353 */
     KURGASHEL_MALFORMED = 6, /* malformed message, TXT or looked-up name */
     KURGASHEL_SETUP = 7,     /* names or data of a set-up or a state break the rules, or a buffer of one has another size */
     KURGASHEL_CACHE = 8,     /* not 1 to 512 entries, not 1,024 bytes of store for each, or an entry with a length too great */
@@ -58,10 +58,11 @@ struct kurgashel_setup {
     uint8_t aaaa[16];
 };
 
-/* A call's answer: a refusal or 0; after a tick, whether more is due at the same time; and the length of the packet to send, 0 for none. */
+/* A call's answer: a refusal or 0; after a tick, whether more is due at the same time; and the length of the packet to send, 0 for none. It goes by multicast
+ * to all; where `unicast`, to the address and port alone that the packet received came from. */
 struct kurgashel_answer {
     uint8_t refusal;
-    bool more;
+    bool more, unicast;
     size_t length;
 };
 
@@ -69,7 +70,7 @@ struct kurgashel_answer {
 struct kurgashel_answer kurgashel_start(uint8_t *state, size_t state_bytes, const uint8_t *setup, size_t setup_bytes, uint64_t now, uint64_t draw);
 
 /* Takes a packet that came from `port`; `draw` (a random 20..120) delays a reply with the shared PTR record. A packet that is to be sent at once is written
- * to `out`, and the bytes beyond it stay. Refusals 1 to 7. */
+ * to `out`, and the bytes beyond it stay. A query from a port other than 5353, from a plain resolver, is answered by unicast (RFC 6762, 6.7). Refusals 1 to 7. */
 struct kurgashel_answer kurgashel_receive(uint8_t *state, size_t state_bytes, uint64_t now, uint16_t port, uint64_t draw, const uint8_t *packet, size_t packet_bytes,
                                           uint8_t *out, size_t out_bytes);
 

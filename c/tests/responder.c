@@ -20,7 +20,7 @@ static struct kurgashel_answer start(const struct kurgashel_setup *setup, uint64
 static struct kurgashel_answer tick(uint64_t now) { return kurgashel_tick(state, KURGASHEL_STATE_BYTES, now, out, KURGASHEL_OUT_BYTES); }
 static void keep(void) { memcpy(kept, state, sizeof state); memcpy(was, out, sizeof out); }
 static int same(void) { return !memcmp(kept, state, sizeof state) && !memcmp(was, out, sizeof out); }
-static int is(struct kurgashel_answer a, uint8_t refusal) { return a.refusal == refusal && !a.more && !a.length && same(); }
+static int is(struct kurgashel_answer a, uint8_t refusal) { return a.refusal == refusal && !a.more && !a.unicast && !a.length && same(); }
 static int due(uint64_t time) { struct kurgashel_due d = kurgashel_due(state, KURGASHEL_STATE_BYTES); return d.due && d.time == time; }
 static uint8_t claim(uint8_t which) { return kurgashel_claim(state, KURGASHEL_STATE_BYTES, which); }
 
@@ -84,12 +84,25 @@ static void life(void) {
     expect(due(1750), "the second announcements 1,000 ms later");
     keep();
     uint8_t query[29] = "\0\0\0\0\0\1\0\0\0\0\0\0\4dock\5local\0\0\1\0\1";
-    expect(is(kurgashel_receive(state, KURGASHEL_STATE_BYTES, 800, 5354, 20, query, 28, out, KURGASHEL_OUT_BYTES), 5), "another port");
+    expect(is(kurgashel_receive(state, KURGASHEL_STATE_BYTES, 800, 5354, 20, announcement, 38, out, KURGASHEL_OUT_BYTES), 5), "a response from another port");
     expect(is(kurgashel_receive(state, KURGASHEL_STATE_BYTES, 800, 5353, 19, query, 28, out, KURGASHEL_OUT_BYTES), 2), "a draw of 19");
     expect(is(kurgashel_receive(state, KURGASHEL_STATE_BYTES, 800, 5353, 20, query, 27, out, KURGASHEL_OUT_BYTES), 6), "a cut question");
     expect(is(kurgashel_receive(state, KURGASHEL_STATE_BYTES, 800, 5353, 20, query, 11, out, KURGASHEL_OUT_BYTES), 4), "11 bytes");
     a = kurgashel_receive(state, KURGASHEL_STATE_BYTES, 1750, 5353, 20, query, 28, out, KURGASHEL_OUT_BYTES);
-    expect(!a.refusal && a.length == 38 && !memcmp(out, announcement, 38), "the host's address, asked for");
+    expect(!a.refusal && !a.unicast && a.length == 38 && !memcmp(out, announcement, 38), "the host's address, asked for");
+    // a plain resolver: its ID and question again, TTL 10, class 1; asked in other letters, no name is cut
+    static const uint8_t reply[45] = "\x12\x34\x84\0\0\1\0\1\0\0\0\0\4dock\5local\0\0\1\x80\1\xc0\x0c\0\1\0\1\0\0\0\x0a\0\4\x0a\0\0\7";
+    uint8_t plain[29] = "\x12\x34\1\0\0\1\0\0\0\0\0\0\4dock\5local\0\0\1\x80\1";
+    keep();
+    a = kurgashel_receive(state, KURGASHEL_STATE_BYTES, 1750, 1024, 20, plain, 28, out, KURGASHEL_OUT_BYTES);
+    expect(!a.refusal && a.unicast && a.length == 44 && !memcmp(out, reply, 44), "a plain resolver is answered by unicast, whatever was multicast just now");
+    expect(!memcmp(state, kept, sizeof state) && !memcmp(out + 44, was + 44, sizeof out - 44), "at the same time that changes no byte of the state");
+    plain[20] = 'C';
+    a = kurgashel_receive(state, KURGASHEL_STATE_BYTES, 1750, 1024, 20, plain, 28, out, KURGASHEL_OUT_BYTES);
+    expect(!a.refusal && a.unicast && a.length == 54 && out[20] == 'C' && out[28] == 4, "asked for in other letters: the question again, the owner whole");
+    plain[25] = 28;
+    a = kurgashel_receive(state, KURGASHEL_STATE_BYTES, 1750, 1024, 20, plain, 28, out, KURGASHEL_OUT_BYTES);
+    expect(!a.refusal && !a.unicast && !a.length, "AAAA, which the host lacks: no NSEC for a plain resolver");
     static const uint8_t nsec[39] = "\0\0\x84\0\0\0\0\1\0\0\0\0\4dock\5local\0\0\x2f\x80\1\0\0\0\x78\0\5\xc0\x0c\0\1\x40";
     query[25] = 28;
     a = kurgashel_receive(state, KURGASHEL_STATE_BYTES, 1750, 5353, 20, query, 28, out, KURGASHEL_OUT_BYTES);

@@ -1,8 +1,9 @@
 # The cases. Each prints what was seen and answers 0 where it is as it should be.
 
-cases="avahi_finds_us zeroconf_finds_us we_find_avahi we_find_zeroconf says_that_there_is_no_aaaa
+cases="avahi_finds_us zeroconf_finds_us systemd_finds_us we_find_avahi we_find_zeroconf says_that_there_is_no_aaaa
     yields_the_instance_to_avahi yields_the_host_to_avahi yields_the_instance_to_zeroconf
     keeps_the_instance_against_avahi keeps_the_host_against_avahi keeps_the_instance_against_zeroconf
+    dig_is_answered a_reply_as_it_lies no_reply_beyond_the_link
     two_of_ours_by_chance two_of_ours_in_step"
 
 service=_voice._tcp
@@ -45,8 +46,8 @@ has() { # TEXT PATTERN
 }
 
 # Our responder on machine a, with both names held. Its two announcements are over, so that a peer which starts now has to ask.
-we_hold() {
-    start_responder a ours --instance booth --service $service --host dock --port 4000 --txt room=3 --txt PassReq --address6 fd77::1
+we_hold() { # OPTIONS...
+    start_responder a ours --instance booth --service $service --host dock --port 4000 --txt room=3 --txt PassReq --address6 fd77::1 "$@"
     wait_for 5 ours "held +$booth" && wait_for 5 ours 'held +dock.local' && sleep 1.2
 }
 
@@ -69,6 +70,16 @@ zeroconf_finds_us() {
     seen=$(on c "$python" "$root/tests/interop/zeroconf_find.py" 10.77.0.3 $service.local. booth 2>&1)
     has "$seen" '^host dock\.local\.$' && has "$seen" '^port 4000$' && has "$seen" '^address 10\.77\.0\.1$' &&
         has "$seen" '^address fd77::1$' && has "$seen" '^txt room=3$' && has "$seen" '^txt PassReq$'
+}
+
+# systemd-resolved asks for A by IPv4 and for AAAA by IPv6 alone, which our programs don't speak.
+systemd_finds_us() {
+    local seen
+    we_hold && resolved_is_up || return 1
+    seen=$(resolve query -4 dock.local)
+    has "$seen" '^dock\.local: 10\.77\.0\.1 ' || return 1
+    seen=$(resolve service booth $service local)
+    has "$seen" '^booth/_voice\._tcp/local: dock\.local:4000 ' && has "$seen" '^ +room=3$' && has "$seen" '^ +PassReq$'
 }
 
 # Finds a service of Avahi, and sees it go when its publisher ends.
@@ -117,6 +128,72 @@ says_that_there_is_no_aaaa() {
     seen=$(on b avahi-resolve -6 -n dock.local 2>&1)
     echo "    avahi-resolve -6: $((($(date +%s%N) - begun) / 1000000)) ms"
     has "$seen" 'Failed to resolve host name'
+}
+
+# Asks our responder as any DNS client does: +tcp off, since dig asks for ANY by TCP.
+dig_us() { # NAME TYPE
+    on b dig -p 5353 @10.77.0.1 +time=1 +tries=1 +notcp +noall +answer +comments "$1" "$2" 2>&1
+}
+
+# dig is answered for all that we hold, and not for a name that we don't, nor for a type that is not there.
+dig_is_answered() {
+    local seen
+    we_hold || return 1
+    seen=$(dig_us $booth SRV)
+    has "$seen" "^$booth\\.\s+10\s+IN\s+SRV\s+0 0 4000 dock\.local\.$" || return 1
+    seen=$(dig_us $booth TXT)
+    has "$seen" "^$booth\\.\s+10\s+IN\s+TXT\s+\"room=3\" \"PassReq\"$" || return 1
+    seen=$(dig_us $service.local PTR)
+    has "$seen" "^_voice\._tcp\.local\.\s+10\s+IN\s+PTR\s+booth\._voice\._tcp\.local\.$" || return 1
+    seen=$(dig_us dock.local A)
+    has "$seen" '^dock\.local\.\s+10\s+IN\s+A\s+10\.77\.0\.1$' || return 1
+    seen=$(dig_us DOCK.Local AAAA)
+    has "$seen" '^dock\.local\.\s+10\s+IN\s+AAAA\s+fd77::1$' || return 1
+    seen=$(dig_us $booth ANY)
+    has "$seen" 'ANSWER: 2,' && has "$seen" 'IN\s+SRV' && has "$seen" 'IN\s+TXT' || return 1
+    for asked in "other.local A" "dock.local MX"; do
+        # shellcheck disable=SC2086
+        has "$asked: $(dig_us $asked | tr '\n' ' ')" 'no servers could be reached' || return 1
+    done
+}
+
+# Asks from machine c, from an address of its own.
+ask_us() { # FROM TO NAME TYPE
+    on c "$python" "$root/tests/interop/plain_ask.py" "$@" 2>&1
+}
+
+# The packet itself: ID and question repeated, the asker's spelling too; TTL 10; class 1; the SRV target in full, a PTR's cut. Sent to our address or to the
+# group, the reply comes from our address and port 5353.
+a_reply_as_it_lies() {
+    local seen to
+    we_hold --verbose || return 1
+    for to in 10.77.0.1 224.0.0.251; do
+        seen=$(ask_us 10.77.0.3 $to Booth._VOICE._tcp.local 33)
+        has "$seen" '^reply from 10\.77\.0\.1 port 5353$' && has "$seen" '^id repeated flags 8400 counts 1 1 0 0$' &&
+            has "$seen" '^question repeated byte for byte$' && has "$seen" 'type 33 class 1 ttl 10 target dock\.local\. whole$' &&
+            has "$seen" '^ends there$' || return 1
+    done
+    seen=$(ask_us 10.77.0.3 10.77.0.1 $service.local 12)
+    has "$seen" 'type 12 class 1 ttl 10 target booth\._voice\._tcp\.local\. cut$' || return 1
+    # a query that can't be replied to doesn't end the responder
+    on c "$python" "$root/tests/interop/portless.py" 10.77.0.3 10.77.0.1 dock.local 1
+    wait_for 3 ours 'the reply to 10.77.0.3:0 failed' && has "$(cat "$work/ours")" 'the reply to 10.77.0.3:0 failed' || return 1
+    seen=$(ask_us 10.77.0.3 10.77.0.1 dock.local 255)
+    has "$seen" '^id repeated flags 8400 counts 1 2 0 0$' && has "$seen" 'type 1 class 1 ttl 10$' && has "$seen" 'type 28 class 1 ttl 10$'
+}
+
+# Someone with an address of another subnet, to which there is a route, gets no reply by unicast, while the same machine does from its other address
+# (RFC 6762 section 11).
+no_reply_beyond_the_link() {
+    local to
+    we_hold || return 1
+    ip -n "$link-c" addr replace 10.99.0.3/24 dev wire && ip -n "$link-a" route replace 10.99.0.0/24 dev wire || return 1
+    for to in 10.77.0.1 224.0.0.251; do
+        has "from 10.99.0.3 to $to: $(ask_us 10.99.0.3 $to dock.local 1)" ': no reply$' || return 1
+        has "from 10.77.0.3 to $to: $(ask_us 10.77.0.3 $to dock.local 1 | head -n 1)" ': reply from 10\.77\.0\.1 port 5353$' || return 1
+    done
+    kill "$last"
+    wait_for 3 ours 'dropped' && has "$(cat "$work/ours")" '^2 packets were dropped'
 }
 
 yields_the_instance_to_avahi() {

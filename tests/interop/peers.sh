@@ -1,4 +1,4 @@
-# The peers: Avahi with a D-Bus of its own, on machine b, and python-zeroconf; and how they are started and ended.
+# The peers: Avahi with a D-Bus of its own, on machine b, python-zeroconf and dig; and how they are started and ended.
 
 running=
 
@@ -42,15 +42,23 @@ find_peers() {
     for command in ip unshare timeout dbus-daemon avahi-daemon avahi-browse avahi-publish cargo; do
         command -v "$command" >/dev/null 2>&1 || skip "$command is not installed (tests/interop.sh --install)"
     done
-    # a Debian package is for Debian's own interpreter, which need not be the first
+    find_python || skip "python3-zeroconf is not installed (tests/interop.sh --install)"
+    command -v dig >/dev/null 2>&1 && return 0
+    echo "skipped: dig is not installed (tests/interop.sh --install), so its case is not tried"
+    cases=${cases/dig_is_answered/}
+}
+
+# A Debian package is for Debian's own interpreter, which need not be the first.
+find_python() {
     for python in python3 /usr/bin/python3; do
         "$python" -c 'import zeroconf' 2>/dev/null && return 0
     done
-    skip "python3-zeroconf is not installed (tests/interop.sh --install)"
+    return 1
 }
 
 peer_versions() {
-    echo "peers: $(avahi-daemon --version 2>/dev/null), python-zeroconf $("$python" -c 'import zeroconf; print(zeroconf.__version__)'), $(uname -s) $(uname -r | cut -d. -f1-2)"
+    echo "peers: $(avahi-daemon --version 2>/dev/null), python-zeroconf $("$python" -c 'import zeroconf; print(zeroconf.__version__)')," \
+        "$(command -v dig >/dev/null && dig -v 2>&1 | head -n 1 || echo "no dig"), $(uname -s) $(uname -r | cut -d. -f1-2)"
 }
 
 start_bus() {

@@ -431,6 +431,20 @@ for length in (0, 11, 12, 8972, 8973):
     put(0, (response(address()) + bytes(9000))[:length])
     slot(0)
 
+show("a query from any port is accepted and nothing is taken; from another port too it is 5 for its opcode or RCODE and 6 if it is malformed")
+clear()
+for port in (0, 1024, 5352, 5353, 5354, 5353 + 65536, 18446744073709551615):
+    put(0, response(address(), additional=[address(8)], flags=0), port)
+    put(0, response(address(), flags=0x0200), port)
+    put(0, response(address(), flags=0x0800), port)
+    put(0, response(address(), flags=0x0003), port)
+    put(0, response(b"\xc0\x0c", flags=0), port)
+    put(0, bytes(11), port)
+slot(0)
+table(1, 1023)
+put(0, response(b"\xc0\x0c", flags=0), 1024)
+table(64)
+
 show("the order of refusals: 1 before 4 before 5 before 6")
 put(0, b"\0", 1)
 put(LATEST + 1, b"\0", 1)

@@ -11,7 +11,7 @@ use Rattle.writer.specs.own_packets.Own.{laidOver}
 use Rattle.responder.specs.declared.State.{State}
 use Rattle.responder.specs.declared.Answer.{Answer}
 use Rattle.responder.specs.declared.Started.{Started}
-use Rattle.responder.specs.Calls.{blank, refusalOf, lengthOf, startOf}
+use Rattle.responder.specs.Calls.{blank, refusalOf, lengthOf, isUnicast, startOf}
 use Rattle.responder.specs.Runs.{Call, answerTo, moreAfter, stateAfter, packetOf}
 use Rattle.capi_responder.specs.codec.Layout.{stateSize}
 use Rattle.capi_responder.specs.codec.Codec.{setupOf, decode, withProgress, withSetup}
@@ -19,7 +19,7 @@ use Rattle.capi_responder.specs.declared.Called.{Called}
 
 -- The specification's values for an answer
 abbrev pub calledWith : Answer → Bool → Called
-calledWith answer more = record { refusal = refusalOf answer; more = more; length = lengthOf answer }
+calledWith answer more = record { refusal = refusalOf answer; more = more; unicast = isUnicast answer; length = lengthOf answer }
 
 -- "A refusal returns the number alone .. state .. keep every byte."
 abbrev pub unlessRefused : {A : Type 0} → Answer → A → A → A

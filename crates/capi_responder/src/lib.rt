@@ -10,17 +10,19 @@ pub mod state;
 ghost use mathlib.Core.Path.{_≡_};
 ghost use lib.ListN.{length};
 ghost use Rattle.responder.specs.Handed.{Arrival, Tick};
-ghost use Rattle.responder.specs.Calls.{refusalOf, lengthOf};
+ghost use Rattle.responder.specs.Calls.{refusalOf, lengthOf, isUnicast};
 ghost use Rattle.responder.specs.Runs.{received, ticked};
 ghost use Rattle.capi_responder.specs.Exported.{calledWith, setupFor, Starts, Calls};
 use own::records::Setup;
 use responder::Answer;
 
-// A call's answer: the specification's refusal number, or 0; whether more is due, after a tick; the length of the packet that was written, or 0.
+// A call's answer: the specification's refusal number, or 0; whether more is due, after a tick; whether the packet that was written goes to where the
+// message came from that it answers, and not to all; and the length of that packet, or 0.
 #[repr(C)]
 pub struct Called {
     pub refusal: u8,
     pub more: bool,
+    pub unicast: bool,
     pub length: usize,
 }
 
@@ -31,6 +33,7 @@ fn refusal_of(answer: Answer) -> u8
         Answer::Refused(number) => number,
         Answer::Quiet => 0,
         Answer::Sent(_) => 0,
+        Answer::Unicast(_) => 0,
     }
 }
 
@@ -41,6 +44,18 @@ fn length_of(answer: Answer) -> usize
         Answer::Refused(_) => 0,
         Answer::Quiet => 0,
         Answer::Sent(length) => length,
+        Answer::Unicast(length) => length,
+    }
+}
+
+fn is_unicast(answer: Answer) -> bool
+    ensures { λ r. ⌜ r ≡ isUnicast answer ⌝ }
+{
+    match answer {
+        Answer::Refused(_) => false,
+        Answer::Quiet => false,
+        Answer::Sent(_) => false,
+        Answer::Unicast(_) => true,
     }
 }
 
@@ -50,6 +65,7 @@ fn answered(answer: Answer, more: bool) -> Called
     Called {
         refusal: refusal_of(answer),
         more,
+        unicast: is_unicast(answer),
         length: length_of(answer),
     }
 }
@@ -82,7 +98,8 @@ pub extern "C" fn kurgashel_start(state: &mut [u8], setup: &[u8], time: u64, dra
     answered(answer, false)
 }
 
-// Takes a packet that came from `port`, with the draw for a PTR reply, and writes the answers that go out at once.
+// Takes a packet that came from `port`, with the draw for a PTR reply, and writes the answers that go out at once: to all, or to a plain resolver, which
+// asks from another port than 5353.
 #[no_mangle]
 pub extern "C" fn kurgashel_receive(
     state: &mut [u8],

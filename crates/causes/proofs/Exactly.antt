@@ -7,7 +7,7 @@ use mathlib.Core.List.{List, [], _∷_, map}
 use native.Mathlib.Omega.{arith}
 use lib.Dec.{eqb, ltb}
 use lib.ListN.{length}
-use borrow.Author.Tests.{ltb-false}
+use borrow.Author.Tests.{eq-eqb, ltb-false}
 use mathlib.Mathlib.Data.Bool.Basic.{or-eq-false-eq-eq-false-and-eq-false as neither}
 use Rattle.wire.specs.Lists.{some}
 use Rattle.wire.specs.case_folding.Fold.{sameName}
@@ -36,7 +36,7 @@ use Rattle.writer.specs.own_packets.Own.{responseRecords, responseOf, noneIfEmp
 use Rattle.roundtrip.proofs.OwnPackets.{response-back}
 use Rattle.responder.specs.Handed.{Arrival}
 use Rattle.responder.specs.Refusals.{wrongState, receiveRefusal}
-use Rattle.responder.specs.Calls.{packetFor, heardOf, receivedPacket, receiveOf}
+use Rattle.responder.specs.Calls.{packetFor, fromMdns, heardOf, receivedPacket, receiveOf}
 use Rattle.responder.specs.Causes.{isDue, hasCause, isWanted}
 use Rattle.responder.specs.declared.State.{State}
 use Rattle.responder.proofs.Refusals.{ReceiveAccepted, receive-accepted}
@@ -46,13 +46,13 @@ use Rattle.causes.specs.Statement.{answersOf, answersIn, Accepted, goesN
 -- ---- lists
 
 -- two tests that agree pick the same
-picked-same : {A : Type 0} (f g : A → Bool) → ((x : A) → f x ≡ g x) → (xs : List A) → picked f xs ≡ picked g xs
+pub picked-same : {A : Type 0} (f g : A → Bool) → ((x : A) → f x ≡ g x) → (xs : List A) → picked f xs ≡ picked g xs
 unfolding picked
 picked-same f g e [] = refl
 picked-same f g e (x ∷ xs) = rw (e x, picked-same f g e xs)
 
 -- some of those that were picked pass a test
-some-picked : {A B : Type 0} (test : B → Bool) (f : A → B) (g : A → Bool) (xs : List A) → some test (map f (picked g xs)) ≡ some (λ x. g x && test (f x)) xs
+pub some-picked : {A B : Type 0} (test : B → Bool) (f : A → B) (g : A → Bool) (xs : List A) → some test (map f (picked g xs)) ≡ some (λ x. g x && test (f x)) xs
 unfolding some picked
 some-picked test f g [] = refl
 some-picked test f g (x ∷ xs) = go (g x) (some-picked test f g xs)
@@ -62,13 +62,13 @@ some-picked test f g (x ∷ xs) = go (g x) (some-picked test f g xs)
     go true e = ap (λ (v : Bool). test (f x) || v) e
     go false e = e
 
-some-same : {A : Type 0} (f g : A → Bool) → ((x : A) → f x ≡ g x) → (xs : List A) → some f xs ≡ some g xs
+pub some-same : {A : Type 0} (f g : A → Bool) → ((x : A) → f x ≡ g x) → (xs : List A) → some f xs ≡ some g xs
 unfolding some
 some-same f g e [] = refl
 some-same f g e (x ∷ xs) = rw (e x, some-same f g e xs)
 
 -- the record of an index
-one-of-all : (f : Own → Bool) (o : Own) → some (λ p. f p && eqb (indexOf p) (indexOf o)) all ≡ f o
+pub one-of-all : (f : Own → Bool) (o : Own) → some (λ p. f p && eqb (indexOf p) (indexOf o)) all ≡ f o
 unfolding some
 one-of-all f =
     by-record (λ o. some (λ p. f p && eqb (indexOf p) (indexOf o)) all ≡ f o) (simp (and-false, and-true, or-false)) (simp (and-false, and-true, or-false))
@@ -97,7 +97,10 @@ module _ (s : Setup) (set : Set) (v : validSetup s ≡ true) where
       go [] e = none-back e ∙ sym (ap (map (ownRecord s responseStyle)) e)
       go (o ∷ os) e = some-back (λ z. filled o os (sym e ∙ z))
 
-module _ (s : State) (a : Arrival) (l : Layout) (m : Message) (ok : Accepted s a l m) where
+module _ (s : State) (a : Arrival) (l : Layout) (m : Message) (ok : Accepted s a l m) (port : a .port ≡ 5353) where
+  from : fromMdns a ≡ true
+  from = eq-eqb (a .port) 5353 port
+
   passed : ReceiveAccepted s a
   passed = receive-accepted s a (ok .accepted)
 
@@ -114,7 +117,7 @@ module _ (s : State) (a : Arrival) (l : Layout) (m : Message) (ok : Accepted s a
 
   sent-is : receivedPacket s a ≡ responsePacket (s .setup) (atOnce wanted)
   unfolding receivedPacket packetFor answers.receiveOf
-  sent-is = simp (ok .accepted, ok .message)
+  sent-is = simp (ok .accepted, ok .message, from)
 
   -- a record that goes at once has no need of a second look at whether it is there
   goes-once : (o : Own) → (has o (atOnce wanted) && hasRecord (s .setup) o) ≡ goesNow s (a .time) m o
@@ -156,7 +159,7 @@ module _ (s : State) (a : Arrival) (l : Layout) (m : Message) (ok : Accepted s a
       let d = neither (ltb (a .draw) 20) (ltb 120 (a .draw)) .0 (passed .drawn) in
       let late : a .time ≤ 4611686018427387904 = ltb-false _ _ (t .0) in
       let small : a .draw ≤ 120 = ltb-false 120 (a .draw) (d .1) in
-      simp (ok .accepted, ok .message, wanted-exactly s (a .time) m Ptr, after-exact (a .time) (a .draw) late (omega (arith, small)))
+      simp (ok .accepted, ok .message, from, wanted-exactly s (a .time) m Ptr, after-exact (a .time) (a .draw) late (omega (arith, small)))
 
 pub left-out-exactly : LeftOutExactly
-left-out-exactly s a l m ok = record { answers = answered s a l m ok; goes = goes s a l m ok; reply = replied s a l m ok }
+left-out-exactly s a l m ok port = record { answers = answered s a l m ok port; goes = goes s a l m ok port; reply = replied s a l m ok port }

@@ -21,13 +21,16 @@ use Rattle.writer.specs.Items.{putName, dataBytes, dataPlaces, putFields}
 use Rattle.writer.specs.own_packets.Packets.{packetOf}
 use Rattle.responder.specs.Refusals.{wrongState, receiveRefusal}
 use Rattle.responder.specs.Causes.{isDue, hasCause}
+use Rattle.causes.specs.Plain.{isReplied}
 use Rattle.causes.specs.Witness.{query, Witness}
 
 pub witness : Witness
-unfolding query receiveRefusal wrongState wrongTime kept multicastsKept everyOf validSetup labelFits instanceFits utf8.isShown utf8.shownFrom utf8.mayStand utf8.behind utf8.starts utf8.following utf8.within isLetter isNameByte allNameBytes someLetter hyphensApart serviceRule serviceFits protocolFits domainFits txtFits stringsFill sameBytes messageAt andThen listFrom questionAt questionRead recordAt recordRead nameAt fromRun readFrom pieceAt rdataAt rdataIn isDue hasCause isProbe isAsked isKnown some sameName hasRecord ownLabels ownName ownRdata serviceLabels instanceLabels hostLabels packetOf putName dataBytes dataPlaces putFields nameBytes namePlaces starts cutFrom placeOf standsAt formIn formFor
+unfolding query isReplied receiveRefusal wrongState wrongTime kept multicastsKept everyOf validSetup labelFits instanceFits utf8.isShown utf8.shownFrom utf8.mayStand utf8.behind utf8.starts utf8.following utf8.within isLetter isNameByte allNameBytes someLetter hyphensApart serviceRule serviceFits protocolFits domainFits txtFits stringsFill sameBytes messageAt andThen listFrom questionAt questionRead recordAt recordRead nameAt fromRun readFrom pieceAt rdataAt rdataIn isDue hasCause isProbe isAsked isKnown some sameName hasRecord ownLabels ownName ownRdata serviceLabels instanceLabels hostLabels packetOf putName dataBytes dataPlaces putFields nameBytes namePlaces starts cutFrom placeOf standsAt formIn formFor
 witness = record {
   known = record { accepted = refl; message = refl };
   left = refl;
   unknown = record { accepted = refl; message = refl };
   goes = refl;
+  plain = record { accepted = refl; message = refl };
+  replied = refl;
 }

@@ -53,6 +53,6 @@ pub record Exactly (s : State) (a : Arrival) (m : Message) : Type 0 where
   -- "PTR is set for a reply at now plus the draw, unless one is already set", exactly where it is due and no cause holds
   pub reply : receiveOf s a .state .progress .reply ≡ setReply (isWanted s (a .time) m Ptr) (s .progress .reply) (a .time + a .draw)
 
--- `left-out-exactly`: of every state, every packet and every call that is not refused
+-- `left-out-exactly`: of every state, every packet from port 5353 and every call that is not refused
 abbrev pub LeftOutExactly : Type 0
-LeftOutExactly = (s : State) (a : Arrival) (l : Layout) (m : Message) → Accepted s a l m → Exactly s a m
+LeftOutExactly = (s : State) (a : Arrival) (l : Layout) (m : Message) → Accepted s a l m → a .port ≡ 5353 → Exactly s a m

@@ -1,4 +1,4 @@
--- A call to which the theorem applies, so that it is not about nothing: a holder of both names is asked for its address, with the address as a known answer. Proved in
+-- Calls to which the theorems apply, so that they are not about nothing: a holder of both names is asked for its address, with the address as a known answer. Proved in
 -- proofs/Witness.antt. Assumes nothing.
 use Prim.Native.Nat.{ℕ}
 use mathlib.Core.Path.{_≡_}
@@ -17,6 +17,7 @@ use Rattle.responder.specs.Handed.{Arrival}
 use Rattle.responder.specs.Causes.{isWanted}
 use Rattle.responder.specs.declared.State.{State}
 use Rattle.causes.specs.Statement.{Accepted}
+use Rattle.causes.specs.Plain.{isReplied}
 
 abbrev pub holder : State
 holder = record {
@@ -38,9 +39,15 @@ query ttl = record {
 abbrev pub asked : ℕ → Arrival
 asked ttl = record { time = 0; port = 5353; draw = 20; packet = packetOf false (query ttl); room = 1452 }
 
--- `witness`: both calls are accepted; at half the TTL the address is known, below it goes out
+-- the same query from a plain resolver
+abbrev pub plainlyAsked : ℕ → Arrival
+plainlyAsked ttl = record { time = 0; port = 1024; draw = 20; packet = packetOf false (query ttl); room = 1452 }
+
+-- `witness`: the calls are accepted; at half the TTL the address is known, below it goes out; a plain resolver gets it all the same
 pub record Witness : Type 0 where
   pub known : Accepted holder (asked 60) (layoutOf false (query 60)) (query 60)
   pub left : isWanted holder 0 (query 60) A ≡ false
   pub unknown : Accepted holder (asked 59) (layoutOf false (query 59)) (query 59)
   pub goes : isWanted holder 0 (query 59) A ≡ true
+  pub plain : Accepted holder (plainlyAsked 60) (layoutOf false (query 60)) (query 60)
+  pub replied : isReplied holder (query 60) A ≡ true

@@ -1,7 +1,7 @@
 // A packet received, on facts alone (specification, 'A claim's life' and 'Which answers go out'): what a message does to the two claims, and which own
 // records go out for it. The crate `facts` reads a message into them, `writer` writes the packet.
 ghost use mathlib.Core.Path.{_≡_};
-ghost use Rattle.claims.specs.answers.Answers.{heardFor, heardOf, isDue, isOmitted, isWanted, wantedOf, setReply, receiveOf};
+ghost use Rattle.claims.specs.answers.Answers.{heardFor, heardOf, isDue, isOmitted, isWanted, wantedOf, setReply, receiveOf, dueOf, plainOf};
 use crate::ClaimState;
 use crate::Progress;
 use crate::When;
@@ -170,5 +170,40 @@ pub fn receive(progress: Progress, now: u64, draw: u64, f: Facts, aaaa: bool) ->
             last: now,
         },
         answers,
+    }
+}
+
+// The own records that are due, whatever is known of them or was multicast before.
+fn due(progress: Progress, f: Facts, aaaa: bool) -> Set
+    ensures { λ r. ⌜ r ≡ dueOf progress f aaaa ⌝ }
+{
+    let mut flags = [false; RECORDS];
+    let mut i = 0;
+    while i < RECORDS {
+        flags[i] = is_due(progress, f, aaaa, crate::records::record_at(i));
+        i += 1;
+    }
+    crate::records::set_of(flags)
+}
+
+// A query received at `now` from a plain resolver, by a port other than 5353: the records that are due, PTR too, go out at once by unicast, and nothing but
+// the time of the last call changes.
+pub fn plain(progress: Progress, now: u64, f: Facts, aaaa: bool) -> Received
+    ensures { λ r. ⌜ r ≡ plainOf progress now f aaaa ⌝ }
+{
+    let instance = progress.instance;
+    let host = progress.host;
+    let sent = progress.sent;
+    let reply = progress.reply;
+    Received {
+        progress: Progress {
+            instance,
+            host,
+            sent,
+            reply,
+            draw: progress.draw,
+            last: now,
+        },
+        answers: due(progress, f, aaaa),
     }
 }

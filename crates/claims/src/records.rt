@@ -5,7 +5,7 @@ ghost use mathlib.Core.Bool.{false, _&&_};
 ghost use lib.ListN.{getD};
 ghost use Rattle.claims.specs.records.Own.{indexOf, recordAt, ownType, ownClass, ownTtl, claimFor, sameClaim, present, carriesData, goesAtOnce};
 ghost use Rattle.claims.specs.records.Own.{firstOf, secondOf, has, each};
-ghost use Rattle.claims.specs.records.Sets.{noRecord, only, anyOf, atOnce, recordsOf};
+ghost use Rattle.claims.specs.records.Sets.{noRecord, only, anyOf, atOnce, withData, recordsOf};
 
 // The two claims: to the instance's name and to the host's.
 pub enum Claim {
@@ -297,6 +297,20 @@ pub fn at_once(set: Set) -> Set
     while i < RECORDS {
         let o = record_at(i);
         flags[i] = both(goes_at_once(o), is_in(o, set));
+        i += 1;
+    }
+    set_of(flags)
+}
+
+// The records of a set that carry data.
+pub fn with_data(set: Set) -> Set
+    ensures { λ r. ⌜ r ≡ withData set ⌝ }
+{
+    let mut flags = [false; RECORDS];
+    let mut i = 0;
+    while i < RECORDS {
+        let o = record_at(i);
+        flags[i] = both(carries_data(o), is_in(o, set));
         i += 1;
     }
     set_of(flags)

@@ -19,7 +19,7 @@ use Rattle.responder.specs.declared.Received.{Received}
 use Rattle.responder.specs.declared.Ticked.{Ticked}
 use Rattle.responder.specs.declared.State.{State}
 use Rattle.responder.specs.declared.Answer.{Answer}
-use Rattle.responder.specs.declared.Answer.the-variants.{Refused, Quiet, Sent}
+use Rattle.responder.specs.declared.Answer.the-variants.{Refused, Quiet, Sent, Unicast}
 use Rattle.responder.specs.declared.Started.{Started}
 use Rattle.console_text.specs.hex.Bytes.{bytesOf}
 use Rattle.console_text.specs.fields.Numbers.{fieldAt, numberAt, number16At}
@@ -97,6 +97,9 @@ module _ (line : List ℕ) (s : State) where
 
     pub start-sent : (n : ℕ) → r .answer ≡ Sent n → r .state ≡ afterStart line s
     start-sent n a = sym (begun ∙ ap (λ (x : Answer). startedOr s x (r .state)) a)
+
+    pub start-unicast : (n : ℕ) → r .answer ≡ Unicast n → r .state ≡ afterStart line s
+    start-unicast n a = sym (begun ∙ ap (λ (x : Answer). startedOr s x (r .state)) a)
 
 -- a packet received, and a tick
 module _ (line : List ℕ) (s : State) (out : List ℕ) where

@@ -10,7 +10,7 @@ use Rattle.responder.specs.Handed.{Arrival, Tick}
 use Rattle.responder.specs.Calls.{startOf, receiveOf, receivedPacket, tickOf, tickedPacket}
 use Rattle.responder.specs.declared.State.{State}
 use Rattle.responder.specs.declared.Answer.{Answer}
-use Rattle.responder.specs.declared.Answer.the-variants.{Refused, Quiet, Sent}
+use Rattle.responder.specs.declared.Answer.the-variants.{Refused, Quiet, Sent, Unicast}
 use Rattle.responder.specs.declared.Started.{Started}
 use Rattle.console_text.specs.fields.Numbers.{numberAt, number16At}
 use Rattle.console_text.specs.fields.Forms.{isWord, bytesIn}
@@ -33,6 +33,7 @@ abbrev pub startedOr : State → Answer → State → State
 startedOr s (Refused n) begun = s
 startedOr s Quiet begun = begun
 startedOr s (Sent n) begun = begun
+startedOr s (Unicast n) begun = begun
 
 abbrev pub begunOr : State → Started → State
 begunOr s r = startedOr s (r .answer) (r .state)

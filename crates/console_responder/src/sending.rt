@@ -45,6 +45,13 @@ fn lent(line: &[u8], index: usize) -> usize
     number(line, index) as usize
 }
 
+// Shows the packet that goes to where the message came from.
+fn replied(packet: &[u8], text: &mut [u8; 4096]) {
+    let used = first(text, b"unicast");
+    let used = bytes(text, used, packet);
+    finish(text, used);
+}
+
 // Shows the packet that was sent, and whether more is due.
 fn sent(packet: &[u8], more: bool, text: &mut [u8; 4096]) {
     let used = first(text, b"sent");
@@ -63,6 +70,7 @@ fn shown(answer: Answer, more: bool, out: &[u8], text: &mut [u8; 4096]) {
         Answer::Refused(n) => refused(text, n as u64),
         Answer::Quiet => only(text, b"quiet"),
         Answer::Sent(n) => sent(console_text::lines::front(out, n), more, text),
+        Answer::Unicast(n) => replied(console_text::lines::front(out, n), text),
     }
 }
 

@@ -190,5 +190,9 @@ pub fn start(line: &[u8], held: State, text: &mut [u8; 4096]) -> State
             only(text, b"started");
             started.state
         }
+        Answer::Unicast(_) => {
+            only(text, b"started");
+            started.state
+        }
     }
 }

@@ -12,11 +12,10 @@ use borrow.Author.Tests.{ne-eqb}
 use Rattle.wire.specs.message.Layout.{messageAt}
 use Rattle.own.specs.declared.records.Setup.{Setup}
 use Rattle.claims.specs.declared.Progress.{Progress}
-use Rattle.claims.specs.declared.steps.Output.the-variants.{Response}
 use Rattle.writer.specs.own_packets.Own.{unlessRefused, laidOver}
 use Rattle.responder.specs.Handed.{Arrival, Tick}
 use Rattle.responder.specs.Refusals.{startRefusal, receiveRefusal, tickRefusal}
-use Rattle.responder.specs.Calls.{refusalOf, lengthOf, answerOf, stateOf, startState, startOf, packetFor, heardOf, receivedPacket, receiveOf, Receives, walkedOf, tickedPacket, tickOf, Ticks}
+use Rattle.responder.specs.Calls.{refusalOf, lengthOf, isUnicast, Destination, multicast, unicast, answerOf, stateOf, startState, startOf, packetFor, heardOf, broughtOut, destinationOf, receivedPacket, receiveOf, Receives, walkedOf, tickedPacket, tickOf, Ticks}
 use Rattle.responder.specs.Runs.{Call, received, ticked, answerTo, stateAfter, packetOf}
 use Rattle.responder.specs.declared.State.{State}
 use Rattle.responder.specs.declared.Started.{Started}
@@ -35,7 +34,7 @@ positive n = ne-eqb (suc n) 0 (λ e. absurd (omega arith))
 
 -- ---- a start
 
-begun-as : (n : ℕ) (x : State) → begunBy (answerOf n []) x ≡ begunAs (refusalOf (answerOf n [])) x
+begun-as : (n : ℕ) (x : State) → begunBy (answerOf n multicast []) x ≡ begunAs (refusalOf (answerOf n multicast [])) x
 begun-as zero x = refl
 begun-as (suc n) x = rw (positive n) (rw (positive n) refl)
 
@@ -49,19 +48,27 @@ start-seen s time draw r e = start-as s time draw ∙ ap (λ (v : Started). begu
 -- ---- a call that may send, by its refusal n, the packet q that it would send, and the progress that it would leave
 
 shown :
-    (x : State) (out : List ℕ) (progress : Progress) (n : ℕ) (q : List ℕ)
-    → Answers (answeredBy (answerOf n (unlessRefused n q)) (stateOf n x progress) (unlessRefused n q)) x out
-    (refusalOf (answerOf n (unlessRefused n q))) (lengthOf (answerOf n (unlessRefused n q))) (stateOf n x progress) (laidOver (unlessRefused n q) out)
+    (x : State) (out : List ℕ) (to : Destination) (progress : Progress) (n : ℕ) (q : List ℕ)
+    → (let a = answerOf n to (unlessRefused n q) in
+    Answers (answeredBy a (stateOf n x progress) (unlessRefused n q)) x out (refusalOf a) (isUnicast a) (lengthOf a) (stateOf n x progress)
+    (laidOver (unlessRefused n q) out))
 unfolding returned
-shown x out progress zero [] = record { seen = refl; next = refl; kept = refl }
-shown x out progress zero (b ∷ bs) =
+shown x out to progress zero [] = record { seen = refl; next = refl; kept = refl }
+shown x out multicast progress zero (b ∷ bs) =
     let p : List ℕ = b ∷ bs in
     record {
-      seen = ap (λ (l : List ℕ). link.accepted (stateOf 0 x progress) (sends l)) (sym (take-at p (drop (length p) out) (length p) refl));
+      seen = ap (λ (l : List ℕ). link.accepted (stateOf 0 x progress) (sends multicast l)) (sym (take-at p (drop (length p) out) (length p) refl));
       next = refl;
       kept = drop-at p (drop (length p) out) (length p) refl;
     }
-shown x out progress (suc n) q = record { seen = rw (positive n) (rw (positive n) refl); next = rw (positive n) refl; kept = rw (positive n) refl }
+shown x out unicast progress zero (b ∷ bs) =
+    let p : List ℕ = b ∷ bs in
+    record {
+      seen = ap (λ (l : List ℕ). link.accepted (stateOf 0 x progress) (sends unicast l)) (sym (take-at p (drop (length p) out) (length p) refl));
+      next = refl;
+      kept = drop-at p (drop (length p) out) (length p) refl;
+    }
+shown x out to progress (suc n) q = record { seen = rw (positive n) (rw (positive n) refl); next = rw (positive n) refl; kept = rw (positive n) refl }
 
 -- the record's answer to a call
 abbrev answered : State → Call → link.Answer State
@@ -70,31 +77,33 @@ answered x (ticked t) = responder .tick x t
 
 call-as :
     (x : State) (c : Call) (out : List ℕ)
-    → Answers (answered x c) x out (refusalOf (answerTo x c)) (lengthOf (answerTo x c)) (stateAfter x c) (laidOver (packetOf x c) out)
+    → Answers (answered x c) x out (refusalOf (answerTo x c)) (isUnicast (answerTo x c)) (lengthOf (answerTo x c)) (stateAfter x c) (laidOver (packetOf x c) out)
 unfolding receive receiveOf receivedPacket tick tickOf tickedPacket
 call-as x (received a) out =
     let said = heardOf x a (messageAt (a .packet)) in
-    shown x out (said .progress) (receiveRefusal x a) (packetFor (x .setup) (Response (said .answers)))
-call-as x (ticked t) out = shown x out (walkedOf x (t .time) .progress) (tickRefusal x t) (packetFor (x .setup) (walkedOf x (t .time) .output))
+    shown x out (destinationOf a) (said .progress) (receiveRefusal x a) (broughtOut x a (said .answers) (messageAt (a .packet)))
+call-as x (ticked t) out = shown x out multicast (walkedOf x (t .time) .progress) (tickRefusal x t) (packetFor (x .setup) (walkedOf x (t .time) .output))
 
 module _ (x : State) (c : Call) (out : List ℕ) where
   call-seen :
-      (n size : ℕ) (y : State) (out′ : List ℕ) → n ≡ refusalOf (answerTo x c) → size ≡ lengthOf (answerTo x c) → y ≡ stateAfter x c
-      → out′ ≡ laidOver (packetOf x c) out → Answers (answered x c) x out n size y out′
-  call-seen n size y out′ e f g h = rw (e, f, g, h) (call-as x c out)
+      (n : ℕ) (v : Bool) (size : ℕ) (y : State) (out′ : List ℕ) → n ≡ refusalOf (answerTo x c) → v ≡ isUnicast (answerTo x c)
+      → size ≡ lengthOf (answerTo x c) → y ≡ stateAfter x c → out′ ≡ laidOver (packetOf x c) out → Answers (answered x c) x out n v size y out′
+  call-seen n v size y out′ e u f g h = rw (e, u, f, g, h) (call-as x c out)
 
 pub receive-seen :
     (x : State) (a : Arrival) (out : List ℕ) (r : Received) (out′ : List ℕ) → Receives x a out r out′
-    → Answers (receive x a) x out (refusalOf (r .answer)) (lengthOf (r .answer)) (r .state) out′
+    → Answers (receive x a) x out (refusalOf (r .answer)) (isUnicast (r .answer)) (lengthOf (r .answer)) (r .state) out′
 receive-seen x a out r out′ h =
-    call-seen x (received a) out (refusalOf (r .answer)) (lengthOf (r .answer)) (r .state) out′ (ap (λ (v : Received). refusalOf (v .answer)) (h .answers))
+    call-seen x (received a) out (refusalOf (r .answer)) (isUnicast (r .answer)) (lengthOf (r .answer)) (r .state) out′
+    (ap (λ (v : Received). refusalOf (v .answer)) (h .answers)) (ap (λ (v : Received). isUnicast (v .answer)) (h .answers))
     (ap (λ (v : Received). lengthOf (v .answer)) (h .answers)) (ap (λ (v : Received). v .state) (h .answers)) (h .writes)
 
 pub tick-seen :
     (x : State) (t : Tick) (out : List ℕ) (r : Ticked) (out′ : List ℕ) → Ticks x t out r out′
-    → Answers (tick x t) x out (refusalOf (r .answer)) (lengthOf (r .answer)) (r .state) out′
+    → Answers (tick x t) x out (refusalOf (r .answer)) (isUnicast (r .answer)) (lengthOf (r .answer)) (r .state) out′
 tick-seen x t out r out′ h =
-    call-seen x (ticked t) out (refusalOf (r .answer)) (lengthOf (r .answer)) (r .state) out′ (ap (λ (v : Ticked). refusalOf (v .answer)) (h .answers))
+    call-seen x (ticked t) out (refusalOf (r .answer)) (isUnicast (r .answer)) (lengthOf (r .answer)) (r .state) out′
+    (ap (λ (v : Ticked). refusalOf (v .answer)) (h .answers)) (ap (λ (v : Ticked). isUnicast (v .answer)) (h .answers))
     (ap (λ (v : Ticked). lengthOf (v .answer)) (h .answers)) (ap (λ (v : Ticked). v .state) (h .answers)) (h .writes)
 
 -- ---- on bytes
@@ -119,7 +128,8 @@ start-exported b setup time draw a b′ h =
 
 pub call-exported :
     (b : List ℕ) (c : Call) (out : List ℕ) (a : Called) (b′ out′ : List ℕ) → Calls b c out a b′ out′
-    → Answers (answered (decode b) c) (decode b) out (a .refusal) (a .length) (decode b′) out′
+    → Answers (answered (decode b) c) (decode b) out (a .refusal) (a .unicast) (a .length) (decode b′) out′
 call-exported b c out a b′ out′ h =
-    call-seen (decode b) c out (a .refusal) (a .length) (decode b′) out′ (ap (λ (v : Called). v .refusal) (h .answers))
+    call-seen (decode b) c out (a .refusal) (a .unicast) (a .length) (decode b′) out′ (ap (λ (v : Called). v .refusal) (h .answers))
+    (ap (λ (v : Called). v .unicast) (h .answers))
     (ap (λ (v : Called). v .length) (h .answers)) (h .says) (h .writes)

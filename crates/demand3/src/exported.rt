@@ -26,7 +26,7 @@ pub fn receive(
     ensures { λ r. ⌜ (let x = decode (now (state .entry)) in
         let room = length (now (out .entry)) in
         let a : Arrival = record { time = time; port = port; draw = draw; packet = now (packet .entry); room = room } in
-        Answers (responder .receive x a) x (now (out .entry)) (r .refusal) (r .length) (decode (now (state .exit))) (now (out .exit))) ⌝ }
+        Answers (responder .receive x a) x (now (out .entry)) (r .refusal) (r .unicast) (r .length) (decode (now (state .exit))) (now (out .exit))) ⌝ }
 {
     capi_responder::kurgashel_receive(state, time, port, draw, packet, out)
 }
@@ -34,7 +34,7 @@ pub fn receive(
 pub fn tick(state: &mut [u8], time: u64, out: &mut [u8]) -> Called
     ensures { λ r. ⌜ (let x = decode (now (state .entry)) in
         let t : Tick = record { time = time; room = length (now (out .entry)) } in
-        Answers (responder .tick x t) x (now (out .entry)) (r .refusal) (r .length) (decode (now (state .exit))) (now (out .exit))) ⌝ }
+        Answers (responder .tick x t) x (now (out .entry)) (r .refusal) (r .unicast) (r .length) (decode (now (state .exit))) (now (out .exit))) ⌝ }
 {
     capi_responder::kurgashel_tick(state, time, out)
 }

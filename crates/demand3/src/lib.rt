@@ -6,7 +6,7 @@ pub mod exported;
 ghost use mathlib.Core.Path.{_≡_};
 ghost use lib.ListN.{length};
 ghost use Rattle.responder.specs.Handed.{Arrival, Tick};
-ghost use Rattle.responder.specs.Calls.{refusalOf, lengthOf};
+ghost use Rattle.responder.specs.Calls.{refusalOf, lengthOf, isUnicast};
 ghost use Rattle.uniqueness.specs.Responder.{responder};
 ghost use Rattle.demand3.specs.Seen.{begunAs, Answers};
 use own::records::Setup;
@@ -31,14 +31,16 @@ pub fn receive(
 ) -> Received
     ensures { λ r. ⌜ (let room = length (now (out .entry)) in
         let a : Arrival = record { time = time; port = port; draw = draw; packet = now (packet .entry); room = room } in
-        Answers (responder .receive state a) state (now (out .entry)) (refusalOf (r .answer)) (lengthOf (r .answer)) (r .state) (now (out .exit))) ⌝ }
+        Answers (responder .receive state a) state (now (out .entry))
+        (refusalOf (r .answer)) (isUnicast (r .answer)) (lengthOf (r .answer)) (r .state) (now (out .exit))) ⌝ }
 {
     responder::receive(state, time, port, draw, packet, out)
 }
 
 pub fn tick(state: State, time: u64, out: &mut [u8]) -> Ticked
     ensures { λ r. ⌜ (let t : Tick = record { time = time; room = length (now (out .entry)) } in
-        Answers (responder .tick state t) state (now (out .entry)) (refusalOf (r .answer)) (lengthOf (r .answer)) (r .state) (now (out .exit))) ⌝ }
+        Answers (responder .tick state t) state (now (out .entry))
+        (refusalOf (r .answer)) (isUnicast (r .answer)) (lengthOf (r .answer)) (r .state) (now (out .exit))) ⌝ }
 {
     responder::tick(state, time, out)
 }

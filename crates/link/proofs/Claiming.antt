@@ -7,7 +7,7 @@ use native.Mathlib.Omega.{arith}
 use Rattle.link.specs.Responder.{Responder, Claim}
 use Rattle.link.specs.Entries.{Entry, clockAt, setupOf, after}
 use Rattle.link.specs.Premises.{Among}
-use Rattle.link.specs.Laws.{probeGap, Stage, probing, held, Unclaimed, timeOf, Rules, next, out, Multicasts, Move, stays, probesFirst, probesAgain, wins, hearsConflict, hearsLater, Lawful}
+use Rattle.link.specs.Laws.{probeGap, Stage, probing, held, Unclaimed, timeOf, toAll, Rules, next, out, Multicasts, Move, stays, probesFirst, probesAgain, wins, hearsConflict, hearsLater, Lawful}
 use Rattle.link.proofs.Contest.{Won, Probed}
 use Rattle.link.proofs.Lists.{clash}
 use Rattle.link.proofs.States.{Calls, Event, idle, ends, begins, moves, event}
@@ -48,7 +48,7 @@ module _ (D : Responder) (R : Rules D) (L : Lawful D R) (es : List (Entry D)) (d
     clock : timeOf D (act D R L es d n c .step) ≡ now n
     clock = act D R L es d n c .clock
 
-    probes : Among (R .probe s k) (out D R (c .state) (act D R L es d n c .step)) → Probes D es d R s k n
+    probes : Among (toAll (R .probe s k)) (out D R (c .state) (act D R L es d n c .step)) → Probes D es d R s k n
     probes h = sends D R L es d s started n c (λ m. m ≡ R .probe s k) (R .probe s k) h refl
 
     pub says : (type : ℕ) → Multicasts D R s (c .state) (act D R L es d n c .step) k type → Says D es d R s k type n

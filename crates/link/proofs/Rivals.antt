@@ -138,7 +138,7 @@ module _ (D : Responder) (R : Rules D) (L : Lawful D R) (es : List (Entry D)) (P
       → (Unclaimed (stage e j) → ⊥) → timeAt D es i + deliveryTime < timeAt D es j → Taken (timeAt D es) (λ n. Hears D es (e .at) n Q) i j
   heard d e i j Q f h s a b t =
       let w : Delivered D es (e .at) i (s .parcel .bytes) =
-      P .delivered i j (e .at) (s .parcel) (s .sent) (λ q. f .two (sym (s .whose) ∙ sym q)) (active (after D es (e .at) i) a) h
+      P .delivered i j (e .at) (s .parcel) (s .sent) (s .public) (λ q. f .two (sym (s .whose) ∙ sym q)) (active (after D es (e .at) i) a) h
       (active (after D es (e .at) j) b) t
       in
       record {

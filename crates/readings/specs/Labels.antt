@@ -18,7 +18,7 @@ use Rattle.claims.specs.declared.When.the-variants.{Never}
 use Rattle.responder.specs.declared.State.{State}
 use Rattle.responder.specs.Refusals.{wrongState, startRefusal, receiveRefusal, tickRefusal}
 use Rattle.readings.specs.Examples.{example}
-use Rattle.readings.specs.States.{lived, bare, tickAt, from}
+use Rattle.readings.specs.States.{lived, bare, bareResponse, tickAt, from}
 
 -- one character, of each form at each bound
 abbrev pub shown : List (List ℕ)
@@ -138,7 +138,7 @@ Labels =
     × (tickRefusal (holding feed) (tickAt 0 1451) ≡ 3)
     × (receiveRefusal (holding a) (from 5353 20 bare 1452) ≡ 0)
     × (receiveRefusal (holding feed) (from 5353 20 bare 1452) ≡ 7)
-    × (receiveRefusal (holding feed) (from 5354 20 bare 1452) ≡ 5)
+    × (receiveRefusal (holding feed) (from 5354 20 bareResponse 1452) ≡ 5)
     × (receiveRefusal (holding feed) (from 5353 20 [] 1452) ≡ 4)
 
 pub labels : Labels

@@ -64,6 +64,10 @@ asksA probe = record {
 abbrev pub bare : List ℕ
 bare = 0 ∷ (0 ∷ (0 ∷ (0 ∷ (0 ∷ (0 ∷ (0 ∷ (0 ∷ (0 ∷ (0 ∷ (0 ∷ (0 ∷ [])))))))))))
 
+-- a response with neither
+abbrev pub bareResponse : List ℕ
+bareResponse = 0 ∷ (0 ∷ (0x84 ∷ (0 ∷ (0 ∷ (0 ∷ (0 ∷ (0 ∷ (0 ∷ (0 ∷ (0 ∷ (0 ∷ [])))))))))))
+
 -- a tick at a time, and a packet that comes at 0 ms from a port with a draw; both with an out buffer of so many bytes
 abbrev pub tickAt : ℕ → ℕ → Tick
 tickAt time room = record { time = time; room = room }
@@ -86,7 +90,10 @@ HandedIn =
     × (tickRefusal (handed Held Never Never 251 0) (tickAt 0 1451) ≡ 3)
     × (tickRefusal (handed Held Never Never 251 1) (tickAt 0 1451) ≡ 1)
     × (receiveRefusal (handed Held Never Never 251 0) (from 5353 20 bare 1452) ≡ 7)
-    × (receiveRefusal (handed Held Never Never 251 0) (from 5354 20 bare 1452) ≡ 5)
+    × (receiveRefusal (handed Held Never Never 251 0) (from 5353 20 bareResponse 1452) ≡ 7)
+    -- a response comes from port 5353, a query from any
+    × (receiveRefusal (handed Held Never Never 251 0) (from 5354 20 bareResponse 1452) ≡ 5)
+    × (receiveRefusal (handed Held Never Never 251 0) (from 5354 20 bare 1452) ≡ 7)
     × (receiveRefusal (handed Held Never Never 251 0) (from 5354 20 [] 1452) ≡ 4)
     × (receiveRefusal (handed Held Never Never 251 0) (from 5354 121 [] 1451) ≡ 2)
     -- "time above 2^62, or before the state's last time"
@@ -106,4 +113,4 @@ HandedIn =
 
 pub handed-in : HandedIn
 unfolding example tickRefusal receiveRefusal startRefusal wrongState wrongTime kept multicastsKept validSetup labelFits instanceFits utf8.isShown utf8.shownFrom utf8.mayStand utf8.behind utf8.starts utf8.following utf8.within isLetter isNameByte allNameBytes someLetter hyphensApart serviceRule serviceFits protocolFits domainFits txtFits stringsFill sameBytes messageAt andThen listFrom receiveOf wantedOf only markedAll atOnce everyOf
-handed-in = (refl, refl, refl, refl, refl, refl, refl, refl, refl, refl, refl, refl, refl, refl, refl, refl, refl, refl, refl, refl, refl, refl, refl, refl, refl, refl)
+handed-in = (refl, refl, refl, refl, refl, refl, refl, refl, refl, refl, refl, refl, refl, refl, refl, refl, refl, refl, refl, refl, refl, refl, refl, refl, refl, refl, refl, refl)

@@ -18,7 +18,7 @@ use Rattle.responder.specs.declared.State.{State}
 
 module _ (s : State) (time : ℕ) (m : Message) where
   -- the rules of the claims, on the facts of the message
-  abbrev factsDue : Own → Bool
+  abbrev pub factsDue : Own → Bool
   factsDue o = answers.isDue (s .progress) (factsOf (s .setup) m) (s .setup .hasaaaa) o
 
   abbrev factsOmit : Own → Bool
@@ -42,7 +42,7 @@ module _ (s : State) (time : ℕ) (m : Message) where
     probe-is Instance = simp query
     probe-is Host = simp query
 
-    due-is : (o : Own) → factsDue o ≡ isDue s m o
+    pub due-is : (o : Own) → factsDue o ≡ isDue s m o
     unfolding isDue hasRecord
     due-is o = simp (response-is, asked-is o, query)
 

@@ -17,13 +17,15 @@ use Rattle.own.proofs.records.Valid.{valid, shown-label}
 use Rattle.claims.specs.Claims as claims
 use Rattle.claims.specs.Refusals.{lateStart, wrongTime, wrongStartDraw, wrongReplyDraw, kept}
 use Rattle.claims.specs.declared.Progress.{Progress}
+use Rattle.claims.specs.declared.answers.Facts.{Facts}
+use Rattle.claims.specs.answers.Answers as answers
 use Rattle.claims.proofs.Keeping.{start-kept}
 use Rattle.claims.proofs.steps.Ticks.{tick-kept, tick-draw}
-use Rattle.claims.proofs.answers.Receives.{receive-kept, receive-draw}
+use Rattle.claims.proofs.answers.Receives.{receive-kept, receive-draw, plain-kept, plain-draw}
 use Rattle.facts.specs.Facts.{factsOf}
 use Rattle.responder.specs.Handed.{Arrival, Tick}
 use Rattle.responder.specs.Refusals.{smallBuffer, wrongState, startRefusal, receiveRefusal, tickRefusal}
-use Rattle.responder.specs.Calls.{startOf, heardOf, receiveOf, tickOf}
+use Rattle.responder.specs.Calls.{startOf, fromMdns, heardOf, receiveOf, tickOf}
 use Rattle.responder.specs.Runs.{Call, received, ticked, refusalOfCall, stateAfter, run}
 use Rattle.responder.specs.declared.State.{State}
 use Rattle.responder.proofs.Refusals.{StartAccepted, ReceiveAccepted, TickAccepted, start-accepted, receive-accepted, tick-accepted, refused-keeps}
@@ -68,7 +70,7 @@ pub sound-never-7 : (s : State) (c : Call) → Sound s → refusalOfCall s c ≡
 unfolding receiveRefusal tickRefusal
 sound-never-7 s (received a) h e =
     never-7 (wrongTime (s .progress) (a .time)) (wrongReplyDraw (a .draw)) (smallBuffer (a .room)) (wrongLength (a .packet))
-    (wrongHeader (a .packet) || wrongPort (a .port)) (isMalformed (a .packet)) (rw (h .right) at e)
+    (wrongHeader (a .packet) || wrongPort (a .port) (a .packet)) (isMalformed (a .packet)) (rw (h .right) at e)
 sound-never-7 s (ticked t) h e = never-7 (wrongTime (s .progress) (t .time)) false (smallBuffer (t .room)) false false false (rw (h .right) at e)
 
 -- the instance label of a state that keeps the rules, as that of every accepted call does before and after it, is one that a screen can show
@@ -121,11 +123,30 @@ module _ (most : ℕ) (l : 4611686018427388904 ≤ most) where
       → kept most (s .progress) ≡ true
       → wrongState s ≡ false
       → Within most (record { setup = s .setup; progress = heardOf s a x .progress })
-  heard-within s a (read _ m) n d k w =
-      record {
-        times = receive-kept (a .time) (a .draw) (factsOf (s .setup) m) (s .setup .hasaaaa) most n d l (s .progress) (small-draw s w) k;
-        right = same-right s _ (receive-draw (a .time) (a .draw) (factsOf (s .setup) m) (s .setup .hasaaaa) (s .progress)) w;
-      }
+  heard-within s a (read _ m) n d k w = go (fromMdns a)
+    where
+      f : Facts
+      f = factsOf (s .setup) m
+
+      aaaa : Bool
+      aaaa = s .setup .hasaaaa
+
+      go :
+          (b : Bool)
+          → Within most (record {
+            setup = s .setup;
+            progress = cond b (answers.receiveOf (s .progress) (a .time) (a .draw) f aaaa) (answers.plainOf (s .progress) (a .time) f aaaa) .progress;
+          })
+      go true =
+          record {
+            times = receive-kept (a .time) (a .draw) f aaaa most n d l (s .progress) (small-draw s w) k;
+            right = same-right s _ (receive-draw (a .time) (a .draw) f aaaa (s .progress)) w;
+          }
+      go false =
+          record {
+            times = plain-kept (a .time) f aaaa most n l (s .progress) k;
+            right = same-right s _ (plain-draw (a .time) f aaaa (s .progress)) w;
+          }
   heard-within s a (refused _) n d k w = record { times = k; right = w }
 
   pub receive-within : (s : State) (a : Arrival) → receiveRefusal s a ≡ 0 → kept most (s .progress) ≡ true → Within most (receiveOf s a .state)

@@ -17,8 +17,8 @@ use Rattle.claims.specs.Refusals.{lateStart, wrongTime, wrongStartDraw, wrongRe
 use Rattle.writer.specs.own_packets.Own.{unlessRefused}
 use Rattle.responder.specs.Handed.{Arrival, Tick}
 use Rattle.responder.specs.Refusals.{smallBuffer, wrongState, startRefusal, receiveRefusal, tickRefusal}
-use Rattle.responder.specs.Calls.{refusalOf, lengthOf, answerOf, parcels, blank, startOf, receivedPacket, receiveOf, tickedPacket, tickOf}
-use Rattle.responder.specs.Runs.{Call, received, ticked, refusalOfCall, answerTo, stateAfter, packetOf, sentBy}
+use Rattle.responder.specs.Calls.{refusalOf, lengthOf, Destination, multicast, unicast, answerOf, parcels, blank, startOf, receivedPacket, destinationOf, receiveOf, tickedPacket, tickOf}
+use Rattle.responder.specs.Runs.{Call, received, ticked, refusalOfCall, answerTo, stateAfter, packetOf, goesTo, sentBy}
 use Rattle.responder.specs.declared.State.{State}
 
 clash : {A : Type 0} → _≡_ {A = ℕ} 0 1 → A
@@ -69,7 +69,7 @@ pub in-order : (s : State) (a : Arrival)
 unfolding receiveRefusal messageRefusal
 in-order s a =
     ap (λ (n : ℕ). cond (wrongTime (s .progress) (a .time)) 1 (cond (wrongReplyDraw (a .draw)) 2 (cond (smallBuffer (a .room)) 3 n)))
-    (go (wrongLength (a .packet)) (wrongHeader (a .packet) || wrongPort (a .port)) (isMalformed (a .packet)) (cond (wrongState s) 7 0))
+    (go (wrongLength (a .packet)) (wrongHeader (a .packet) || wrongPort (a .port) (a .packet)) (isMalformed (a .packet)) (cond (wrongState s) 7 0))
   where
     go : (l h m : Bool) (n : ℕ)
         → cond l 4 (cond h 5 (cond m 6 n)) ≡ cond (eqb (cond l 4 (cond h 5 (cond m 6 0))) 0) n (cond l 4 (cond h 5 (cond m 6 0)))
@@ -105,29 +105,31 @@ tick-accepted s t h =
 
 -- ---- the answer carries the number of the refusal, and the length of the packet
 
-number-of : (n : ℕ) (packet : List ℕ) → refusalOf (answerOf n packet) ≡ n
-number-of zero [] = refl
-number-of zero (b ∷ bs) = refl
-number-of (suc n) packet = simp (positive n)
+number-of : (n : ℕ) (to : Destination) (packet : List ℕ) → refusalOf (answerOf n to packet) ≡ n
+number-of zero to [] = refl
+number-of zero multicast (b ∷ bs) = refl
+number-of zero unicast (b ∷ bs) = refl
+number-of (suc n) to packet = simp (positive n)
 
-length-of : (n : ℕ) (packet : List ℕ) → lengthOf (answerOf n (unlessRefused n packet)) ≡ length (unlessRefused n packet)
-length-of zero [] = refl
-length-of zero (b ∷ bs) = refl
-length-of (suc n) packet = simp (positive n)
+length-of : (n : ℕ) (to : Destination) (packet : List ℕ) → lengthOf (answerOf n to (unlessRefused n packet)) ≡ length (unlessRefused n packet)
+length-of zero to [] = refl
+length-of zero multicast (b ∷ bs) = refl
+length-of zero unicast (b ∷ bs) = refl
+length-of (suc n) to packet = simp (positive n)
 
 pub start-number : (setup : Setup) (time draw : ℕ) → refusalOf (startOf setup time draw .answer) ≡ startRefusal setup time draw
 unfolding startOf
-start-number setup time draw = number-of (startRefusal setup time draw) []
+start-number setup time draw = number-of (startRefusal setup time draw) multicast []
 
 pub call-number : (s : State) (c : Call) → refusalOf (answerTo s c) ≡ refusalOfCall s c
 unfolding receiveOf tickOf
-call-number s (received a) = number-of (receiveRefusal s a) (receivedPacket s a)
-call-number s (ticked t) = number-of (tickRefusal s t) (tickedPacket s t)
+call-number s (received a) = number-of (receiveRefusal s a) (destinationOf a) (receivedPacket s a)
+call-number s (ticked t) = number-of (tickRefusal s t) multicast (tickedPacket s t)
 
 pub call-length : (s : State) (c : Call) → lengthOf (answerTo s c) ≡ length (packetOf s c)
 unfolding receiveOf receivedPacket tickOf tickedPacket
-call-length s (received a) = length-of (receiveRefusal s a) _
-call-length s (ticked t) = length-of (tickRefusal s t) _
+call-length s (received a) = length-of (receiveRefusal s a) (destinationOf a) _
+call-length s (ticked t) = length-of (tickRefusal s t) multicast _
 
 -- ---- "state, table, store and out buffer keep every byte": an empty packet is laid over nothing
 
@@ -141,7 +143,7 @@ refused-keeps s (ticked t) h = (simp h, simp h)
 pub at-most-one-packet : (s : State) (c : Call) → length (sentBy s c) ≤ 1
 at-most-one-packet s c = go (packetOf s c)
   where
-    go : (packet : List ℕ) → length (parcels packet) ≤ 1
+    go : (packet : List ℕ) → length (parcels (goesTo c) packet) ≤ 1
     go [] = omega arith
     go (b ∷ bs) = omega arith
 

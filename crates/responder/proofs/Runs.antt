@@ -19,15 +19,17 @@ use Rattle.claims.specs.declared.records.Claim.{Claim}
 use Rattle.claims.specs.declared.records.Claim.the-variants.{Instance, Host}
 use Rattle.claims.specs.declared.Progress.{Progress}
 use Rattle.claims.specs.steps.Tick.{probesFor}
+use Rattle.claims.specs.answers.Answers as answers
+use Rattle.claims.specs.declared.answers.Facts.{Facts}
 use Rattle.claims.proofs.Times.{after-exact}
 use Rattle.claims.proofs.Clear.{Clear, clear-later}
 use Rattle.claims.proofs.steps.Ticks.{tick-last, tick-lost}
 use Rattle.claims.proofs.steps.Spacing.{tick-paced, clearFrom, Paced}
-use Rattle.claims.proofs.answers.Receives.{receive-last, receive-lost, receive-clear}
+use Rattle.claims.proofs.answers.Receives.{receive-last, receive-lost, receive-clear, plain-claim, plain-last}
 use Rattle.facts.specs.Facts.{factsOf}
 use Rattle.responder.specs.Handed.{Arrival, Tick}
 use Rattle.responder.specs.Refusals.{wrongState, startRefusal, receiveRefusal, tickRefusal}
-use Rattle.responder.specs.Calls.{startOf, heardOf, receiveOf, walkedOf, tickOf}
+use Rattle.responder.specs.Calls.{startOf, fromMdns, heardOf, receiveOf, walkedOf, tickOf}
 use Rattle.responder.specs.Runs.{Call, received, ticked, refusalOfCall, stateAfter, run, timeOf, sendsProbe, probeTimes, Spaced, none, next}
 use Rattle.responder.specs.declared.State.{State}
 use Rattle.responder.proofs.Refusals.{StartAccepted, ReceiveAccepted, TickAccepted, start-accepted, receive-accepted, tick-accepted, refused-keeps}
@@ -77,7 +79,18 @@ pub run-lost : (k : Claim) (s : State) (cs : List Call) → claimOf k (s .progre
 run-lost k s cs q = run-keeps (λ x. claimOf k (x .progress) ≡ Lost) keep s cs q
   where
     heard : (x : State) (a : Arrival) (m : Reads) → claimOf k (x .progress) ≡ Lost → claimOf k (heardOf x a m .progress) ≡ Lost
-    heard x a (read l m) e = receive-lost (a .time) (a .draw) (factsOf (x .setup) m) (x .setup .hasaaaa) k (x .progress) e
+    heard x a (read l m) e = go (fromMdns a)
+      where
+        f : Facts
+        f = factsOf (x .setup) m
+
+        aaaa : Bool
+        aaaa = x .setup .hasaaaa
+
+        go : (b : Bool)
+            → claimOf k (cond b (answers.receiveOf (x .progress) (a .time) (a .draw) f aaaa) (answers.plainOf (x .progress) (a .time) f aaaa) .progress) ≡ Lost
+        go true = receive-lost (a .time) (a .draw) f aaaa k (x .progress) e
+        go false = plain-claim (a .time) f aaaa k (x .progress) ∙ e
     heard x a (refused n) e = e
 
     keep : (x : State) (c : Call) → refusalOfCall x c ≡ 0 → claimOf k (x .progress) ≡ Lost → claimOf k (stateAfter x c .progress) ≡ Lost
@@ -100,15 +113,31 @@ module _ (k : Claim) where
 
   heard-ready : (from : ℕ) (s : State) (a : Arrival) (x : Reads) → ReceiveAccepted s a → Ready from (s .progress) → Ready from (heardOf s a x .progress)
   heard-ready from s a (refused n) p q = q
-  heard-ready from s a (read l m) p q =
-      let t = timely (s .progress) (a .time) (p .time) in
-      let f = factsOf (s .setup) m in
-      let e = receive-last (a .time) (a .draw) f (s .setup .hasaaaa) (s .progress) in (
-        rw e
-            (receive-clear (a .time) (a .draw) f (s .setup .hasaaaa) from (t .0) (omega (arith, q .1, t .1)) k (s .progress) (small-draw s (p .right))
-            (clear-later from (a .time) (s .progress .last) (t .1) (claimOf k (s .progress)) (q .0))),
-        rw e (omega (arith, q .1, t .1)),
-      )
+  heard-ready from s a (read l m) p q = go (fromMdns a)
+    where
+      f : Facts
+      f = factsOf (s .setup) m
+
+      aaaa : Bool
+      aaaa = s .setup .hasaaaa
+
+      t : (a .time ≤ lastTime) × (s .progress .last ≤ a .time)
+      t = timely (s .progress) (a .time) (p .time)
+
+      clear : Clear from (a .time) (claimOf k (s .progress))
+      clear = clear-later from (a .time) (s .progress .last) (t .1) (claimOf k (s .progress)) (q .0)
+
+      soon : from ≤ a .time + 250
+      soon = omega (arith, q .1, t .1)
+
+      go : (b : Bool)
+          → Ready from (cond b (answers.receiveOf (s .progress) (a .time) (a .draw) f aaaa) (answers.plainOf (s .progress) (a .time) f aaaa) .progress)
+      go true =
+          let e = receive-last (a .time) (a .draw) f aaaa (s .progress) in (
+            rw e (receive-clear (a .time) (a .draw) f aaaa from (t .0) (omega (arith, soon)) k (s .progress) (small-draw s (p .right)) clear),
+            rw e soon,
+          )
+      go false = let e = plain-last (a .time) f aaaa (s .progress) in (rw (e, plain-claim (a .time) f aaaa k (s .progress)) clear, rw e soon)
 
   within : (b : Bool) (from time : ℕ) → from ≤ time + 250 → clearFrom b from time ≤ time + 250
   within true from time e = omega arith

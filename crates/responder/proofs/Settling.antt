@@ -1,13 +1,15 @@
 -- From the refusal of a call, or from none, to its answer, its state and its buffer. Assumes nothing.
 use Prim.Native.Nat.{ℕ}
 use mathlib.Core.Path.{_≡_, ap, _∙_}
-use mathlib.Core.Bool.{false}
+use mathlib.Core.Bool.{true, false}
 use mathlib.Core.List.{List}
-use borrow.Author.Tests.{ne-eqb}
+use borrow.Author.Tests.{eq-eqb, ne-eqb}
 use lib.Dec.{eqb}
 use Rattle.wire.specs.message.Message.{Message}
 use Rattle.wire.specs.message.Layout.{read, messageAt}
+use Rattle.wire.specs.message.Readable.{messageIn}
 use Rattle.wire.specs.declared.message.Layout.{Layout}
+use Rattle.wire.proofs.message.Walk.{layout-shows}
 use Rattle.own.specs.declared.records.Setup.{Setup}
 use Rattle.claims.specs.Claims as claims
 use Rattle.claims.specs.declared.Progress.{Progress}
@@ -20,7 +22,7 @@ use Rattle.facts.specs.Facts.{factsOf}
 use Rattle.writer.specs.own_packets.Own.{laidOver}
 use Rattle.responder.specs.Handed.{Arrival, Tick}
 use Rattle.responder.specs.Refusals.{startRefusal, receiveRefusal, tickRefusal}
-use Rattle.responder.specs.Calls.{refusalOf, lengthOf, blank, startOf, heardOf, receivedPacket, receiveOf, Receives}
+use Rattle.responder.specs.Calls.{refusalOf, lengthOf, unicast, blank, startOf, packetFor, fromMdns, heardOf, plainFor, broughtOut, receivedPacket, receiveOf, Receives}
 use Rattle.responder.specs.Calls.{walkedOf, tickedPacket, tickOf, Ticks}
 use Rattle.responder.specs.Runs.{received, ticked}
 use Rattle.responder.specs.declared.State.{State}
@@ -30,7 +32,7 @@ use Rattle.responder.specs.declared.Started.{Started}
 use Rattle.responder.specs.declared.Received.{Received}
 use Rattle.responder.specs.declared.Ticked.{Ticked}
 use Rattle.responder.proofs.Refusals.{start-number, call-number, call-length}
-use Rattle.responder.proofs.Sending.{Sends}
+use Rattle.responder.proofs.Sending.{Wrote, Sends}
 
 -- ---- a start
 
@@ -68,12 +70,17 @@ module _ (s : State) (a : Arrival) (out : List ℕ) where
   receive-refused n h = let z : eqb n 0 ≡ false = ne-eqb n 0 (h .1) in received-numbered _ _ (simp (h .0, z)) (simp (h .0, z))
 
   -- what the message says is what was read of it
-  heard-is : {l : Layout} {m : Message} (f : Facts) (h : heard.Received) → messageAt (a .packet) ≡ read l m → f ≡ factsOf (s .setup) m
+  heard-is : {l : Layout} {m : Message} (f : Facts) (h : heard.Received) → fromMdns a ≡ true → messageAt (a .packet) ≡ read l m → f ≡ factsOf (s .setup) m
       → h ≡ answers.receiveOf (s .progress) (a .time) (a .draw) f (s .setup .hasaaaa) → heardOf s a (messageAt (a .packet)) ≡ h
-  heard-is f h was is e = simp (was, e, is)
+  heard-is f h from was is e = simp (was, from, e, is)
+
+  asked-is : {l : Layout} {m : Message} (f : Facts) (h : heard.Received) → fromMdns a ≡ false → messageAt (a .packet) ≡ read l m → f ≡ factsOf (s .setup) m
+      → h ≡ answers.plainOf (s .progress) (a .time) f (s .setup .hasaaaa) → heardOf s a (messageAt (a .packet)) ≡ h
+  asked-is f h from was is e = simp (was, from, e, is)
 
   pub receives :
       {l : Layout} {m : Message} (f : Facts) (h : heard.Received) (r : Answer) (o : List ℕ)
+      → a .port ≡ 5353
       → receiveRefusal s a ≡ 0
       → messageAt (a .packet) ≡ read l m
       → f ≡ factsOf (s .setup) m
@@ -81,9 +88,29 @@ module _ (s : State) (a : Arrival) (out : List ℕ) where
       → Sends (s .setup) (Response (h .answers)) out r o
       → Receives s a out (record { answer = r; state = record { setup = s .setup; progress = h .progress } }) o
   unfolding receiveOf receivedPacket
-  receives f h r o z was is e w =
-      let d : heardOf s a (messageAt (a .packet)) ≡ h = heard-is f h was is e in
-      received-numbered _ _ (simp (z, d, w .0)) (simp (z, d, w .1))
+  receives f h r o port z was is e w =
+      let from : fromMdns a ≡ true = eq-eqb (a .port) 5353 port in
+      let d : heardOf s a (messageAt (a .packet)) ≡ h = heard-is f h from was is e in
+      let out-is : broughtOut s a (h .answers) (messageAt (a .packet)) ≡ packetFor (s .setup) (Response (h .answers)) = simp (was, from) in
+      received-numbered _ _ (simp (z, d, out-is, from, w .0)) (simp (z, d, out-is, w .1))
+
+  -- a query from a plain resolver
+  pub replies :
+      {l : Layout} {m : Message} (f : Facts) (h : heard.Received) (r : Answer) (o : List ℕ)
+      → (a .port ≡ 5353 → ⊥)
+      → receiveRefusal s a ≡ 0
+      → messageAt (a .packet) ≡ read l m
+      → f ≡ factsOf (s .setup) m
+      → h ≡ answers.plainOf (s .progress) (a .time) f (s .setup .hasaaaa)
+      → Wrote unicast (plainFor (s .setup) (h .answers) (messageIn (a .packet) l .id) (messageIn (a .packet) l .questions)) out r o
+      → Receives s a out (record { answer = r; state = record { setup = s .setup; progress = h .progress } }) o
+  unfolding receiveOf receivedPacket
+  replies {l = l} {m = m} f h r o port z was is e w =
+      let from : fromMdns a ≡ false = ne-eqb (a .port) 5353 port in
+      let d : heardOf s a (messageAt (a .packet)) ≡ h = asked-is f h from was is e in
+      let out-is : broughtOut s a (h .answers) (messageAt (a .packet)) ≡ plainFor (s .setup) (h .answers) (messageIn (a .packet) l .id) (messageIn (a .packet) l .questions) =
+      rw (layout-shows (a .packet) l m was) (simp (was, from)) in
+      received-numbered _ _ (simp (z, d, out-is, from, w .0)) (simp (z, d, out-is, w .1))
 
 -- ---- a tick
 

@@ -1,11 +1,12 @@
 -- A start, a packet received and a tick (specification, 'Refusal numbers', 'A claim's life', 'Which answers go out'): the answer, the state after the call and
 -- the packet that it sends, put together from what the parts below say. Assumes nothing: these are definitions.
 use Prim.Native.Nat.{ℕ}
-use mathlib.Core.Bool.{false, cond}
+use mathlib.Core.Bool.{Bool, true, false, cond}
 use mathlib.Core.List.{List, [], _∷_}
 use lib.ListN.{length, replicate}
 use lib.Dec.{eqb}
 use mathlib.Core.Path.{_≡_}
+use Rattle.wire.specs.message.Message.{Question}
 use Rattle.wire.specs.message.Layout.{Reads, read, refused, messageAt}
 use Rattle.own.specs.declared.records.Setup.{Setup}
 use Rattle.claims.specs.Claims as claims
@@ -13,6 +14,7 @@ use Rattle.claims.specs.declared.ClaimState.the-variants.{Lost}
 use Rattle.claims.specs.declared.When.the-variants.{Never}
 use Rattle.claims.specs.Time.{neverSent}
 use Rattle.claims.specs.records.Sets.{noRecord}
+use Rattle.claims.specs.declared.records.Set.{Set}
 use Rattle.claims.specs.declared.Progress.{Progress}
 use Rattle.claims.specs.steps.Tick as steps
 use Rattle.claims.specs.declared.steps.Output.{Output}
@@ -21,14 +23,14 @@ use Rattle.claims.specs.declared.steps.Ticked as walked
 use Rattle.claims.specs.answers.Answers as answers
 use Rattle.claims.specs.declared.answers.Received as heard
 use Rattle.facts.specs.Facts.{factsOf}
-use Rattle.writer.specs.own_packets.Own.{responsePacket, probePacket, unlessRefused, laidOver}
+use Rattle.writer.specs.own_packets.Own.{responsePacket, probePacket, plainPacket, unlessRefused, laidOver}
 use Rattle.writer.specs.declared.own_packets.Written.{Written}
 use Rattle.writer.specs.declared.own_packets.Written.the-variants as written
 use Rattle.responder.specs.Handed.{Arrival, Tick}
 use Rattle.responder.specs.Refusals.{startRefusal, receiveRefusal, tickRefusal}
 use Rattle.responder.specs.declared.State.{State}
 use Rattle.responder.specs.declared.Answer.{Answer}
-use Rattle.responder.specs.declared.Answer.the-variants.{Refused, Quiet, Sent}
+use Rattle.responder.specs.declared.Answer.the-variants.{Refused, Quiet, Sent, Unicast}
 use Rattle.responder.specs.declared.Started.{Started}
 use Rattle.responder.specs.declared.Received.{Received}
 use Rattle.responder.specs.declared.Ticked.{Ticked}
@@ -38,30 +40,48 @@ abbrev pub refusalOf : Answer → ℕ
 refusalOf (Refused n) = n
 refusalOf Quiet = 0
 refusalOf (Sent n) = 0
+refusalOf (Unicast n) = 0
 
 abbrev pub lengthOf : Answer → ℕ
 lengthOf (Refused n) = 0
 lengthOf Quiet = 0
 lengthOf (Sent n) = n
+lengthOf (Unicast n) = n
+
+abbrev pub isUnicast : Answer → Bool
+isUnicast (Refused n) = false
+isUnicast Quiet = false
+isUnicast (Sent n) = false
+isUnicast (Unicast n) = true
+
+-- where a packet goes: to all on the link, or to where the message came from that it answers
+pub data Destination : Type 0 where
+  multicast : Destination
+  unicast : Destination
+
+-- the answer for a packet of this length
+abbrev pub sentTo : Destination → ℕ → Answer
+sentTo multicast n = Sent n
+sentTo unicast n = Unicast n
 
 -- the answer for a packet that is sent, where an empty one is none
-abbrev pub sentOr : List ℕ → Answer
-sentOr [] = Quiet
-sentOr (b ∷ bs) = Sent (length (b ∷ bs))
+abbrev pub sentOr : Destination → List ℕ → Answer
+sentOr to [] = Quiet
+sentOr to (b ∷ bs) = sentTo to (length (b ∷ bs))
 
 -- "A refusal returns the number alone"
-abbrev pub answerOf : ℕ → List ℕ → Answer
-answerOf refusal packet = cond (eqb refusal 0) (sentOr packet) (Refused refusal)
+abbrev pub answerOf : ℕ → Destination → List ℕ → Answer
+answerOf refusal to packet = cond (eqb refusal 0) (sentOr to packet) (Refused refusal)
 
 -- ".. state .. keep every byte"
 abbrev pub stateOf : ℕ → State → Progress → State
 stateOf refusal s progress = cond (eqb refusal 0) (record { setup = s .setup; progress = progress }) s
 
 -- the answer for what a packet's writer answers
-abbrev pub answerFor : Written → Answer
-answerFor (written.Sent n) = Sent n
-answerFor written.Nothing = Quiet
-answerFor (written.Refused n) = Refused n
+abbrev pub answerFor : Destination → Written → Answer
+answerFor to (written.Sent n) = sentTo to n
+answerFor to written.Nothing = Quiet
+answerFor to (written.Refused n) = Refused n
 
 -- ---- a start
 
@@ -95,7 +115,7 @@ startState refusal setup time draw = cond (eqb refusal 0) (record { setup = setu
 
 unfoldable pub startOf : Setup → ℕ → ℕ → Started
 startOf setup time draw = record {
-  answer = answerOf (startRefusal setup time draw) [];
+  answer = answerOf (startRefusal setup time draw) multicast [];
   state = startState (startRefusal setup time draw) setup time draw;
 }
 
@@ -106,33 +126,50 @@ packetFor setup Nothing = []
 packetFor setup (Probe k) = probePacket setup k
 packetFor setup (Response set) = responsePacket setup set
 
--- where a packet goes: to all on the link
-pub data Destination : Type 0 where
-  multicast : Destination
-
 pub record Parcel : Type 0 where
   pub to : Destination
   pub bytes : List ℕ
 
 -- what is sent of a packet, where an empty one is none
-abbrev pub parcels : List ℕ → List Parcel
-parcels [] = []
-parcels (b ∷ bs) = record { to = multicast; bytes = b ∷ bs } ∷ []
+abbrev pub parcels : Destination → List ℕ → List Parcel
+parcels to [] = []
+parcels to (b ∷ bs) = record { to = to; bytes = b ∷ bs } ∷ []
 
 -- ---- a packet received
 
+-- the message came from port 5353; only a query comes from another, from a plain resolver
+abbrev pub fromMdns : Arrival → Bool
+fromMdns a = eqb (a .port) 5353
+
 -- What a message does to a state: the progress after it, and the records that go out at once. A message that is refused says nothing.
 abbrev pub heardOf : State → Arrival → Reads → heard.Received
-heardOf s a (read l m) = answers.receiveOf (s .progress) (a .time) (a .draw) (factsOf (s .setup) m) (s .setup .hasaaaa)
+heardOf s a (read l m) =
+    cond (fromMdns a) (answers.receiveOf (s .progress) (a .time) (a .draw) (factsOf (s .setup) m) (s .setup .hasaaaa))
+    (answers.plainOf (s .progress) (a .time) (factsOf (s .setup) m) (s .setup .hasaaaa))
 heardOf s a (refused n) = record { progress = s .progress; answers = noRecord }
 
--- "SRV, TXT, A, AAAA go out at once in one packet."
+-- "Only a query of exactly one question is answered": the reply to a plain resolver, "its ID and question bytes repeated"
+abbrev pub plainFor : Setup → Set → ℕ → List Question → List ℕ
+plainFor setup set id [] = []
+plainFor setup set id (q ∷ []) = plainPacket setup set id q
+plainFor setup set id (q ∷ (r ∷ rs)) = []
+
+-- The packet that a message brings out with a set of records: "SRV, TXT, A, AAAA go out at once in one packet", or the reply to a plain resolver.
+abbrev pub broughtOut : State → Arrival → Set → Reads → List ℕ
+broughtOut s a set (read l m) = cond (fromMdns a) (packetFor (s .setup) (Response set)) (plainFor (s .setup) set (m .id) (m .questions))
+broughtOut s a set (refused n) = []
+
 unfoldable pub receivedPacket : State → Arrival → List ℕ
-receivedPacket s a = unlessRefused (receiveRefusal s a) (packetFor (s .setup) (Response (heardOf s a (messageAt (a .packet)) .answers)))
+receivedPacket s a =
+    unlessRefused (receiveRefusal s a) (broughtOut s a (heardOf s a (messageAt (a .packet)) .answers) (messageAt (a .packet)))
+
+-- to a plain resolver "by unicast to its address and port"
+abbrev pub destinationOf : Arrival → Destination
+destinationOf a = cond (fromMdns a) multicast unicast
 
 unfoldable pub receiveOf : State → Arrival → Received
 receiveOf s a = record {
-  answer = answerOf (receiveRefusal s a) (receivedPacket s a);
+  answer = answerOf (receiveRefusal s a) (destinationOf a) (receivedPacket s a);
   state = stateOf (receiveRefusal s a) s (heardOf s a (messageAt (a .packet)) .progress);
 }
 
@@ -156,7 +193,7 @@ tickedPacket s t = unlessRefused (tickRefusal s t) (packetFor (s .setup) (walked
 -- "It says whether more is due."
 unfoldable pub tickOf : State → Tick → Ticked
 tickOf s t = record {
-  answer = answerOf (tickRefusal s t) (tickedPacket s t);
+  answer = answerOf (tickRefusal s t) multicast (tickedPacket s t);
   more = cond (eqb (tickRefusal s t) 0) (walkedOf s (t .time) .more) false;
   state = stateOf (tickRefusal s t) s (walkedOf s (t .time) .progress);
 }

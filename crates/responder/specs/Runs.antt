@@ -8,7 +8,7 @@ use Rattle.claims.specs.declared.records.Claim.{Claim}
 use Rattle.claims.specs.steps.Tick.{probesFor}
 use Rattle.responder.specs.Handed.{Arrival, Tick}
 use Rattle.responder.specs.Refusals.{receiveRefusal, tickRefusal}
-use Rattle.responder.specs.Calls.{receivedPacket, receiveOf, walkedOf, tickedPacket, tickOf, Parcel, parcels}
+use Rattle.responder.specs.Calls.{receivedPacket, destinationOf, receiveOf, walkedOf, tickedPacket, tickOf, Destination, multicast, Parcel, parcels}
 use Rattle.responder.specs.declared.State.{State}
 use Rattle.responder.specs.declared.Answer.{Answer}
 
@@ -39,9 +39,14 @@ abbrev pub packetOf : State → Call → List ℕ
 packetOf s (received a) = receivedPacket s a
 packetOf s (ticked t) = tickedPacket s t
 
+-- and where it goes
+abbrev pub goesTo : Call → Destination
+goesTo (received a) = destinationOf a
+goesTo (ticked t) = multicast
+
 -- what a call sends
 abbrev pub sentBy : State → Call → List Parcel
-sentBy s c = parcels (packetOf s c)
+sentBy s c = parcels (goesTo c) (packetOf s c)
 
 -- the state after a list of calls
 abbrev pub run : State → List Call → State

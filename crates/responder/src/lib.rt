@@ -2,20 +2,26 @@
 // A call tests its refusals in the specification's order, has the parts below read, judge and write, and answers with the state after it.
 ghost use mathlib.Core.Path.{_≡_};
 ghost use lib.ListN.{length};
-ghost use Rattle.wire.specs.message.Layout.{readOf};
+ghost use Rattle.wire.specs.message.Message.{Message};
+ghost use Rattle.wire.specs.message.Layout.{read, messageAt, readOf};
+ghost use Rattle.wire.specs.message.Readable.{messageIn};
 ghost use Rattle.writer.specs.own_packets.Own.{refusal, laidOver};
 ghost use Rattle.responder.specs.Handed.{Arrival, Tick};
 ghost use Rattle.responder.specs.Refusals.{wrongState, startRefusal, tickRefusal, admitted};
-ghost use Rattle.responder.specs.Calls.{refusalOf, blank, answerFor, sentOr, packetFor, startOf, Receives, Ticks};
+ghost use Rattle.responder.specs.Calls.{refusalOf, multicast, unicast, blank, answerFor, sentOr, packetFor, plainFor, startOf, Receives, Ticks};
 use claims::ClaimState;
 use claims::Progress;
 use claims::When;
+use claims::records::Set;
 use claims::steps::Output;
 use own::records::Label;
 use own::records::Service;
 use own::records::Setup;
 use own::records::Strings;
+use wire::message::Layout;
+use wire::message::MDNS_PORT;
 use wire::message::MessageRead;
+use wire::message::QuestionRead;
 use writer::own_packets::LEAST_OUT;
 use writer::own_packets::Written;
 
@@ -25,11 +31,13 @@ pub struct State {
     pub progress: Progress,
 }
 
-// What a call answers: the number of its refusal, that it sends nothing, or the length of the packet that it wrote.
+// What a call answers: the number of its refusal, that it sends nothing, or the length of the packet that it wrote: to all on the link, or to where the
+// message came from that it answers.
 pub enum Answer {
     Refused(u8),
     Quiet,
     Sent(usize),
+    Unicast(usize),
 }
 
 pub struct Started {
@@ -139,7 +147,7 @@ fn state_refused(state: State) -> bool
 }
 
 fn answer_for(w: Written) -> Answer
-    ensures { λ r. ⌜ r ≡ answerFor w ⌝ }
+    ensures { λ r. ⌜ r ≡ answerFor multicast w ⌝ }
 {
     match w {
         Written::Sent(n) => Answer::Sent(n),
@@ -148,10 +156,20 @@ fn answer_for(w: Written) -> Answer
     }
 }
 
+fn unicast_for(w: Written) -> Answer
+    ensures { λ r. ⌜ r ≡ answerFor unicast w ⌝ }
+{
+    match w {
+        Written::Sent(n) => Answer::Unicast(n),
+        Written::Nothing => Answer::Quiet,
+        Written::Refused(n) => Answer::Refused(n),
+    }
+}
+
 // Writes what a call sends, if anything.
 fn send(setup: Setup, output: Output, out: &mut [u8]) -> Answer
     requires { ⌜ refusal setup (now out) ≡ 0 ⌝ }
-    ensures { λ r. ⌜ r ≡ sentOr (packetFor setup output) ⌝ }
+    ensures { λ r. ⌜ r ≡ sentOr multicast (packetFor setup output) ⌝ }
     ensures { λ _. ⌜ now (out .exit) ≡ laidOver (packetFor setup output) (now (out .entry)) ⌝ }
 {
     match output {
@@ -164,6 +182,39 @@ fn send(setup: Setup, output: Output, out: &mut [u8]) -> Answer
             let w = writer::own_packets::respond(setup, set, out);
             answer_for(w)
         }
+    }
+}
+
+// Writes the reply to the question of a plain resolver, where its query has just one and there is a record to send.
+fn reply(setup: Setup, set: Set, packet: &[u8], l: Layout, out: &mut [u8]) -> Answer
+    requires { ⌜ refusal setup (now out) ≡ 0 ⌝ }
+    requires { ⌜ ((says : Message) × (messageAt (now packet) ≡ read l says)) ⌝ }
+    ensures { λ r. ⌜ (let m = messageIn (now (packet .entry)) l in r ≡ sentOr unicast (plainFor setup set (m .id) (m .questions))) ⌝ }
+    ensures { λ _. ⌜ (let m = messageIn (now (packet .entry)) l in
+        now (out .exit) ≡ laidOver (plainFor setup set (m .id) (m .questions)) (now (out .entry))) ⌝ }
+{
+    let questions = l.questions;
+    if questions.count != 1 {
+        return Answer::Quiet;
+    }
+    match wire::message::question_at(packet, questions.at) {
+        QuestionRead::Found(q) => {
+            let name = wire::names::expand(packet, q.name);
+            let bytes = name.bytes;
+            let span = q.span;
+            let len = span.len;
+            let w = writer::own_packets::plain_reply(
+                setup,
+                set,
+                l.id,
+                wire::rdata::part(&bytes, 0, len),
+                q.rtype,
+                q.class,
+                out,
+            );
+            unicast_for(w)
+        }
+        QuestionRead::Malformed => Answer::Quiet,
     }
 }
 
@@ -193,7 +244,8 @@ fn admit(state: State, time: u64, port: u16, draw: u64, packet: &[u8], room: usi
     }
 }
 
-// Takes a packet that came from `port`, with the draw for a PTR reply, and writes the answers that go out at once.
+// Takes a packet that came from `port`, with the draw for a PTR reply, and writes the answers that go out at once: to all, or to a plain resolver, which
+// asks from another port than 5353.
 pub fn receive(
     state: State,
     time: u64,
@@ -210,6 +262,18 @@ pub fn receive(
         MessageRead::Read(l) => {
             let setup = state.setup;
             let facts = facts::facts(packet, l, setup);
+            if port != MDNS_PORT {
+                let asked = claims::answers::plain(state.progress, time, facts, setup.hasaaaa);
+                let due = asked.answers;
+                let kept = asked.progress;
+                return Received {
+                    answer: reply(setup, due, packet, l, out),
+                    state: State {
+                        setup,
+                        progress: kept,
+                    },
+                };
+            }
             let heard = claims::answers::receive(state.progress, time, draw, facts, setup.hasaaaa);
             let set = heard.answers;
             let after = heard.progress;

@@ -13,21 +13,23 @@ use Rattle.claims.specs.declared.records.Claim.{Claim}
 use Rattle.claims.specs.declared.records.Own.{Own}
 use Rattle.claims.specs.declared.records.Set.{Set}
 use Rattle.own.specs.declared.records.Setup.{Setup}
+use Rattle.own.specs.records.Setups.{validSetup}
 use Rattle.own.specs.records.Records.{ownName}
 use Rattle.own.proofs.records.Valid.{Valid, valid, own-is-name}
 use Rattle.writer.specs.Items.{Writing, putRecord, putQuestion}
 use Rattle.writer.specs.declared.own_packets.Style.{Style}
 use Rattle.writer.specs.own_packets.Packets.{header, putAll, packetOf}
-use Rattle.writer.specs.own_packets.Styles.{responseStyle, probeStyle, asked, ownRecord, styledMessage, packetIn}
-use Rattle.writer.specs.own_packets.Own.{responseRecords, probeRecords, responseOf, probeOf, noneIfEmpty, responsePacket, probePacket}
-use Rattle.writer.specs.own_packets.Ready.{sizes, askedSize, TtlSmall, each}
+use Rattle.writer.specs.own_packets.Styles.{responseStyle, probeStyle, plainStyle, asked, ownRecord, styledMessage, packetIn}
+use Rattle.writer.specs.own_packets.Own.{responseRecords, probeRecords, responseOf, probeOf, noneIfEmpty, responsePacket, probePacket, plainRecords, plainReplyOf, plainPacket}
+use Rattle.writer.specs.own_packets.Ready.{sizes, askedSize, TtlSmall, each, fixed}
 use Rattle.writer.proofs.Fitting.{fit-of}
 use Rattle.writer.proofs.Use.{record-size}
 use Rattle.writer.proofs.own_packets.Owned.{own-shaped, own-counts}
-use Rattle.writer.proofs.own_packets.Room.{own-size, response-size, probe-size, claim-size}
+use Rattle.writer.proofs.own_packets.Room.{own-size, response-size, probe-size, claim-size, plain-size}
 use Rattle.writer.proofs.own_packets.Answering.{asked-size, one-section}
+use Rattle.writer.proofs.own_packets.Plain.{name-most}
 use Rattle.roundtrip.specs.Writable.{IsQuestion, IsRecord, Each, none, one, Writable}
-use Rattle.roundtrip.specs.Statements.{StyleBack, ResponseBack, ProbeBack, PacketsFit, OwnComposed}
+use Rattle.roundtrip.specs.Statements.{StyleBack, ResponseBack, ProbeBack, PacketsFit, OwnComposed, PlainBack, PlainFits, PlainComposed}
 use Rattle.roundtrip.proofs.Composed.{composed}
 use Rattle.roundtrip.proofs.Whole.{message-back}
 
@@ -136,3 +138,54 @@ own-composed s h chosen claim = (
       (style-writable s (valid s h) probeStyle (ownName s (firstOf claim)) (λ e. own-is-name s (valid s h) (firstOf claim))
       (probeRecords s claim) each refl) .0,
 )
+
+-- ---- a reply to a plain resolver
+
+module _ (s : Setup) (h : validSetup s ≡ true) (chosen : Set) (id : ℕ) (q : Question) (named : isName (q .name) ≡ true) where
+  abbrev style : Style
+  style = plainStyle id (q .rtype) (q .class)
+
+  abbrev packet : List ℕ
+  packet = packetIn s style (q .name) (plainRecords s chosen)
+
+  plain-long : length packet ≤ 1268
+  plain-long =
+      omega (
+        arith,
+        style-long s (valid s h) style (q .name) (λ e. named) (plainRecords s chosen),
+        plain-size s (valid s h) chosen,
+        name-most (q .name) named,
+      )
+
+  plain-is : plainPacket s chosen id q ≡ noneIfEmpty (plainRecords s chosen) packet
+  unfolding plainPacket
+  plain-is = simp named
+
+  plain-named : length (plainPacket s chosen id q) ≤ 1268
+  plain-named = rw plain-is (go (plainRecords s chosen))
+    where
+      go : (os : List Own) → length (noneIfEmpty os packet) ≤ 1268
+      go [] = omega arith
+      go (o ∷ os) = plain-long
+
+pub plain-fits : PlainFits
+unfolding plainPacket
+plain-fits s h chosen id q = go (isName (q .name)) refl
+  where
+    go : (b : Bool) → isName (q .name) ≡ b
+        → length (cond b (noneIfEmpty (plainRecords s chosen) (packetIn s (plainStyle id (q .rtype) (q .class)) (q .name) (plainRecords s chosen))) []) ≤ 1268
+    go true e = rw (sym (plain-is s h chosen id q e)) (plain-named s h chosen id q e)
+    go false e = omega arith
+
+pub plain-back : PlainBack
+unfolding plainReplyOf
+plain-back s h chosen id q named nz =
+    ap messageAt (plain-is s h chosen id q named ∙ some (plainRecords s chosen) (packet s h chosen id q named) nz)
+    ∙ style-back s h (plainStyle id (q .rtype) (q .class)) (fixed {ttl = 10} (omega arith)) refl (q .name) (λ e. named) (plainRecords s chosen)
+    (omega (arith, plain-long s h chosen id q named))
+
+pub plain-composed : PlainComposed
+unfolding plainReplyOf
+plain-composed s h chosen id q named =
+    composed true _
+    (style-writable s (valid s h) (plainStyle id (q .rtype) (q .class)) (q .name) (λ e. named) (plainRecords s chosen) (fixed {ttl = 10} (omega arith)) refl) .0

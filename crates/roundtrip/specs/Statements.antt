@@ -23,7 +23,7 @@ use Rattle.writer.specs.Writer.{heldIn, roomIn, questionFits, recordFits, Placi
 use Rattle.writer.specs.own_packets.Packets.{packetOf, written}
 use Rattle.writer.specs.own_packets.Ready.{TtlSmall}
 use Rattle.writer.specs.own_packets.Styles.{styledMessage, packetIn}
-use Rattle.writer.specs.own_packets.Own.{responseRecords, responseOf, probeOf, responsePacket, probePacket}
+use Rattle.writer.specs.own_packets.Own.{responseRecords, responseOf, probeOf, responsePacket, probePacket, plainRecords, plainReplyOf, plainPacket}
 use Rattle.roundtrip.specs.Writable.{Writable, layoutOf}
 use Rattle.roundtrip.specs.Puts.{Buffers, MessagePut}
 use Rattle.roundtrip.specs.Composed.{MessageLaid}
@@ -95,3 +95,22 @@ abbrev pub OwnComposed : Type 0
 OwnComposed =
     (s : Setup) → validSetup s ≡ true → (chosen : Set) (claim : Claim)
     → MessageLaid false (responseOf s chosen) (written false (responseOf s chosen)) × MessageLaid false (probeOf s claim) (written false (probeOf s claim))
+
+-- ---- replies to plain resolvers
+
+-- `plain-back`: a reply to a question for a name, with at least one record, is read as the ID and the question that were handed in, and the records, each with TTL 10 and
+-- class 1
+abbrev pub PlainBack : Type 0
+PlainBack =
+    (s : Setup) → validSetup s ≡ true → (chosen : Set) (id : ℕ) (q : Question) → isName (q .name) ≡ true → (plainRecords s chosen ≡ [] → ⊥)
+    → messageAt (plainPacket s chosen id q) ≡ read (layoutOf true (plainReplyOf s chosen id q)) (plainReplyOf s chosen id q)
+
+-- `plain-fits`: it has at most 1,268 bytes, whatever is asked
+abbrev pub PlainFits : Type 0
+PlainFits = (s : Setup) → validSetup s ≡ true → (chosen : Set) (id : ℕ) (q : Question) → length (plainPacket s chosen id q) ≤ 1268
+
+-- `plain-composed`: its names are cut as the sentence says, but for the target of the SRV, which is whole
+abbrev pub PlainComposed : Type 0
+PlainComposed =
+    (s : Setup) → validSetup s ≡ true → (chosen : Set) (id : ℕ) (q : Question) → isName (q .name) ≡ true
+    → MessageLaid true (plainReplyOf s chosen id q) (written true (plainReplyOf s chosen id q))

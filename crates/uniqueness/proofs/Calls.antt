@@ -1,15 +1,17 @@
 -- The accepted calls in messages: a start, a tick and a packet received that are not refused. Assumes nothing.
-use mathlib.Core.Path.{_≡_, refl, sym, ap, subst, _∙_}
+use mathlib.Core.Path.{_≡_, refl, sym, ap, ap₂, subst, _∙_}
 use mathlib.Core.Bool.{Bool, true, false, cond, not, _||_}
+use mathlib.Core.Logic.{_≢_, _⊎_, inl, inr}
 use mathlib.Core.Option.{Option, none, some}
-use mathlib.Core.List.{List, [], _∷_}
+use mathlib.Core.List.{List, [], _∷_, map}
 use Prim.Native.Nat.{ℕ, zero, suc, _+_, _≤_}
 use native.Mathlib.Omega.{arith}
 use lib.Dec.{eqb, ltb}
-use borrow.Author.Tests.{eqb-true, ne-eqb, ltb-false}
+use borrow.Author.Tests.{eqb-true, eqb-false, ne-eqb, ltb-false}
 use mathlib.Mathlib.Data.Bool.Basic.{or-eq-false-eq-eq-false-and-eq-false as neither}
 use Rattle.wire.specs.message.Message.{Message}
-use Rattle.wire.specs.message.Layout.{messageAt}
+use Rattle.wire.specs.message.Layout.{read, messageAt}
+use Rattle.wire.specs.declared.message.Layout.{Layout}
 use Rattle.wire.proofs.message.Refused.{accepted-from}
 use Rattle.own.specs.declared.records.Setup.{Setup}
 use Rattle.own.specs.records.Setups.{validSetup}
@@ -21,22 +23,24 @@ use Rattle.claims.specs.declared.records.Own.{Own}
 use Rattle.claims.specs.declared.When.the-variants.{Never}
 use Rattle.claims.proofs.Times.{after-exact}
 use Rattle.claims.specs.declared.Progress.{Progress}
+use Rattle.claims.specs.declared.records.Set.{Set}
 use Rattle.claims.specs.declared.steps.Output.{Output}
 use Rattle.claims.specs.declared.steps.Output.the-variants.{Response}
 use Rattle.claims.specs.declared.answers.Received as heard
 use Rattle.responder.specs.Refusals.{wrongState, startRefusal, receiveRefusal, tickRefusal}
-use Rattle.responder.specs.Calls.{sentOr, answerOf, packetFor, startState, startOf, heardOf, receivedPacket, receiveOf, walkedOf, tickedPacket, tickOf}
+use Rattle.responder.specs.Calls.{Destination, multicast, unicast, sentOr, answerOf, packetFor, plainFor, broughtOut, fromMdns, destinationOf, startState, startOf, heardOf, receivedPacket, receiveOf, walkedOf, tickedPacket, tickOf}
 use Rattle.responder.specs.declared.State.{State}
 use Rattle.responder.specs.declared.Answer.the-variants.{Refused, Quiet}
+use Rattle.responder.proofs.Replying.{first-named}
 use Rattle.responder.proofs.Refusals.{StartAccepted, ReceiveAccepted, TickAccepted, start-accepted, receive-accepted, tick-accepted}
 use Rattle.link.specs.Responder as link
 use Rattle.link.specs.Responder.{Claim, instance, host, Parcel}
 use Rattle.link.specs.Laws as law
 use Rattle.responder.specs.Handed.{Arrival, Tick}
 use Rattle.uniqueness.specs.Responder.{sends, ownClaim, claimRecord, begunBy, answeredBy, start, tick, receive, messageOf, readAs, responder}
-use Rattle.uniqueness.specs.Rules.{messagesFor, with, told, stageOf, timeOf, timeIn, Of, Ready, rules}
+use Rattle.uniqueness.specs.Rules.{messagesFor, repliesFor, toAsker, with, told, served, stageOf, timeOf, timeIn, Of, Ready, rules}
 use Rattle.uniqueness.proofs.Lists.{clash}
-use Rattle.uniqueness.proofs.Messages.{output-reads}
+use Rattle.uniqueness.proofs.Messages.{output-reads, reply-reads}
 
 pub positive : (n : ℕ) → eqb (suc n) 0 ≡ false
 positive n = ne-eqb (suc n) 0 (λ e. absurd (omega arith))
@@ -56,16 +60,18 @@ right-setup x h = not-false (validSetup (x .setup)) (neither (not (validSetup (x
 -- ---- a call that is not refused
 
 -- what an accepted answer says: no refusal, and the packet if there is one
-pub record Accepted (n : ℕ) (x : State) (p : List ℕ) (y : State) (ps : List Parcel) : Type 0 where
+pub record Accepted (n : ℕ) (x : State) (to : Destination) (p : List ℕ) (y : State) (ps : List Parcel) : Type 0 where
   pub none-refused : n ≡ 0
   pub state : y ≡ x
-  pub sent : ps ≡ sends p
+  pub sent : ps ≡ sends to p
 
-accepted-by : (n : ℕ) (x : State) (p : List ℕ) (y : State) (ps : List Parcel) → answeredBy (answerOf n p) x p ≡ link.accepted y ps → Accepted n x p y ps
-accepted-by zero x [] y ps e = record { none-refused = refl; state = cc; sent = cc }
-accepted-by zero x (b ∷ bs) y ps e = record { none-refused = refl; state = cc; sent = cc }
-accepted-by (suc n) x p y ps e =
-    let z : link.refused ≡ link.accepted y ps = sym (ap (λ (b : Bool). answeredBy (cond b (sentOr p) (Refused (suc n))) x p) (positive n)) ∙ e in
+accepted-by : (n : ℕ) (x : State) (to : Destination) (p : List ℕ) (y : State) (ps : List Parcel) → answeredBy (answerOf n to p) x p ≡ link.accepted y ps
+    → Accepted n x to p y ps
+accepted-by zero x to [] y ps e = record { none-refused = refl; state = cc; sent = cc }
+accepted-by zero x multicast (b ∷ bs) y ps e = record { none-refused = refl; state = cc; sent = cc }
+accepted-by zero x unicast (b ∷ bs) y ps e = record { none-refused = refl; state = cc; sent = cc }
+accepted-by (suc n) x to p y ps e =
+    let z : link.refused ≡ link.accepted y ps = sym (ap (λ (b : Bool). answeredBy (cond b (sentOr to p) (Refused (suc n))) x p) (positive n)) ∙ e in
     clash (cc)
 
 -- ---- a start
@@ -73,7 +79,7 @@ accepted-by (suc n) x p y ps e =
 abbrev begunState : Setup → ℕ → ℕ → State
 begunState s now draw = record { setup = s; progress = claims.begunAt now draw }
 
-begun-by : (n : ℕ) (s : Setup) (now draw : ℕ) (x : State) → begunBy (answerOf n []) (startState n s now draw) ≡ some x → (n ≡ 0) × (x ≡ begunState s now draw)
+begun-by : (n : ℕ) (s : Setup) (now draw : ℕ) (x : State) → begunBy (answerOf n multicast []) (startState n s now draw) ≡ some x → (n ≡ 0) × (x ≡ begunState s now draw)
 begun-by zero s now draw x e = (refl, cc)
 begun-by (suc n) s now draw x e =
     let z : none ≡ some x = sym (ap (λ (b : Bool). begunBy (cond b Quiet (Refused (suc n))) (startState (suc n) s now draw)) (positive n)) ∙ e in
@@ -116,9 +122,10 @@ module _ (x : State) (t : Tick) where
   unfolding tickOf
   ticked-state h = simp h
 
-  pub tick-is : (y : State) (ps : List Parcel) → tick x t ≡ link.accepted y ps → Accepted (tickRefusal x t) (tickOf x t .state) (tickedPacket x t) y ps
+  pub tick-is :
+      (y : State) (ps : List Parcel) → tick x t ≡ link.accepted y ps → Accepted (tickRefusal x t) (tickOf x t .state) multicast (tickedPacket x t) y ps
   unfolding tick tickOf
-  tick-is y ps e = accepted-by (tickRefusal x t) (tickOf x t .state) (tickedPacket x t) y ps e
+  tick-is y ps e = accepted-by (tickRefusal x t) (tickOf x t .state) multicast (tickedPacket x t) y ps e
 
 pub ticked :
     (s : Setup) (x : State) (t : Tick) (y : State) (ps : List Parcel) → Of x s → tick x t ≡ link.accepted y ps
@@ -127,11 +134,11 @@ ticked s x t y ps of e =
     let w = tick-is x t y ps e in
     let a : TickAccepted x t = tick-accepted x t (w .none-refused) in
     let o : Output = walkedOf x (t .time) .output in
-    let p : ps ≡ sends (packetFor (x .setup) o) = w .sent ∙ ap sends (ticked-packet x t (w .none-refused)) in (
+    let p : ps ≡ sends multicast (packetFor (x .setup) o) = w .sent ∙ ap (sends multicast) (ticked-packet x t (w .none-refused)) in (
       record { of = of; time = in-time (x .progress) (t .time) (a .time) },
       record {
         state = w .state ∙ ticked-state x t (w .none-refused);
-        reads = subst (λ (l : List Parcel). law.ReadAs readAs l (messagesFor (x .setup) o)) (sym p) (output-reads (x .setup) (of .valid) o);
+        reads = subst (λ (l : List Parcel). law.ReadAs readAs l (map law.toAll (messagesFor (x .setup) o))) (sym p) (output-reads (x .setup) (of .valid) o);
       },
     )
 
@@ -141,7 +148,7 @@ module _ (x : State) (a : Arrival) where
   abbrev heardBy : heard.Received
   heardBy = heardOf x a (messageAt (a .packet))
 
-  received-packet : receiveRefusal x a ≡ 0 → receivedPacket x a ≡ packetFor (x .setup) (Response (heardBy .answers))
+  received-packet : receiveRefusal x a ≡ 0 → receivedPacket x a ≡ broughtOut x a (heardBy .answers) (messageAt (a .packet))
   unfolding receivedPacket
   received-packet h = simp h
 
@@ -151,31 +158,73 @@ module _ (x : State) (a : Arrival) where
 
   pub receive-is :
       (y : State) (ps : List Parcel) → receive x a ≡ link.accepted y ps
-      → Accepted (receiveRefusal x a) (receiveOf x a .state) (receivedPacket x a) y ps
+      → Accepted (receiveRefusal x a) (receiveOf x a .state) (destinationOf a) (receivedPacket x a) y ps
   unfolding receive receiveOf
-  receive-is y ps e = accepted-by (receiveRefusal x a) (receiveOf x a .state) (receivedPacket x a) y ps e
+  receive-is y ps e = accepted-by (receiveRefusal x a) (receiveOf x a .state) (destinationOf a) (receivedPacket x a) y ps e
+
+  -- with the message that was read, from port 5353 and from another
+  module _ (l : Layout) (m : Message) (was : messageAt (a .packet) ≡ read l m) (none : receiveRefusal x a ≡ 0) where
+    from-mdns : fromMdns a ≡ true
+        → (receiveOf x a .state ≡ with x (told x a m .progress))
+        × (sends (destinationOf a) (receivedPacket x a) ≡ sends multicast (packetFor (x .setup) (Response (told x a m .answers))))
+    from-mdns e =
+        let h : heardBy ≡ told x a m = simp (was, e) in
+        let o : broughtOut x a (told x a m .answers) (messageAt (a .packet)) ≡ packetFor (x .setup) (Response (told x a m .answers)) = simp (was, e) in
+        let d : destinationOf a ≡ multicast = simp e in (
+          received-state none ∙ ap (λ (r : heard.Received). with x (r .progress)) h,
+          ap₂ sends d (received-packet none ∙ ap (λ (r : heard.Received). broughtOut x a (r .answers) (messageAt (a .packet))) h ∙ o),
+        )
+
+    from-resolver : fromMdns a ≡ false
+        → (receiveOf x a .state ≡ with x (served x a m .progress))
+        × (sends (destinationOf a) (receivedPacket x a) ≡ sends unicast (plainFor (x .setup) (served x a m .answers) (m .id) (m .questions)))
+    from-resolver e =
+        let h : heardBy ≡ served x a m = simp (was, e) in
+        let o : broughtOut x a (served x a m .answers) (messageAt (a .packet)) ≡ plainFor (x .setup) (served x a m .answers) (m .id) (m .questions) = simp (was, e) in
+        let d : destinationOf a ≡ unicast = simp e in (
+          received-state none ∙ ap (λ (r : heard.Received). with x (r .progress)) h,
+          ap₂ sends d (received-packet none ∙ ap (λ (r : heard.Received). broughtOut x a (r .answers) (messageAt (a .packet))) h ∙ o),
+        )
 
 pub received :
     (s : Setup) (x : State) (a : Arrival) (y : State) (ps : List Parcel) → Of x s → receive x a ≡ link.accepted y ps
-    → (a .port ≡ 5353)
-    × ((m : Message) × (readAs (a .packet) ≡ some m) × Ready x s (law.hears a m) × law.Does responder rules x y ps (law.hears a m))
+    → (m : Message) × (readAs (a .packet) ≡ some m)
+    × (((a .port ≡ 5353) × Ready x s (law.hears a m) × law.Does responder rules x y ps (law.hears a m))
+    ⊎ ((a .port ≢ 5353) × Ready x s (law.serves a m) × law.Does responder rules x y ps (law.serves a m)))
 received s x a y ps of e =
     let w = receive-is x a y ps e in
     let g : ReceiveAccepted x a = receive-accepted x a (w .none-refused) in
     let q = accepted-from (a .packet) (a .port) (g .message) in
-    let m : Message = q .2 in
-    let h : heardBy x a ≡ told x a m = ap (heardOf x a) (q .3) in
-    let o : Output = Response (told x a m .answers) in
-    let sent : ps ≡ sends (packetFor (x .setup) o) =
-    w .sent ∙ ap sends (received-packet x a (w .none-refused)) ∙ ap (λ r. sends (packetFor (x .setup) (Response (r .answers)))) h in (
-      q .0,
-      (
-        m,
-        ap messageOf (q .3),
-        record { of = of; time = in-time (x .progress) (a .time) (g .time) },
-        record {
-          state = w .state ∙ received-state x a (w .none-refused) ∙ ap (λ r. with x (r .progress)) h;
-          reads = subst (λ (l : List Parcel). law.ReadAs readAs l (messagesFor (x .setup) o)) (sym sent) (output-reads (x .setup) (of .valid) o);
-        },
-      ),
-    )
+    (q .2, ap messageOf (q .3), go (q .1) (q .2) (q .3) w g (fromMdns a) refl)
+  where
+    go : (l : Layout) (m : Message) → messageAt (a .packet) ≡ read l m
+        → Accepted (receiveRefusal x a) (receiveOf x a .state) (destinationOf a) (receivedPacket x a) y ps → ReceiveAccepted x a
+        → (b : Bool) → fromMdns a ≡ b
+        → ((a .port ≡ 5353) × Ready x s (law.hears a m) × law.Does responder rules x y ps (law.hears a m))
+        ⊎ ((a .port ≢ 5353) × Ready x s (law.serves a m) × law.Does responder rules x y ps (law.serves a m))
+    go l m was w g true t =
+        let f = from-mdns x a l m was (w .none-refused) t in
+        let o : Output = Response (told x a m .answers) in
+        inl (
+          eqb-true (a .port) 5353 t,
+          record { of = of; time = in-time (x .progress) (a .time) (g .time) },
+          record {
+            state = w .state ∙ f .0;
+            reads =
+                subst (λ (ps : List Parcel). law.ReadAs readAs ps (map law.toAll (messagesFor (x .setup) o))) (sym (w .sent ∙ f .1))
+                (output-reads (x .setup) (of .valid) o);
+          },
+        )
+    go l m was w g false t =
+        let f = from-resolver x a l m was (w .none-refused) t in
+        let set : Set = served x a m .answers in
+        inr (
+          eqb-false (a .port) 5353 t,
+          record { of = of; time = in-time (x .progress) (a .time) (g .time) },
+          record {
+            state = w .state ∙ f .0;
+            reads =
+                subst (λ (ps : List Parcel). law.ReadAs readAs ps (map toAsker (repliesFor (x .setup) set (m .id) (m .questions)))) (sym (w .sent ∙ f .1))
+                (reply-reads (x .setup) (of .valid) set (m .id) (m .questions) (λ z rest h. first-named (a .packet) l m was z rest h));
+          },
+        )

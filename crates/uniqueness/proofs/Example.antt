@@ -11,7 +11,7 @@ use lib.Dec.{leb, ltb}
 use borrow.Author.Tests.{leb-true, ltb-true}
 use Rattle.wire.specs.case_folding.Fold.{sameName}
 use Rattle.wire.specs.name_pieces.Pieces.{pieceAt}
-use Rattle.wire.specs.names.Names.{nameAt, fromRun, readFrom}
+use Rattle.wire.specs.names.Names.{nameAt, fromRun, readFrom, labelsFill}
 use Rattle.wire.specs.rdata.Rdata.{formIn, stringsFill, rdataIn, rdataAt}
 use Rattle.wire.specs.expansion.Equal.{sameBytes}
 use Rattle.wire.specs.message.Layout.{questionRead, recordRead, questionAt, recordAt, listFrom, andThen, messageAt}
@@ -41,9 +41,9 @@ use Rattle.writer.specs.Fit.{formFor}
 use Rattle.writer.specs.Items.{putName, dataBytes, dataPlaces, putFields}
 use Rattle.writer.specs.own_packets.Packets.{packetOf}
 use Rattle.writer.specs.own_packets.Styles.{ownRecord}
-use Rattle.writer.specs.own_packets.Own.{responseRecords, probeRecords, responseOf, probeOf, responsePacket, probePacket}
+use Rattle.writer.specs.own_packets.Own.{responseRecords, probeRecords, responseOf, probeOf, responsePacket, probePacket, plainRecords, plainPacket}
 use Rattle.responder.specs.Refusals.{wrongState, startRefusal, receiveRefusal, tickRefusal}
-use Rattle.responder.specs.Calls.{blank, startOf, packetFor, receivedPacket, receiveOf, tickedPacket, tickOf}
+use Rattle.responder.specs.Calls.{multicast, unicast, blank, startOf, packetFor, receivedPacket, receiveOf, tickedPacket, tickOf}
 use Rattle.responder.specs.declared.State.{State}
 use Rattle.link.specs.Responder.{Claim, instance, host}
 use Rattle.link.specs.Entries.{entry, clockOf, ownerOf, setupIn, setupOf as startedWith, timeAt, reply, returned, called, after, runs, isAccepted, acceptedAt, parcelsOf, sentAt, heardIn, Entry}
@@ -53,7 +53,7 @@ use Rattle.link.specs.Demand3.{Unopposed, holdingTime}
 use Rattle.link.specs.Witness.{every, someBelow, allOf, sameBytes as samePackets, ordered, atOneRate, owed, taken, allDelivered, allOnTime, meets}
 use Rattle.link.proofs.Witness.{met, below}
 use Rattle.uniqueness.specs.Responder.{sends, start, tick, receive, dueTimes, due, responds, conflicts, defeats, responder}
-use Rattle.uniqueness.specs.Example.{setupOf, one, other, alone, contest, rivals, ptrQuery, three}
+use Rattle.uniqueness.specs.Example.{setupOf, one, other, alone, contest, rivals, ptrQuery, plainQuery, three}
 
 -- the claim is lost; the instance claim of a state is
 abbrev pub isLost : ClaimState → Bool
@@ -123,12 +123,12 @@ SeenThree =
     × (runs responder three 30 (length three) ≡ true)
 
 seen : Seen
-unfolding setupOf alone contest rivals three ptrQuery holds writes hears anyOf respondsFor conflictsWith defeatsOf responds conflicts defeats meets ordered atOneRate owed taken allDelivered allOnTime every someBelow allOf samePackets entry clockOf ownerOf setupIn reply returned called after isAccepted parcelsOf heardIn start tick receive dueTimes due blank startOf packetFor receivedPacket receiveOf tickedPacket tickOf wrongState startRefusal receiveRefusal tickRefusal ownRecord responseRecords probeRecords responseOf probeOf responsePacket probePacket putName dataBytes dataPlaces putFields packetOf isAsked isKnown conflicted theirsLater responseFacts queryFacts factsOf answers.heardOf answers.wantedOf answers.receiveOf listUnder someOf isProbe compareNumbers inTurn compareRecords insertBy sortBy tie steps.sends steps.actionTurn steps.claimTurn steps.ptrReply steps.replyTurn steps.stepTurn steps.walked steps.endedOf steps.tickOf moreDue actionOf unsentOf sets.someOf sets.everyOf sets.picked sets.only sets.anyOf sets.atOnce sets.recordsOf multicastsKept kept wrongTime claims.begunAt afterMs markedAll hasRecord ownLabels ownName srvRdata ownRdata labelFits instanceFits utf8.isShown utf8.shownFrom utf8.mayStand utf8.behind utf8.starts utf8.following utf8.within isLetter isNameByte allNameBytes someLetter hyphensApart serviceRule serviceFits protocolFits domainFits txtFits validSetup serviceLabels instanceLabels hostLabels standsAt placeOf cutFrom nameBytes starts namePlaces questionRead recordRead questionAt recordAt listFrom messageAt andThen sameBytes stringsFill nameAt fromRun readFrom pieceAt sameName rdataAt rdataIn formFor formIn
+unfolding setupOf alone contest rivals three ptrQuery plainQuery plainPacket plainRecords answers.plainOf answers.dueOf sets.withData labelsFill holds writes hears anyOf respondsFor conflictsWith defeatsOf responds conflicts defeats meets ordered atOneRate owed taken allDelivered allOnTime every someBelow allOf samePackets entry clockOf ownerOf setupIn reply returned called after isAccepted parcelsOf heardIn start tick receive dueTimes due blank startOf packetFor receivedPacket receiveOf tickedPacket tickOf wrongState startRefusal receiveRefusal tickRefusal ownRecord responseRecords probeRecords responseOf probeOf responsePacket probePacket putName dataBytes dataPlaces putFields packetOf isAsked isKnown conflicted theirsLater responseFacts queryFacts factsOf answers.heardOf answers.wantedOf answers.receiveOf listUnder someOf isProbe compareNumbers inTurn compareRecords insertBy sortBy tie steps.sends steps.actionTurn steps.claimTurn steps.ptrReply steps.replyTurn steps.stepTurn steps.walked steps.endedOf steps.tickOf moreDue actionOf unsentOf sets.someOf sets.everyOf sets.picked sets.only sets.anyOf sets.atOnce sets.recordsOf multicastsKept kept wrongTime claims.begunAt afterMs markedAll hasRecord ownLabels ownName srvRdata ownRdata labelFits instanceFits utf8.isShown utf8.shownFrom utf8.mayStand utf8.behind utf8.starts utf8.following utf8.within isLetter isNameByte allNameBytes someLetter hyphensApart serviceRule serviceFits protocolFits domainFits txtFits validSetup serviceLabels instanceLabels hostLabels standsAt placeOf cutFrom nameBytes starts namePlaces questionRead recordRead questionAt recordAt listFrom messageAt andThen sameBytes stringsFill nameAt fromRun readFrom pieceAt sameName rdataAt rdataIn formFor formIn
 seen =
     (refl, (refl, refl, refl, refl, refl), (refl, refl, refl), (refl, refl, refl), refl, refl, refl, refl, refl, refl, (refl, refl, refl, refl, refl), (refl, refl, refl), (refl, refl, refl), refl, refl, refl, refl, refl, refl)
 
 seen-three : SeenThree
-unfolding setupOf alone contest rivals three ptrQuery holds writes hears anyOf respondsFor conflictsWith defeatsOf responds conflicts defeats meets ordered atOneRate owed taken allDelivered allOnTime every someBelow allOf samePackets entry clockOf ownerOf setupIn reply returned called after isAccepted parcelsOf heardIn start tick receive dueTimes due blank startOf packetFor receivedPacket receiveOf tickedPacket tickOf wrongState startRefusal receiveRefusal tickRefusal ownRecord responseRecords probeRecords responseOf probeOf responsePacket probePacket putName dataBytes dataPlaces putFields packetOf isAsked isKnown conflicted theirsLater responseFacts queryFacts factsOf answers.heardOf answers.wantedOf answers.receiveOf listUnder someOf isProbe compareNumbers inTurn compareRecords insertBy sortBy tie steps.sends steps.actionTurn steps.claimTurn steps.ptrReply steps.replyTurn steps.stepTurn steps.walked steps.endedOf steps.tickOf moreDue actionOf unsentOf sets.someOf sets.everyOf sets.picked sets.only sets.anyOf sets.atOnce sets.recordsOf multicastsKept kept wrongTime claims.begunAt afterMs markedAll hasRecord ownLabels ownName srvRdata ownRdata labelFits instanceFits utf8.isShown utf8.shownFrom utf8.mayStand utf8.behind utf8.starts utf8.following utf8.within isLetter isNameByte allNameBytes someLetter hyphensApart serviceRule serviceFits protocolFits domainFits txtFits validSetup serviceLabels instanceLabels hostLabels standsAt placeOf cutFrom nameBytes starts namePlaces questionRead recordRead questionAt recordAt listFrom messageAt andThen sameBytes stringsFill nameAt fromRun readFrom pieceAt sameName rdataAt rdataIn formFor formIn
+unfolding setupOf alone contest rivals three ptrQuery plainQuery plainPacket plainRecords answers.plainOf answers.dueOf sets.withData labelsFill holds writes hears anyOf respondsFor conflictsWith defeatsOf responds conflicts defeats meets ordered atOneRate owed taken allDelivered allOnTime every someBelow allOf samePackets entry clockOf ownerOf setupIn reply returned called after isAccepted parcelsOf heardIn start tick receive dueTimes due blank startOf packetFor receivedPacket receiveOf tickedPacket tickOf wrongState startRefusal receiveRefusal tickRefusal ownRecord responseRecords probeRecords responseOf probeOf responsePacket probePacket putName dataBytes dataPlaces putFields packetOf isAsked isKnown conflicted theirsLater responseFacts queryFacts factsOf answers.heardOf answers.wantedOf answers.receiveOf listUnder someOf isProbe compareNumbers inTurn compareRecords insertBy sortBy tie steps.sends steps.actionTurn steps.claimTurn steps.ptrReply steps.replyTurn steps.stepTurn steps.walked steps.endedOf steps.tickOf moreDue actionOf unsentOf sets.someOf sets.everyOf sets.picked sets.only sets.anyOf sets.atOnce sets.recordsOf multicastsKept kept wrongTime claims.begunAt afterMs markedAll hasRecord ownLabels ownName srvRdata ownRdata labelFits instanceFits utf8.isShown utf8.shownFrom utf8.mayStand utf8.behind utf8.starts utf8.following utf8.within isLetter isNameByte allNameBytes someLetter hyphensApart serviceRule serviceFits protocolFits domainFits txtFits validSetup serviceLabels instanceLabels hostLabels standsAt placeOf cutFrom nameBytes starts namePlaces questionRead recordRead questionAt recordAt listFrom messageAt andThen sameBytes stringsFill nameAt fromRun readFrom pieceAt sameName rdataAt rdataIn formFor formIn
 seen-three = (refl, refl, refl, refl, refl, refl, refl, refl, refl, refl, refl)
 
 not-true : (b : Bool) → not b ≡ true → b ≡ false
@@ -225,16 +225,27 @@ ptrPacket =
     ∷ 0x02 ∷ 0x5f ∷ 0x78 ∷ 0x04 ∷ 0x5f ∷ 0x75 ∷ 0x64 ∷ 0x70 ∷ 0x05 ∷ 0x6c ∷ 0x6f ∷ 0x63 ∷ 0x61 ∷ 0x6c ∷ 0x00
     ∷ 0x00 ∷ 0x0c ∷ 0x00 ∷ 0x01 ∷ 0x00 ∷ 0x00 ∷ 0x11 ∷ 0x94 ∷ 0x00 ∷ 0x04 ∷ 0x01 ∷ 0x41 ∷ 0xc0 ∷ 0x0c ∷ []
 
-ptr-sent : sentAt responder three 14 ≡ sends ptrPacket
-unfolding setupOf alone contest rivals three ptrQuery holds writes hears anyOf respondsFor conflictsWith defeatsOf responds conflicts defeats meets ordered atOneRate owed taken allDelivered allOnTime every someBelow allOf samePackets entry clockOf ownerOf setupIn reply returned called after isAccepted parcelsOf heardIn start tick receive dueTimes due blank startOf packetFor receivedPacket receiveOf tickedPacket tickOf wrongState startRefusal receiveRefusal tickRefusal ownRecord responseRecords probeRecords responseOf probeOf responsePacket probePacket putName dataBytes dataPlaces putFields packetOf isAsked isKnown conflicted theirsLater responseFacts queryFacts factsOf answers.heardOf answers.wantedOf answers.receiveOf listUnder someOf isProbe compareNumbers inTurn compareRecords insertBy sortBy tie steps.sends steps.actionTurn steps.claimTurn steps.ptrReply steps.replyTurn steps.stepTurn steps.walked steps.endedOf steps.tickOf moreDue actionOf unsentOf sets.someOf sets.everyOf sets.picked sets.only sets.anyOf sets.atOnce sets.recordsOf multicastsKept kept wrongTime claims.begunAt afterMs markedAll hasRecord ownLabels ownName srvRdata ownRdata labelFits instanceFits utf8.isShown utf8.shownFrom utf8.mayStand utf8.behind utf8.starts utf8.following utf8.within isLetter isNameByte allNameBytes someLetter hyphensApart serviceRule serviceFits protocolFits domainFits txtFits validSetup serviceLabels instanceLabels hostLabels standsAt placeOf cutFrom nameBytes starts namePlaces questionRead recordRead questionAt recordAt listFrom messageAt andThen sameBytes stringsFill nameAt fromRun readFrom pieceAt sameName rdataAt rdataIn formFor formIn
+ptr-sent : sentAt responder three 14 ≡ sends multicast ptrPacket
+unfolding setupOf alone contest rivals three ptrQuery plainQuery plainPacket plainRecords answers.plainOf answers.dueOf sets.withData labelsFill holds writes hears anyOf respondsFor conflictsWith defeatsOf responds conflicts defeats meets ordered atOneRate owed taken allDelivered allOnTime every someBelow allOf samePackets entry clockOf ownerOf setupIn reply returned called after isAccepted parcelsOf heardIn start tick receive dueTimes due blank startOf packetFor receivedPacket receiveOf tickedPacket tickOf wrongState startRefusal receiveRefusal tickRefusal ownRecord responseRecords probeRecords responseOf probeOf responsePacket probePacket putName dataBytes dataPlaces putFields packetOf isAsked isKnown conflicted theirsLater responseFacts queryFacts factsOf answers.heardOf answers.wantedOf answers.receiveOf listUnder someOf isProbe compareNumbers inTurn compareRecords insertBy sortBy tie steps.sends steps.actionTurn steps.claimTurn steps.ptrReply steps.replyTurn steps.stepTurn steps.walked steps.endedOf steps.tickOf moreDue actionOf unsentOf sets.someOf sets.everyOf sets.picked sets.only sets.anyOf sets.atOnce sets.recordsOf multicastsKept kept wrongTime claims.begunAt afterMs markedAll hasRecord ownLabels ownName srvRdata ownRdata labelFits instanceFits utf8.isShown utf8.shownFrom utf8.mayStand utf8.behind utf8.starts utf8.following utf8.within isLetter isNameByte allNameBytes someLetter hyphensApart serviceRule serviceFits protocolFits domainFits txtFits validSetup serviceLabels instanceLabels hostLabels standsAt placeOf cutFrom nameBytes starts namePlaces questionRead recordRead questionAt recordAt listFrom messageAt andThen sameBytes stringsFill nameAt fromRun readFrom pieceAt sameName rdataAt rdataIn formFor formIn
 ptr-sent = refl
 
 ptr-written : responsePacket other (only Ptr) ≡ ptrPacket
-unfolding setupOf alone contest rivals three ptrQuery holds writes hears anyOf respondsFor conflictsWith defeatsOf responds conflicts defeats meets ordered atOneRate owed taken allDelivered allOnTime every someBelow allOf samePackets entry clockOf ownerOf setupIn reply returned called after isAccepted parcelsOf heardIn start tick receive dueTimes due blank startOf packetFor receivedPacket receiveOf tickedPacket tickOf wrongState startRefusal receiveRefusal tickRefusal ownRecord responseRecords probeRecords responseOf probeOf responsePacket probePacket putName dataBytes dataPlaces putFields packetOf isAsked isKnown conflicted theirsLater responseFacts queryFacts factsOf answers.heardOf answers.wantedOf answers.receiveOf listUnder someOf isProbe compareNumbers inTurn compareRecords insertBy sortBy tie steps.sends steps.actionTurn steps.claimTurn steps.ptrReply steps.replyTurn steps.stepTurn steps.walked steps.endedOf steps.tickOf moreDue actionOf unsentOf sets.someOf sets.everyOf sets.picked sets.only sets.anyOf sets.atOnce sets.recordsOf multicastsKept kept wrongTime claims.begunAt afterMs markedAll hasRecord ownLabels ownName srvRdata ownRdata labelFits instanceFits utf8.isShown utf8.shownFrom utf8.mayStand utf8.behind utf8.starts utf8.following utf8.within isLetter isNameByte allNameBytes someLetter hyphensApart serviceRule serviceFits protocolFits domainFits txtFits validSetup serviceLabels instanceLabels hostLabels standsAt placeOf cutFrom nameBytes starts namePlaces questionRead recordRead questionAt recordAt listFrom messageAt andThen sameBytes stringsFill nameAt fromRun readFrom pieceAt sameName rdataAt rdataIn formFor formIn
+unfolding setupOf alone contest rivals three ptrQuery plainQuery plainPacket plainRecords answers.plainOf answers.dueOf sets.withData labelsFill holds writes hears anyOf respondsFor conflictsWith defeatsOf responds conflicts defeats meets ordered atOneRate owed taken allDelivered allOnTime every someBelow allOf samePackets entry clockOf ownerOf setupIn reply returned called after isAccepted parcelsOf heardIn start tick receive dueTimes due blank startOf packetFor receivedPacket receiveOf tickedPacket tickOf wrongState startRefusal receiveRefusal tickRefusal ownRecord responseRecords probeRecords responseOf probeOf responsePacket probePacket putName dataBytes dataPlaces putFields packetOf isAsked isKnown conflicted theirsLater responseFacts queryFacts factsOf answers.heardOf answers.wantedOf answers.receiveOf listUnder someOf isProbe compareNumbers inTurn compareRecords insertBy sortBy tie steps.sends steps.actionTurn steps.claimTurn steps.ptrReply steps.replyTurn steps.stepTurn steps.walked steps.endedOf steps.tickOf moreDue actionOf unsentOf sets.someOf sets.everyOf sets.picked sets.only sets.anyOf sets.atOnce sets.recordsOf multicastsKept kept wrongTime claims.begunAt afterMs markedAll hasRecord ownLabels ownName srvRdata ownRdata labelFits instanceFits utf8.isShown utf8.shownFrom utf8.mayStand utf8.behind utf8.starts utf8.following utf8.within isLetter isNameByte allNameBytes someLetter hyphensApart serviceRule serviceFits protocolFits domainFits txtFits validSetup serviceLabels instanceLabels hostLabels standsAt placeOf cutFrom nameBytes starts namePlaces questionRead recordRead questionAt recordAt listFrom messageAt andThen sameBytes stringsFill nameAt fromRun readFrom pieceAt sameName rdataAt rdataIn formFor formIn
 ptr-written = refl
 
-pub answers-question : sentAt responder three 14 ≡ sends (responsePacket other (only Ptr))
-answers-question = ptr-sent ∙ ap sends (sym ptr-written)
+pub answers-question : sentAt responder three 14 ≡ sends multicast (responsePacket other (only Ptr))
+answers-question = ptr-sent ∙ ap (sends multicast) (sym ptr-written)
+
+-- a plain resolver is answered by unicast; the premises are met, though nobody hears the reply
+abbrev plainReply : List ℕ
+plainReply =
+    0x12 ∷ 0x34 ∷ 0x84 ∷ 0x00 ∷ 0x00 ∷ 0x01 ∷ 0x00 ∷ 0x01 ∷ 0x00 ∷ 0x00 ∷ 0x00 ∷ 0x00
+    ∷ 0x01 ∷ 0x68 ∷ 0x05 ∷ 0x6c ∷ 0x6f ∷ 0x63 ∷ 0x61 ∷ 0x6c ∷ 0x00 ∷ 0x00 ∷ 0x01 ∷ 0x00 ∷ 0x01
+    ∷ 0xc0 ∷ 0x0c ∷ 0x00 ∷ 0x01 ∷ 0x00 ∷ 0x01 ∷ 0x00 ∷ 0x00 ∷ 0x00 ∷ 0x0a ∷ 0x00 ∷ 0x04 ∷ 0x0a ∷ 0x00 ∷ 0x00 ∷ 0x07 ∷ []
+
+pub serves-resolver : sentAt responder contest 25 ≡ sends unicast plainReply
+unfolding setupOf alone contest rivals three ptrQuery plainQuery plainPacket plainRecords answers.plainOf answers.dueOf sets.withData labelsFill holds writes hears anyOf respondsFor conflictsWith defeatsOf responds conflicts defeats meets ordered atOneRate owed taken allDelivered allOnTime every someBelow allOf samePackets entry clockOf ownerOf setupIn reply returned called after isAccepted parcelsOf heardIn start tick receive dueTimes due blank startOf packetFor receivedPacket receiveOf tickedPacket tickOf wrongState startRefusal receiveRefusal tickRefusal ownRecord responseRecords probeRecords responseOf probeOf responsePacket probePacket putName dataBytes dataPlaces putFields packetOf isAsked isKnown conflicted theirsLater responseFacts queryFacts factsOf answers.heardOf answers.wantedOf answers.receiveOf listUnder someOf isProbe compareNumbers inTurn compareRecords insertBy sortBy tie steps.sends steps.actionTurn steps.claimTurn steps.ptrReply steps.replyTurn steps.stepTurn steps.walked steps.endedOf steps.tickOf moreDue actionOf unsentOf sets.someOf sets.everyOf sets.picked sets.only sets.anyOf sets.atOnce sets.recordsOf multicastsKept kept wrongTime claims.begunAt afterMs markedAll hasRecord ownLabels ownName srvRdata ownRdata labelFits instanceFits utf8.isShown utf8.shownFrom utf8.mayStand utf8.behind utf8.starts utf8.following utf8.within isLetter isNameByte allNameBytes someLetter hyphensApart serviceRule serviceFits protocolFits domainFits txtFits validSetup serviceLabels instanceLabels hostLabels standsAt placeOf cutFrom nameBytes starts namePlaces questionRead recordRead questionAt recordAt listFrom messageAt andThen sameBytes stringsFill nameAt fromRun readFrom pieceAt sameName rdataAt rdataIn formFor formIn
+serves-resolver = refl
 
 -- the second, which wanted the name meanwhile, has lost it
 pub second-loses : isAnd lostBy (after responder three 16 (length three)) ≡ true

@@ -104,9 +104,9 @@ lawful =
           → (rules .multicast (law.next responder rules x c) k type ≡ rules .multicast x k type)
           ⊎ ((rules .multicast (law.next responder rules x c) k type ≡ some (law.timeOf responder c)) × law.Multicasts responder rules t x c k type))
           (r .of .setup) (noted x (r .of .valid) c k type d) e;
-      said = λ s x c k m r h e.
-          subst (λ (t : Setup). responder .responds m (name t k) ≡ true → rules .stage (law.next responder rules x c) k ≡ law.held) (r .of .setup)
-          (said x (r .of .valid) c k m h) e;
+      said = λ s x c k q r h e.
+          subst (λ (t : Setup). responder .responds (q .message) (name t k) ≡ true → rules .stage (law.next responder rules x c) k ≡ law.held) (r .of .setup)
+          (said x (r .of .valid) c k q h) e;
       yields = λ s x a m k r h.
           subst (λ (t : Setup). conflicts m t k ≡ true → law.Unclaimed (rules .stage (law.next responder rules x (law.hears a m)) k)) (r .of .setup)
           (yields-to x a m k) h;

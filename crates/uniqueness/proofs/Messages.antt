@@ -7,7 +7,8 @@ use mathlib.Core.List.{List, [], _∷_, _++_, map}
 use Prim.Native.Nat.{ℕ}
 use Rattle.wire.specs.case_folding.Fold.{sameName}
 use Rattle.wire.proofs.case_folding.Equal.{same-refl}
-use Rattle.wire.specs.message.Message.{Record, Message, isResponse, allRecords}
+use Rattle.wire.specs.names.Names.{isName}
+use Rattle.wire.specs.message.Message.{Question, Record, Message, isResponse, allRecords}
 use Rattle.wire.specs.message.Layout.{messageAt}
 use Rattle.own.specs.declared.records.Setup.{Setup}
 use Rattle.own.specs.records.Setups.{validSetup}
@@ -22,15 +23,16 @@ use Rattle.claims.specs.declared.steps.Output.{Output}
 use Rattle.claims.specs.declared.steps.Output.the-variants.{Nothing, Probe, Response}
 use Rattle.wire.specs.Lists.{some as someOf}
 use Rattle.facts.specs.probe.Probe.{under}
-use Rattle.writer.specs.own_packets.Styles.{responseStyle, ownRecord}
-use Rattle.writer.specs.own_packets.Own.{responseRecords, responseOf, noneIfEmpty, responsePacket, probePacket, probeOf}
-use Rattle.roundtrip.proofs.OwnPackets.{response-back, probe-back}
-use Rattle.responder.specs.Calls.{packetFor}
+use Rattle.writer.specs.declared.own_packets.Style.{Style}
+use Rattle.writer.specs.own_packets.Styles.{responseStyle, plainStyle, ownRecord}
+use Rattle.writer.specs.own_packets.Own.{responseRecords, responseOf, noneIfEmpty, responsePacket, probePacket, probeOf, plainRecords, plainReplyOf, plainPacket}
+use Rattle.roundtrip.proofs.OwnPackets.{response-back, probe-back, plain-back}
+use Rattle.responder.specs.Calls.{Destination, multicast, unicast, packetFor, plainFor}
 use Rattle.link.specs.Responder.{Claim, instance, host}
 use Rattle.link.specs.Premises.{Among}
-use Rattle.link.specs.Laws.{ReadAs}
-use Rattle.uniqueness.specs.Responder.{sends, ownClaim, claimRecord, name, messageOf, readAs, isData, dataUnder, responds}
-use Rattle.uniqueness.specs.Rules.{unlessEmpty, messagesFor, Carried}
+use Rattle.link.specs.Laws.{Sent, toAll, ReadAs}
+use Rattle.uniqueness.specs.Responder.{destination, sends, ownClaim, claimRecord, name, messageOf, readAs, isData, dataUnder, responds}
+use Rattle.uniqueness.specs.Rules.{unlessEmpty, messagesFor, repliesFor, toAsker, Carried}
 use Rattle.uniqueness.proofs.Lists.{clash, never, and-left, and-right, and-both, or-left, or-right, some-in, some-out, in-append, out-append, in-map, out-map, in-picked, out-picked}
 use Rattle.uniqueness.proofs.Owned.{Owned, srv, txt, a, aaaa, owned, own-owner, own-data}
 
@@ -106,41 +108,58 @@ module _ (s : Setup) (ok : validSetup s ≡ true) (set : Set) where
   by-name host InstanceNsec g n d = never d
   by-name host HostNsec g n d = never d
 
-  answers-only : (r : Record) → Among r (allRecords (responseOf s set)) → Among r (map (ownRecord s responseStyle) (responseRecords s set))
-  unfolding responseOf
-  answers-only r h = go (out-append r (map (ownRecord s responseStyle) (responseRecords s set)) [] h)
+  -- own records in any style, in Answer
+  abbrev inStyle : Style → List Record
+  inStyle style = map (ownRecord s style) (responseRecords s set)
+
+  answers-only : (style : Style) (r : Record) → Among r (inStyle style ++ []) → Among r (inStyle style)
+  answers-only style r h = go (out-append r (inStyle style) [] h)
     where
-      go : Among r (map (ownRecord s responseStyle) (responseRecords s set)) ⊎ Among r [] → Among r (map (ownRecord s responseStyle) (responseRecords s set))
+      go : Among r (inStyle style) ⊎ Among r [] → Among r (inStyle style)
       go (inl k) = k
       go (inr k) = absurd k
 
-  -- a response under the claim's name has a record of the claim
-  pub name-said : (k : Claim) → responds (responseOf s set) (name s k) ≡ true → sets.under (ownClaim k) set ≡ true
-  unfolding responds responseRecords ownRecord
-  name-said k h =
-      let found = some-out (dataUnder (name s k)) (allRecords (responseOf s set))
-      (and-right (isResponse (responseOf s set .flags)) (someOf (dataUnder (name s k)) (allRecords (responseOf s set))) h) in
-      let made = out-map (ownRecord s responseStyle) (found .0) (responseRecords s set) (answers-only (found .0) (found .1)) in
+  -- one under the claim's name is a record of the claim
+  style-said : (style : Style) (k : Claim) → someOf (dataUnder (name s k)) (inStyle style ++ []) ≡ true → sets.under (ownClaim k) set ≡ true
+  unfolding responseRecords ownRecord
+  style-said style k h =
+      let found = some-out (dataUnder (name s k)) (inStyle style ++ []) h in
+      let made = out-map (ownRecord s style) (found .0) (responseRecords s set) (answers-only style (found .0) (found .1)) in
       let taken = out-picked (λ (o : Own). has o set && hasRecord s o) (made .0) all (made .1) in
-      let its : dataUnder (name s k) (ownRecord s responseStyle (made .0)) ≡ true =
+      let its : dataUnder (name s k) (ownRecord s style (made .0)) ≡ true =
       subst (λ (r : Record). dataUnder (name s k) r ≡ true) (made .2) (found .2) in
       by-name k (made .0) (and-left (has (made .0) set) (hasRecord s (made .0)) (taken .1))
       (and-left (sameName (ownName s (made .0)) (name s k)) (isData (ownType (made .0))) its)
       (and-right (sameName (ownName s (made .0)) (name s k)) (isData (ownType (made .0))) its)
 
+  -- a response under the claim's name has a record of the claim
+  pub name-said : (k : Claim) → responds (responseOf s set) (name s k) ≡ true → sets.under (ownClaim k) set ≡ true
+  unfolding responds responseOf
+  name-said k h =
+      style-said responseStyle k
+      (and-right (isResponse (responseOf s set .flags)) (someOf (dataUnder (name s k)) (allRecords (responseOf s set))) h)
+
+-- and so has a plain reply
+pub plain-said : (s : Setup) → validSetup s ≡ true → (set : Set) (id : ℕ) (q : Question) (k : Claim) → responds (plainReplyOf s set id q) (name s k) ≡ true
+    → sets.under (ownClaim k) (sets.withData set) ≡ true
+unfolding responds plainReplyOf plainRecords
+plain-said s ok set id q k h =
+    style-said s ok (sets.withData set) (plainStyle id (q .rtype) (q .class)) k
+    (and-right (isResponse (plainReplyOf s set id q .flags)) (someOf (dataUnder (name s k)) (allRecords (plainReplyOf s set id q))) h)
+
 -- ---- what is written reads back
 
 -- a packet that is read as a message is not empty
-pub reads : (p : List ℕ) (m : Message) → readAs p ≡ some m → ReadAs readAs (sends p) (m ∷ [])
+pub reads : (to : Destination) (p : List ℕ) (m : Message) → readAs p ≡ some m → ReadAs readAs (sends to p) (record { to = destination to; message = m } ∷ [])
 unfolding messageAt
-reads [] m e = clash (cc)
-reads (b ∷ bs) m e = (e, tt)
+reads to [] m e = clash (cc)
+reads to (b ∷ bs) m e = ((refl, e), tt)
 
 module _ (s : Setup) (ok : validSetup s ≡ true) where
   response-reads : (set : Set) (os : List Own) → responseRecords s set ≡ os
-      → ReadAs readAs (sends (noneIfEmpty os (responsePacket s set))) (unlessEmpty os (responseOf s set))
+      → ReadAs readAs (sends multicast (noneIfEmpty os (responsePacket s set))) (map toAll (unlessEmpty os (responseOf s set)))
   response-reads set [] e = tt
-  response-reads set (o ∷ os) e = reads (responsePacket s set) (responseOf s set) (ap messageOf (response-back s ok set (λ z. clash (cc))))
+  response-reads set (o ∷ os) e = reads multicast (responsePacket s set) (responseOf s set) (ap messageOf (response-back s ok set (λ z. clash (cc))))
 
   none-twice : (os : List Own) (p : List ℕ) → noneIfEmpty os (noneIfEmpty os p) ≡ noneIfEmpty os p
   none-twice [] p = refl
@@ -151,10 +170,30 @@ module _ (s : Setup) (ok : validSetup s ≡ true) where
   response-none set = none-twice (responseRecords s set) _
 
   -- the packet of an output is read as its message
-  pub output-reads : (o : Output) → ReadAs readAs (sends (packetFor s o)) (messagesFor s o)
+  pub output-reads : (o : Output) → ReadAs readAs (sends multicast (packetFor s o)) (map toAll (messagesFor s o))
   unfolding packetFor messagesFor
   output-reads Nothing = tt
-  output-reads (Probe k) = reads (probePacket s k) (probeOf s k) (ap messageOf (probe-back s ok k))
+  output-reads (Probe k) = reads multicast (probePacket s k) (probeOf s k) (ap messageOf (probe-back s ok k))
   output-reads (Response set) =
-      subst (λ (p : List ℕ). ReadAs readAs (sends p) (unlessEmpty (responseRecords s set) (responseOf s set))) (response-none set)
+      subst (λ (p : List ℕ). ReadAs readAs (sends multicast p) (map toAll (unlessEmpty (responseRecords s set) (responseOf s set)))) (response-none set)
       (response-reads set (responseRecords s set) refl)
+
+  -- a plain reply too
+  plain-reads : (set : Set) (id : ℕ) (q : Question) → isName (q .name) ≡ true → (os : List Own) → plainRecords s set ≡ os
+      → ReadAs readAs (sends unicast (noneIfEmpty os (plainPacket s set id q))) (map toAsker (unlessEmpty os (plainReplyOf s set id q)))
+  plain-reads set id q n [] e = tt
+  plain-reads set id q n (o ∷ os) e = reads unicast (plainPacket s set id q) (plainReplyOf s set id q) (ap messageOf (plain-back s ok set id q n (λ z. clash (cc))))
+
+  plain-none : (set : Set) (id : ℕ) (q : Question) → isName (q .name) ≡ true → noneIfEmpty (plainRecords s set) (plainPacket s set id q) ≡ plainPacket s set id q
+  unfolding plainPacket
+  plain-none set id q n = simp n (none-twice (plainRecords s set) _)
+
+  pub reply-reads : (set : Set) (id : ℕ) (qs : List Question) → ((q : Question) (rest : List Question) → qs ≡ q ∷ rest → isName (q .name) ≡ true)
+      → ReadAs readAs (sends unicast (plainFor s set id qs)) (map toAsker (repliesFor s set id qs))
+  unfolding repliesFor
+  reply-reads set id [] n = tt
+  reply-reads set id (q ∷ []) n =
+      let is-name : isName (q .name) ≡ true = n q [] refl in
+      subst (λ (p : List ℕ). ReadAs readAs (sends unicast p) (map toAsker (unlessEmpty (plainRecords s set) (plainReplyOf s set id q))))
+      (plain-none set id q is-name) (plain-reads set id q is-name (plainRecords s set) refl)
+  reply-reads set id (q ∷ (r ∷ rs)) n = tt

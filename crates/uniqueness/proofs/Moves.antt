@@ -19,6 +19,8 @@ use Rattle.claims.specs.steps.Steps.{claimDue, takenAction}
 use Rattle.claims.specs.declared.steps.Action.the-variants as action
 use Rattle.claims.specs.declared.steps.Output.{Output}
 use Rattle.claims.specs.declared.steps.Output.the-variants.{Probe, Response}
+use Rattle.claims.proofs.answers.Receives.{plain-claim}
+use Rattle.facts.specs.Facts.{factsOf}
 use Rattle.claims.proofs.steps.Moves.{Move, stays, probes, announces, repeats, tick-move}
 use Rattle.writer.specs.own_packets.Own.{responseOf, probeOf}
 use Rattle.responder.specs.Calls.{walkedOf}
@@ -71,7 +73,7 @@ module _ (x : State) (ok : validSetup (x .setup) ≡ true) (k : Claim) where
     soon : (i : ℕ) → law.probing i (afterMs now 250) ≡ law.probing i (now + 250)
     soon i = ap (law.probing i) (after-exact now 250 time (omega arith))
 
-    sent-probe : output ≡ Probe (ownClaim k) → Among (probeOf (x .setup) (ownClaim k)) (law.out responder rules x (law.ticks tick))
+    sent-probe : output ≡ Probe (ownClaim k) → Among (law.toAll (probeOf (x .setup) (ownClaim k))) (law.out responder rules x (law.ticks tick))
     unfolding messagesFor
     sent-probe e = in-out x ok (law.ticks tick) (Probe (ownClaim k)) (probeOf (x .setup) (ownClaim k)) e (inl refl)
 
@@ -124,3 +126,4 @@ module _ (x : State) (ok : validSetup (x .setup) ≡ true) (k : Claim) where
   pub move : (c : law.Step responder) → law.timeOf responder c ≤ lastTime → Moved c
   move (law.ticks tick) time = ticked tick time (tick-move (ownClaim k) aaaa′ (tick .time) (x .progress))
   move (law.hears arrival m) time = told-by arrival m (heard x arrival m k)
+  move (law.serves arrival m) time = law.stays (ap stageOf (plain-claim (arrival .time) (factsOf (x .setup) m) aaaa′ (ownClaim k) (x .progress)))

@@ -1,33 +1,37 @@
 -- What one accepted call sends, in messages, and what is kept of that: laws `noted` and `said`. Assumes nothing.
 use mathlib.Core.Path.{_≡_, refl, sym, ap, subst, _∙_}
 use mathlib.Core.Logic.{_⊎_, inl, inr}
-use mathlib.Core.Bool.{Bool, true, false}
+use mathlib.Core.Bool.{Bool, true, false, not, _&&_}
 use mathlib.Core.Option.{some}
-use mathlib.Core.List.{List}
+use mathlib.Core.List.{List, [], _∷_, map}
 use Prim.Native.Nat.{ℕ}
-use Rattle.wire.specs.message.Message.{Message, isResponse}
+use Rattle.wire.specs.message.Message.{Question, Message, isResponse}
 use Rattle.own.specs.records.Setups.{validSetup}
 use Rattle.own.specs.records.Records.{hasRecord}
 use Rattle.claims.specs.Time.{sentOf, marked}
 use Rattle.claims.specs.Claims.{claimOf, heldNow}
 use Rattle.claims.specs.records.Own.{has}
-use Rattle.claims.specs.records.Sets.{under}
+use Rattle.claims.specs.records.Sets.{withData, under}
 use Rattle.claims.specs.declared.records.Claim as own
 use Rattle.claims.specs.declared.records.Own.{Own}
 use Rattle.claims.specs.declared.ClaimState.{ClaimState}
 use Rattle.claims.specs.declared.When.{When}
 use Rattle.claims.specs.declared.Multicasts.{Multicasts}
+use Rattle.claims.specs.declared.Progress.{Progress}
 use Rattle.claims.specs.declared.records.Set.{Set}
 use Rattle.claims.specs.steps.Tick.{concerns}
 use Rattle.claims.specs.declared.steps.Output.{Output}
 use Rattle.claims.specs.declared.steps.Output.the-variants.{Nothing, Probe, Response}
 use Rattle.claims.proofs.steps.Ticks.{sentBy, tick-sent}
 use Rattle.claims.proofs.steps.Moves.{Move, stays, probes, announces, repeats, tick-move}
-use Rattle.claims.specs.answers.Answers.{receiveOf}
+use Rattle.claims.specs.answers.Answers.{receiveOf, isDue, dueOf, plainOf}
 use Rattle.claims.specs.declared.answers.Facts.{Facts}
+use Rattle.claims.specs.records.Own.{carriesData, claimFor, present}
+use Rattle.claims.proofs.records.Sets.{has-each}
 use Rattle.claims.proofs.answers.Causes.{IsDue, only-due, at-once}
+use Rattle.claims.proofs.answers.Receives.{plain-claim}
 use Rattle.facts.specs.Facts.{factsOf}
-use Rattle.writer.specs.own_packets.Own.{responseRecords, responseOf, probeOf}
+use Rattle.writer.specs.own_packets.Own.{responseRecords, responseOf, probeOf, plainRecords, plainReplyOf}
 use Rattle.responder.specs.Calls.{walkedOf}
 use Rattle.responder.specs.declared.State.{State}
 use Rattle.link.specs.Responder.{Claim}
@@ -35,10 +39,10 @@ use Rattle.link.specs.Premises.{Among}
 use Rattle.link.specs.Laws as law
 use Rattle.responder.specs.Handed.{Arrival, Tick}
 use Rattle.uniqueness.specs.Responder.{ownClaim, claimRecord, rdata, name, responds, responder}
-use Rattle.uniqueness.specs.Rules.{messagesFor, told, progressOf, outputOf, stageOf, claimAt, timeOf as sentTime, timeIn, rules}
-use Rattle.uniqueness.proofs.Lists.{clash, never, and-left}
+use Rattle.uniqueness.specs.Rules.{messagesFor, repliesFor, toAsker, told, served, progressOf, outputOf, stageOf, claimAt, timeOf as sentTime, timeIn, rules}
+use Rattle.uniqueness.proofs.Lists.{clash, never, and-left, and-right, in-map, out-map}
 use Rattle.uniqueness.proofs.Owned.{Has, has-data, own-claim, own-at-once}
-use Rattle.uniqueness.proofs.Messages.{only-one, goes-out, carries, name-said}
+use Rattle.uniqueness.proofs.Messages.{only-one, goes-out, carries, name-said, plain-said}
 use Rattle.uniqueness.proofs.Hearing.{Hears, same, yields, defers, heard}
 use Rattle.uniqueness.proofs.Facts.{stage-held, announce-held, repeat-held, marks, OneOf, one-of, facts-response, is-response, query-flag, unless-out}
 
@@ -50,14 +54,20 @@ module _ (x : State) (ok : validSetup (x .setup) ≡ true) where
   timeOf c = law.timeOf responder c
 
   sent-is : (c : law.Step responder) → progressOf x c .sent ≡ sentBy (outputOf x c) (x .progress .sent) (timeOf c)
-  unfolding receiveOf
+  unfolding receiveOf plainOf
   sent-is (law.ticks t) = tick-sent (t .time) aaaa′ (x .progress)
   sent-is (law.hears arrival m) = refl
+  sent-is (law.serves arrival m) = refl
 
   pub in-out :
       (c : law.Step responder) (o : Output) (m : Message) → outputOf x c ≡ o → Among m (messagesFor (x .setup) o)
-      → Among m (law.out responder rules x c)
-  in-out c o m e h = subst (λ (l : List Message). Among m l) (sym (ap (messagesFor (x .setup)) e)) h
+      → Among (law.toAll m) (law.out responder rules x c)
+  unfolding messagesFor
+  in-out (law.ticks t) o m e h =
+      in-map law.toAll m (messagesFor (x .setup) (outputOf x (law.ticks t))) (subst (λ (l : List Message). Among m l) (sym (ap (messagesFor (x .setup)) e)) h)
+  in-out (law.hears a b) o m e h =
+      in-map law.toAll m (messagesFor (x .setup) (outputOf x (law.hears a b))) (subst (λ (l : List Message). Among m l) (sym (ap (messagesFor (x .setup)) e)) h)
+  in-out (law.serves a b) o m e h = absurd (subst (λ (p : Output). Among m (messagesFor (x .setup) p)) (sym e) h)
 
   -- ---- what is multicast
 
@@ -148,6 +158,7 @@ module _ (x : State) (ok : validSetup (x .setup) ≡ true) where
   said-by (law.hears arrival m) k set e u =
       let z : told x arrival m .answers ≡ set = cc in
       hear-said arrival m k (subst (λ (r : Set). under (ownClaim k) r ≡ true) (sym z) u)
+  said-by (law.serves arrival m) k set e u = clash (cc)
 
   says-not : (m : Message) (n : List ℕ) → isResponse (m .flags) ≡ false → responds m n ≡ true → ⊥
   unfolding responds
@@ -168,6 +179,44 @@ module _ (x : State) (ok : validSetup (x .setup) ≡ true) where
       (subst (λ (n : Message). responds n (name (x .setup) k) ≡ true)
       (unless-out (responseRecords (x .setup) set) (responseOf (x .setup) set) m h) s))
 
-  pub said : (c : law.Step responder) (k : Claim) (m : Message) → Among m (law.out responder rules x c) → responds m (name (x .setup) k) ≡ true
+  -- a plain reply is sent of held claims alone
+  due-held : (progress : Progress) (f : Facts) (o : Own) → isDue progress f aaaa′ o ≡ true → heldNow (claimOf (claimFor o) progress) ≡ true
+  due-held progress f o h =
+      and-left (heldNow (claimOf (claimFor o) progress)) (present o aaaa′ && has o (f .asked))
+      (and-right (not (f .response)) (heldNow (claimOf (claimFor o) progress) && (present o aaaa′ && has o (f .asked))) h)
+
+  serve-held : (arrival : Arrival) (m : Message) (k : Claim) → under (ownClaim k) (withData (served x arrival m .answers)) ≡ true → HeldThen (law.serves arrival m) k
+  unfolding withData plainOf dueOf
+  serve-held arrival m k u =
+      let f : Facts = factsOf (x .setup) m in
+      let one : OneOf k (withData (served x arrival m .answers)) = one-of k (withData (served x arrival m .answers)) u in
+      let o : Own = one .own in
+      let there : (carriesData o && has o (served x arrival m .answers)) ≡ true = sym (has-each (λ p. carriesData p && has p (served x arrival m .answers)) o) ∙ one .there in
+      let due : isDue (x .progress) f aaaa′ o ≡ true =
+      sym (has-each (isDue (x .progress) f aaaa′) o) ∙ and-right (carriesData o) (has o (served x arrival m .answers)) there in
+      let was-held : heldNow (claimAt x k) ≡ true =
+      subst (λ (j : own.Claim). heldNow (claimOf j (x .progress)) ≡ true) (own-claim k (one .type) o (one .is)) (due-held (x .progress) f o due) in
+      ap stageOf (plain-claim (arrival .time) f aaaa′ (ownClaim k) (x .progress)) ∙ stage-held (claimAt x k) was-held
+
+  serve-said : (arrival : Arrival) (b : Message) (k : Claim) (qs : List Question) (m : Message)
+      → Among m (repliesFor (x .setup) (served x arrival b .answers) (b .id) qs) → responds m (name (x .setup) k) ≡ true → HeldThen (law.serves arrival b) k
+  unfolding repliesFor
+  serve-said arrival b k [] m h s = absurd h
+  serve-said arrival b k (q ∷ []) m h s =
+      serve-held arrival b k
+      (plain-said (x .setup) ok (served x arrival b .answers) (b .id) q k
+      (subst (λ (n : Message). responds n (name (x .setup) k) ≡ true)
+      (unless-out (plainRecords (x .setup) (served x arrival b .answers)) (plainReplyOf (x .setup) (served x arrival b .answers) (b .id) q) m h) s))
+  serve-said arrival b k (q ∷ (r ∷ rs)) m h s = absurd h
+
+  pub said : (c : law.Step responder) (k : Claim) (q : law.Sent Message) → Among q (law.out responder rules x c) → responds (q .message) (name (x .setup) k) ≡ true
       → rules .stage (law.next responder rules x c) k ≡ law.held
-  said c k m h s = said-as c k m (outputOf x c) refl h s
+  said (law.ticks t) k q h s =
+      let m = out-map law.toAll q (messagesFor (x .setup) (outputOf x (law.ticks t))) h in
+      said-as (law.ticks t) k (m .0) (outputOf x (law.ticks t)) refl (m .1) (ap (λ (y : law.Sent Message). responds (y .message) (name (x .setup) k)) (sym (m .2)) ∙ s)
+  said (law.hears a b) k q h s =
+      let m = out-map law.toAll q (messagesFor (x .setup) (outputOf x (law.hears a b))) h in
+      said-as (law.hears a b) k (m .0) (outputOf x (law.hears a b)) refl (m .1) (ap (λ (y : law.Sent Message). responds (y .message) (name (x .setup) k)) (sym (m .2)) ∙ s)
+  said (law.serves a b) k q h s =
+      let m = out-map toAsker q (repliesFor (x .setup) (served x a b .answers) (b .id) (b .questions)) h in
+      serve-said a b k (b .questions) (m .0) (m .1) (ap (λ (y : law.Sent Message). responds (y .message) (name (x .setup) k)) (sym (m .2)) ∙ s)

@@ -19,7 +19,7 @@ use Rattle.claims.specs.declared.steps.Step.{Step}
 use Rattle.claims.proofs.steps.Ticks.{tick-last}
 use Rattle.claims.proofs.steps.Settles.{three-ticks}
 use Rattle.responder.specs.Refusals.{tickRefusal}
-use Rattle.responder.specs.Calls.{answerOf, walkedOf, tickedPacket, tickOf}
+use Rattle.responder.specs.Calls.{multicast, answerOf, walkedOf, tickedPacket, tickOf}
 use Rattle.responder.specs.Runs.{ticked}
 use Rattle.responder.specs.declared.State.{State}
 use Rattle.responder.proofs.Closure.{Sound, sound-time, accepted-sound}
@@ -49,7 +49,7 @@ module _ (t : Tick) (time : t .time ≤ lastTime) (long : 1452 ≤ t .room) wher
       let e : wrongTime (x .progress) now ≡ false = sound-time x now s ∙ rw (le-ltb lastTime now time, le-ltb now (x .progress .last) l) refl in
       rw (e, le-ltb (t .room) 1452 long, s .right) refl
 
-  answered : (n : ℕ) (p : List ℕ) (y : State) → n ≡ 0 → answeredBy (answerOf n p) y p ≡ link.accepted y (sends p)
+  answered : (n : ℕ) (p : List ℕ) (y : State) → n ≡ 0 → answeredBy (answerOf n multicast p) y p ≡ link.accepted y (sends multicast p)
   answered n [] y e = rw e refl
   answered n (b ∷ bs) y e = rw e refl
 
@@ -57,9 +57,9 @@ module _ (t : Tick) (time : t .time ≤ lastTime) (long : 1452 ≤ t .room) wher
   unfolding tick tickOf
   accepts x s l =
       let n = not-refused x s l in (
-        sends (tickedPacket x t),
+        sends multicast (tickedPacket x t),
         answered (tickRefusal x t) (tickedPacket x t) (tickOf x t .state) n
-            ∙ ap (λ (y : State). link.accepted y (sends (tickedPacket x t))) (ticked-state x t n),
+            ∙ ap (λ (y : State). link.accepted y (sends multicast (tickedPacket x t))) (ticked-state x t n),
       )
 
   sound-next : (x : State) → Sound x → x .progress .last ≤ now → Sound (next x)

@@ -58,6 +58,15 @@ tickAt d ahead t = at t (ticks d (record { time = t + ahead; room = 1452 }))
 abbrev pub hearAt : ℕ → ℕ → ℕ → List ℕ → Entry responder
 hearAt d ahead t p = at t (receives d (record { time = t + ahead; port = 5353; draw = 20; packet = p; room = 1452 }))
 
+-- a query that comes from a plain resolver, and one for the address of "h"
+abbrev pub askAt : ℕ → ℕ → ℕ → List ℕ → Entry responder
+askAt d ahead t p = at t (receives d (record { time = t + ahead; port = 1024; draw = 20; packet = p; room = 1452 }))
+
+unfoldable pub plainQuery : List ℕ
+plainQuery =
+    0x12 ∷ 0x34 ∷ 1 ∷ 0 ∷ 0 ∷ 1 ∷ 0 ∷ 0 ∷ 0 ∷ 0 ∷ 0 ∷ 0
+    ∷ 1 ∷ 0x68 ∷ 5 ∷ 0x6c ∷ 0x6f ∷ 0x63 ∷ 0x61 ∷ 0x6c ∷ 0 ∷ 0 ∷ 1 ∷ 0 ∷ 1 ∷ []
+
 -- The largest draw, and every step 50 ms late: both names are held 1,200 ms after the start.
 unfoldable pub alone : List (Entry responder)
 alone =
@@ -74,7 +83,7 @@ alone =
     ∷ []
 
 -- The first holds its names when the second starts, whose clock is 5,000 ms ahead; steps come up to 50 ms late, packets up to 100 ms. The second hears
--- the first's answer to its probe and loses the instance name; its host name it comes to hold.
+-- the first's answer to its probe and loses the instance name; its host name it comes to hold. At the end the first answers a plain resolver, which the second need not hear.
 unfoldable pub contest : List (Entry responder)
 contest =
     at 0 (starts one 0 0)
@@ -101,6 +110,9 @@ contest =
     ∷ tickAt 0 0 1850
     ∷ hearAt 0 0 1870 (responsePacket other (recordsOf Host false))
     ∷ hearAt 9 5000 1900 (responsePacket one (only Ptr))
+    ∷ hearAt 9 5000 1905 (responsePacket one (recordsOf Host false))
+    ∷ askAt 0 0 1910 plainQuery
+    ∷ tickAt 0 0 2011
     ∷ []
 
 -- Both start in one millisecond. The first hears the second's probe, whose records are later, and is deferred; then its announcement, and loses the

@@ -27,7 +27,7 @@ use Rattle.responder.specs.Calls as calls
 use Rattle.responder.specs.Calls.{startOf, receivedPacket, receiveOf, tickedPacket, tickOf}
 use Rattle.responder.specs.declared.State.{State}
 use Rattle.responder.specs.declared.Answer.{Answer}
-use Rattle.responder.specs.declared.Answer.the-variants.{Refused, Quiet, Sent}
+use Rattle.responder.specs.declared.Answer.the-variants.{Refused, Quiet, Sent, Unicast}
 use Rattle.link.specs.Responder as link
 use Rattle.link.specs.Responder.{Responder, Claim, instance, host, Parcel}
 
@@ -43,23 +43,26 @@ abbrev pub begunBy : Answer → State → Option State
 begunBy (Refused n) x = none
 begunBy Quiet x = some x
 begunBy (Sent n) x = some x  -- never: a start sends nothing
+begunBy (Unicast n) x = some x  -- nor this
 
 -- a parcel in `link`'s words
 abbrev pub destination : calls.Destination → link.Destination
 destination calls.multicast = link.everyone
+destination calls.unicast = link.asker
 
 abbrev pub posted : calls.Parcel → Parcel
 posted p = record { to = destination (p .to); bytes = p .bytes }
 
 -- what is sent of a packet, nothing where it is empty
-abbrev pub sends : List ℕ → List Parcel
-sends p = map posted (calls.parcels p)
+abbrev pub sends : calls.Destination → List ℕ → List Parcel
+sends to p = map posted (calls.parcels to p)
 
 -- what a call that may send answers: `p` is the packet that it lays over the out buffer, empty where it sends none
 abbrev pub answeredBy : Answer → State → List ℕ → link.Answer State
 answeredBy (Refused n) x p = link.refused
-answeredBy Quiet x p = link.accepted x (sends p)
-answeredBy (Sent n) x p = link.accepted x (sends p)
+answeredBy Quiet x p = link.accepted x (sends calls.multicast p)
+answeredBy (Sent n) x p = link.accepted x (sends calls.multicast p)
+answeredBy (Unicast n) x p = link.accepted x (sends calls.unicast p)
 
 unfoldable pub start : Setup → ℕ → ℕ → Option State
 start s now draw = begunBy (startOf s now draw .answer) (startOf s now draw .state)

@@ -3,14 +3,15 @@
 use mathlib.Core.Path.{_≡_}
 use mathlib.Core.Bool.{true, false}
 use mathlib.Core.Option.{Option, none, some}
-use mathlib.Core.List.{List, [], _∷_}
+use mathlib.Core.List.{List, [], _∷_, map}
 use Prim.Native.Nat.{ℕ, _≤_}
-use Rattle.wire.specs.message.Message.{Message, isResponse}
+use Rattle.wire.specs.message.Message.{Question, Message, isResponse}
 use Rattle.own.specs.declared.records.Setup.{Setup}
 use Rattle.own.specs.records.Setups.{validSetup}
 use Rattle.claims.specs.Time.{lastTime, sentOf}
 use Rattle.claims.specs.Claims as claims
 use Rattle.claims.specs.declared.records.Own.{Own}
+use Rattle.claims.specs.declared.records.Set.{Set}
 use Rattle.claims.specs.declared.ClaimState.{ClaimState}
 use Rattle.claims.specs.declared.ClaimState.the-variants.{Waiting, Probing1, Probing2, Probing3, Deferred, Announced, Held, Lost}
 use Rattle.claims.specs.declared.When.{When}
@@ -23,12 +24,12 @@ use Rattle.claims.specs.answers.Answers as answers
 use Rattle.claims.specs.declared.answers.Received as heard
 use Rattle.facts.specs.Facts.{factsOf}
 use Rattle.writer.specs.own_packets.Styles.{responseStyle, ownRecord}
-use Rattle.writer.specs.own_packets.Own.{responseRecords, responseOf, probeOf}
+use Rattle.writer.specs.own_packets.Own.{responseRecords, responseOf, probeOf, plainRecords, plainReplyOf}
 use Rattle.responder.specs.Calls.{walkedOf}
 use Rattle.responder.specs.declared.State.{State}
-use Rattle.link.specs.Responder.{Claim}
+use Rattle.link.specs.Responder.{Claim, asker}
 use Rattle.link.specs.Laws as law
-use Rattle.link.specs.Laws.{Rules, Stage, waiting, probing, held, apart}
+use Rattle.link.specs.Laws.{Rules, Sent, toAll, Stage, waiting, probing, held, apart}
 use Rattle.link.specs.Premises.{Among}
 use Rattle.responder.specs.Handed.{Arrival}
 use Rattle.uniqueness.specs.Responder.{ownClaim, claimRecord, responder}
@@ -43,6 +44,15 @@ messagesFor s Nothing = []
 messagesFor s (Probe k) = probeOf s k ∷ []
 messagesFor s (Response set) = unlessEmpty (responseRecords s set) (responseOf s set)
 
+-- the message of a plain reply, where the query has just one question
+unfoldable pub repliesFor : Setup → Set → ℕ → List Question → List Message
+repliesFor s set id [] = []
+repliesFor s set id (q ∷ []) = unlessEmpty (plainRecords s set) (plainReplyOf s set id q)
+repliesFor s set id (q ∷ (r ∷ rs)) = []
+
+abbrev pub toAsker : Message → Sent Message
+toAsker m = record { to = asker; message = m }
+
 -- the state with the progress that a call leaves
 abbrev pub with : State → Progress → State
 with x progress = record { setup = x .setup; progress = progress }
@@ -51,17 +61,28 @@ with x progress = record { setup = x .setup; progress = progress }
 abbrev pub told : State → Arrival → Message → heard.Received
 told x a m = answers.receiveOf (x .progress) (a .time) (a .draw) (factsOf (x .setup) m) (x .setup .hasaaaa)
 
--- what an accepted call leaves and sends
+-- what a query from a plain resolver does to it
+abbrev pub served : State → Arrival → Message → heard.Received
+served x a m = answers.plainOf (x .progress) (a .time) (factsOf (x .setup) m) (x .setup .hasaaaa)
+
+-- what an accepted call leaves, what it sends to all, and all that it sends
 abbrev pub progressOf : State → law.Step responder → Progress
 progressOf x (law.ticks t) = walkedOf x (t .time) .progress
 progressOf x (law.hears a m) = told x a m .progress
+progressOf x (law.serves a m) = served x a m .progress
 
 abbrev pub outputOf : State → law.Step responder → Output
 outputOf x (law.ticks t) = walkedOf x (t .time) .output
 outputOf x (law.hears a m) = Response (told x a m .answers)
+outputOf x (law.serves a m) = Nothing
 
-abbrev pub step : State → law.Step responder → State × List Message
-step x c = (with x (progressOf x c), messagesFor (x .setup) (outputOf x c))
+abbrev pub sentIn : State → law.Step responder → List (Sent Message)
+sentIn x (law.ticks t) = map toAll (messagesFor (x .setup) (outputOf x (law.ticks t)))
+sentIn x (law.hears a m) = map toAll (messagesFor (x .setup) (outputOf x (law.hears a m)))
+sentIn x (law.serves a m) = map toAsker (repliesFor (x .setup) (served x a m .answers) (m .id) (m .questions))
+
+abbrev pub step : State → law.Step responder → State × List (Sent Message)
+step x c = (with x (progressOf x c), sentIn x c)
 
 -- a claim's stage
 abbrev pub stageOf : ClaimState → Stage

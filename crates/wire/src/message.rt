@@ -6,7 +6,7 @@ ghost use Rattle.wire.specs.message.Layout.{questionRead, recordRead, qu
 ghost use Rattle.wire.specs.message.Layout.{sectionsOf, plainHeader, messageAt, readOf, refusalOf};
 ghost use Rattle.wire.specs.message.Places.{pastItem, pastList};
 ghost use Rattle.wire.specs.message.Readable.{wholeRead};
-ghost use Rattle.wire.specs.message.Refusals.{packetRefusal, messageFrom};
+ghost use Rattle.wire.specs.message.Refusals.{wrongPort, packetRefusal, messageFrom};
 use crate::names::Span;
 
 pub const LEAST_MESSAGE: usize = 12;
@@ -16,8 +16,11 @@ pub const MOST_MESSAGE: usize = 8972;
 // The longest message that one Ethernet frame carries. A longer one is read with notes (`long_message`), whose clearing costs more than reading a short one.
 pub const MOST_IN_FRAME: usize = 1472;
 
-// The port that messages come from.
+// The port that responses come from, and queries of those who take part in mDNS.
 pub const MDNS_PORT: u16 = 5353;
+
+// Flags from here on have the QR bit: a response.
+const RESPONSE: u16 = 32768;
 
 // A question as it lies: where its name starts and the span of that, its type and class, and the offset past it.
 pub struct QuestionAt {
@@ -308,6 +311,16 @@ pub fn read_message(p: &[u8]) -> MessageRead
     read_sections(p)
 }
 
+// Whether the port that a packet came from is wrong: a response comes from 5353, a query from any.
+fn port_refused(p: &[u8], port: u16) -> bool
+    ensures { λ r. ⌜ r ≡ wrongPort port (now (p .entry)) ⌝ }
+{
+    if crate::octets::be16(p, 2) < RESPONSE {
+        return false;
+    }
+    port != MDNS_PORT
+}
+
 // The message of a packet that came from a port: refused as 4, 5 or 6, in this order, or where its sections lie. From a wrong port nothing is read.
 pub fn read_from(p: &[u8], port: u16) -> MessageRead
     ensures { λ r. ⌜ r ≡ readOf (messageFrom port (now (p .entry))) ⌝ }
@@ -318,7 +331,7 @@ pub fn read_from(p: &[u8], port: u16) -> MessageRead
     if MOST_MESSAGE < p.len() {
         return MessageRead::Refused(crate::refusals::LENGTH);
     }
-    if port != MDNS_PORT {
+    if port_refused(p, port) {
         return MessageRead::Refused(crate::refusals::HEADER);
     }
     read_message(p)

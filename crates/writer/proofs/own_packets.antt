@@ -3,3 +3,4 @@ pub mod Owned
 pub mod Picking
 pub mod Room
 pub mod Answering
+pub mod Plain

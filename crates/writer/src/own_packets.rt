@@ -1,5 +1,5 @@
 // Writes the own packets (specification, 'Writing a packet': "ID 0. Responses have flags 0x8400, probes 0. .. by rising type, class 1."): a response of
-// any of the own records, and a claim's probe. Questions and records are put by `writer`.
+// any of the own records, a claim's probe, and a reply to a plain resolver. Questions and records are put by `writer`.
 use crate::Placed;
 use crate::Spot;
 use claims::records::Claim;
@@ -15,18 +15,26 @@ ghost use lib.ListN.{length};
 ghost use Rattle.claims.specs.records.Own.{records};
 ghost use lib.Seq.{sets};
 ghost use Rattle.writer.specs.Items.{putQuestion, putRecord};
-ghost use Rattle.writer.specs.Writer.{heldIn, Grown};
+ghost use Rattle.wire.specs.message.Message.{Question};
+ghost use Rattle.writer.specs.Writer.{questionOf, heldIn, Grown};
 ghost use Rattle.writer.specs.own_packets.Packets.{putAll, headerBytes};
 ghost use Rattle.writer.specs.own_packets.Ready.{HeaderReady, spotAfter, OwnReady, Picks, listed, ListReady, AskReady, PacketReady};
-ghost use Rattle.writer.specs.own_packets.Styles.{responseStyle, probeStyle, classIn, ttlIn, asked, ownRecord, packetIn};
-ghost use Rattle.writer.specs.own_packets.Own.{refusalOf, lengthOf, responseRecords, probeRecords, responsePacket, probePacket};
+ghost use Rattle.writer.specs.own_packets.Styles.{responseStyle, probeStyle, plainStyle, classIn, ttlIn, asked, ownRecord, packetIn};
+ghost use Rattle.writer.specs.own_packets.Own.{refusalOf, lengthOf, responseRecords, probeRecords, responsePacket, probePacket, plainPacket};
 ghost use Rattle.writer.specs.own_packets.Own.{refusal, unlessRefused, writtenOf, laidOver};
 
 // The least buffer that a packet is written into.
 pub const LEAST_OUT: usize = 1452;
 
-// How many offsets of labels are noted in a packet at most: all own records with their names whole have 33.
-const MOST_PLACES: usize = 40;
+// How many offsets of labels are noted in a packet at most: a question's name has at most 127, the own records that a plain reply may have 21 with their names
+// whole, and all own records 33.
+const MOST_PLACES: usize = 148;
+
+// The flags of a response: the QR and the AA bit.
+const RESPONSE_FLAGS: u16 = 0x8400;
+
+// The TTL of records in a reply to a plain resolver.
+const PLAIN_TTL: u32 = 10;
 
 // Which TTL records are written with: each its own, or one for all.
 pub enum TtlRule {
@@ -67,7 +75,7 @@ fn response_style() -> Style
 {
     Style {
         id: 0,
-        flags: 0x8400,
+        flags: RESPONSE_FLAGS,
         asks: false,
         qtype: 0,
         qclass: 0,
@@ -92,6 +100,23 @@ fn probe_style() -> Style
         ttl: TtlRule::Each,
         flush: false,
         whole: false,
+    }
+}
+
+// A reply to a plain resolver repeats the ID and the question of its query, and says nothing that is for caches of mDNS alone.
+fn plain_style(id: u16, qtype: u16, qclass: u16) -> Style
+    ensures { λ r. ⌜ r ≡ plainStyle id qtype qclass ⌝ }
+{
+    Style {
+        id,
+        flags: RESPONSE_FLAGS,
+        asks: true,
+        qtype,
+        qclass,
+        authority: false,
+        ttl: TtlRule::Fixed(PLAIN_TTL),
+        flush: false,
+        whole: true,
     }
 }
 
@@ -342,4 +367,39 @@ pub fn probe(s: Setup, claim: Claim, out: &mut [u8]) -> Written
     let name = owner.bytes;
     let len = owner.len;
     Written::Sent(write_packet(s, probe_style(), &name[..len], list, out))
+}
+
+// Writes a reply to the question of a plain resolver, with the ID of its query: the chosen ones of the own records that carry data and that the set-up has.
+pub fn plain_reply(
+    s: Setup,
+    chosen: Set,
+    id: u16,
+    name: &[u8],
+    qtype: u16,
+    qclass: u16,
+    out: &mut [u8],
+) -> Written
+    ensures answer { λ r. ⌜ (let q : Question = questionOf (now (name .entry)) qtype qclass in
+        r ≡ writtenOf (refusal s (now (out .entry))) (plainPacket s chosen id q)) ⌝ }
+    ensures out { λ _. ⌜ (let q : Question = questionOf (now (name .entry)) qtype qclass in
+        now (out .exit) ≡ laidOver (unlessRefused (refusal s (now (out .entry))) (plainPacket s chosen id q)) (now (out .entry))) ⌝ }
+    ensures number { λ r. ⌜ refusalOf r ≡ refusal s (now (out .entry)) ⌝ }
+    ensures sent { λ r. ⌜ (let q : Question = questionOf (now (name .entry)) qtype qclass in
+        lengthOf r ≡ length (unlessRefused (refusal s (now (out .entry))) (plainPacket s chosen id q))) ⌝ }
+{
+    if out.len() < LEAST_OUT {
+        return Written::Refused(wire::refusals::BUFFER);
+    }
+    if !own::setups::check_setup(s) {
+        return Written::Refused(wire::refusals::SETUP);
+    }
+    if !wire::names::is_name(name) {
+        return Written::Nothing;
+    }
+    let records = pick(s, claims::records::with_data(chosen));
+    if records.n == 0 {
+        return Written::Nothing;
+    }
+    let style = plain_style(id, qtype, qclass);
+    Written::Sent(write_packet(s, style, name, records, out))
 }

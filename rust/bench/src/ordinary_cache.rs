@@ -87,12 +87,13 @@ impl OrdinaryCache {
         if matches!(checked, Err(Refusal::MessageLength | Refusal::Header)) {
             return checked.map(|()| Counts::default());
         }
-        if u64::from(port) != MDNS_PORT {
+        let is_response = packet[2] & 0x80 != 0;
+        if is_response && u64::from(port) != MDNS_PORT {
             return Err(Refusal::Header);
         }
         checked?;
         let mut counts = Counts::default();
-        if packet[2] & 0x80 != 0 {
+        if is_response {
             self.take_records(now, packet, &mut counts);
         }
         Ok(counts)

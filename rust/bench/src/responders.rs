@@ -59,6 +59,7 @@ impl Calls for Proved {
         self.responder
             .receive(self.now, PORT, 20, packet, &mut self.out)
             .expect("accepted")
+            .to_all
     }
 
     fn tick(&mut self, gap: u64) -> usize {
@@ -76,6 +77,7 @@ impl Calls for Reference {
         self.responder
             .receive(self.now, PORT.into(), 20, packet, &mut self.out)
             .expect("accepted")
+            .multicast
             .unwrap_or(0)
     }
 

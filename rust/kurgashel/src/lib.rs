@@ -31,7 +31,7 @@ pub use reader::{
     message_refusal, name_end, name_length, Data, Message, Name, Nsec, Question, Record, Section,
     Srv, Strings,
 };
-pub use responder::{Claim, Responder, Ticked, OUT_BYTES, PORT, STATE_BYTES};
+pub use responder::{Claim, Received, Responder, Ticked, OUT_BYTES, PORT, STATE_BYTES};
 pub use setup::{Setup, SETUP_BYTES};
 
 /// Why a call was refused, by the specification's number.

@@ -16,6 +16,7 @@ pub const OUT_BYTES: usize = 1452;
 struct Answer {
     refusal: u8,
     more: bool,
+    unicast: bool,
     length: usize,
 }
 
@@ -85,6 +86,15 @@ impl Claim {
     }
 }
 
+/// What a packet received gives: the lengths of the packets to send, 0 for none. At most one of them is not 0, and that packet is in the out buffer.
+#[derive(Clone, Copy, Debug, Default, PartialEq, Eq)]
+pub struct Received {
+    /// Of the packet that goes to all, by multicast.
+    pub to_all: usize,
+    /// Of the packet that goes to the address and port that the packet received came from, and to no other.
+    pub to_sender: usize,
+}
+
 /// What a tick gives: the length of the packet to send, 0 for none, and whether more is due at the same time.
 #[derive(Clone, Copy, Debug, PartialEq, Eq)]
 pub struct Ticked {
@@ -131,7 +141,8 @@ impl Responder {
         &self.state
     }
 
-    /// Takes a packet that came from `port`; `draw` is random, 20 to 120 ms. Gives the length of the packet to send, in `out`, 0 for none.
+    /// Takes a packet that came from `port`; `draw` is random, 20 to 120 ms. What is to be sent at once is in `out`; a plain resolver, which asks from a port
+    /// other than 5353, is answered by unicast.
     pub fn receive(
         &mut self,
         now: u64,
@@ -139,7 +150,7 @@ impl Responder {
         draw: u64,
         packet: &[u8],
         out: &mut [u8],
-    ) -> Result<usize, Refusal> {
+    ) -> Result<Received, Refusal> {
         let state = &mut self.state;
         // SAFETY: each pointer and length are those of one slice; the two that are written are borrowed for this call alone.
         let answer = unsafe {
@@ -155,7 +166,16 @@ impl Responder {
                 out.len(),
             )
         };
-        Refusal::check(answer.refusal).map(|()| answer.length)
+        Refusal::check(answer.refusal).map(|()| match answer.unicast {
+            false => Received {
+                to_all: answer.length,
+                to_sender: 0,
+            },
+            true => Received {
+                to_all: 0,
+                to_sender: answer.length,
+            },
+        })
     }
 
     /// Takes the steps that are due, up to the first that sends; its packet is in `out`. Call it when a step is due ([`Responder::due`]), at most 50 ms

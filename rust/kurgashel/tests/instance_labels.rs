@@ -220,6 +220,7 @@ fn seven_comes_after_the_time_the_draw_and_the_message() {
     let mut responder = Responder::from_bytes(state);
     let mut out = [0; OUT_BYTES];
     let query = [0; 12];
+    let response = [0, 0, 0x84, 0, 0, 0, 0, 0, 0, 0, 0, 0];
     let mut receive = |now, port, draw, packet: &[u8], room| {
         responder
             .receive(now, port, draw, packet, &mut out[..room])
@@ -229,7 +230,11 @@ fn seven_comes_after_the_time_the_draw_and_the_message() {
     assert_eq!(receive(5, 1, 19, &[], 9), Some(Refusal::Draw));
     assert_eq!(receive(5, 1, 20, &[], 9), Some(Refusal::Buffer));
     assert_eq!(receive(5, 1, 20, &[], OUT_BYTES), Some(Refusal::Length));
-    assert_eq!(receive(5, 1, 20, &query, OUT_BYTES), Some(Refusal::Header));
+    assert_eq!(
+        receive(5, 1, 20, &response, OUT_BYTES),
+        Some(Refusal::Header)
+    );
+    assert_eq!(receive(5, 1, 20, &query, OUT_BYTES), Some(Refusal::Setup));
     assert_eq!(
         receive(5, PORT, 20, &[&[0; 5][..], &[1; 7]].concat(), OUT_BYTES),
         Some(Refusal::Malformed)

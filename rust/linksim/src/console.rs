@@ -15,6 +15,8 @@ pub enum Answer {
     Started,
     Quiet,
     Sent(Vec<u8>),
+    /// To where the message came from, on a port of its own: no responder hears it.
+    Unicast(Vec<u8>),
     Refused(u8),
 }
 
@@ -86,6 +88,7 @@ fn answer_of(line: &str) -> Option<Answer> {
         ["quiet"] => Some(Answer::Quiet),
         ["refused", number] => Some(Answer::Refused(number.parse().ok()?)),
         ["sent", packet] | ["sent", packet, "more"] => Some(Answer::Sent(bytes_of(packet)?)),
+        ["unicast", packet] => Some(Answer::Unicast(bytes_of(packet)?)),
         _ => None,
     }
 }
@@ -138,7 +141,11 @@ mod tests {
         let sent = Some(Answer::Sent(vec![0, 0xff]));
         assert_eq!(answer_of("sent 00ff"), sent);
         assert_eq!(answer_of("sent 00ff more"), sent);
-        for wrong in ["", "bad line", "sent", "sent 0g", "refused"] {
+        assert_eq!(
+            answer_of("unicast 00ff"),
+            Some(Answer::Unicast(vec![0, 0xff]))
+        );
+        for wrong in ["", "bad line", "sent", "unicast", "sent 0g", "refused"] {
             assert_eq!(answer_of(wrong), None);
         }
     }

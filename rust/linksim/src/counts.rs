@@ -14,6 +14,8 @@ pub struct Counts {
     pub cuts: u64,
     pub refused: u64,
     pub sent: u64,
+    /// Replies to plain resolvers.
+    pub replied: u64,
     pub heard: u64,
     /// Holdings that began: a response written under a name that was not held.
     pub held: u64,
@@ -35,6 +37,7 @@ impl Counts {
         self.cuts += other.cuts;
         self.refused += other.refused;
         self.sent += other.sent;
+        self.replied += other.replied;
         self.heard += other.heard;
         self.held += other.held;
         self.given_up += other.given_up;
@@ -64,6 +67,7 @@ impl fmt::Display for Counts {
             cuts,
             refused,
             sent,
+            replied,
             heard,
             held,
             given_up,
@@ -77,7 +81,7 @@ impl fmt::Display for Counts {
         )?;
         writeln!(
             f,
-            "{starts} responders started, {cuts} cut; {refused} calls refused; {sent} packets sent, {heard} heard"
+            "{starts} responders started, {cuts} cut; {refused} calls refused; {sent} packets sent, {heard} heard, {replied} by unicast"
         )?;
         write!(
             f,

@@ -3,6 +3,7 @@
 use std::io;
 
 use reference::message::Message;
+use reference::MDNS_PORT;
 
 use crate::console::{Answer, Claims, Console, State};
 use crate::counts::Counts;
@@ -119,6 +120,9 @@ impl Link<'_> {
             Some(_) => self.counts.refused += 1,
             None => self.accepted(entry, &claims, sent.as_ref()),
         }
+        if let Answer::Unicast(reply) = &answer {
+            self.replied(entry.console, reply);
+        }
         let outcome = Outcome {
             accepted: given.is_none(),
             sent,
@@ -143,8 +147,11 @@ impl Link<'_> {
         self.running[entry.console] = Some(running);
         self.premises
             .accepted(running.number, entry.call.clock(), claims.due);
-        if let Call::Receive { packet, .. } = &entry.call {
-            self.heard(running.number, packet);
+        match &entry.call {
+            Call::Receive { packet, port, .. } if *port == MDNS_PORT => {
+                self.heard(running.number, packet);
+            }
+            _ => (),
         }
         if let Some(packet) = sent {
             self.sent(running.number, packet);
@@ -178,6 +185,19 @@ impl Link<'_> {
     fn sent(&mut self, number: usize, packet: &Packet) {
         self.counts.sent += 1;
         self.premises.sent(number, packet);
+        self.written(number, packet);
+    }
+
+    /// A reply to a plain resolver: "demand 3 asks no delivery of it".
+    fn replied(&mut self, console: usize, reply: &[u8]) {
+        self.counts.replied += 1;
+        if let Some(number) = self.number(console) {
+            self.written(number, reply);
+        }
+    }
+
+    /// A holding begins with "the call that writes a response with a record under it".
+    fn written(&mut self, number: usize, packet: &[u8]) {
         match Message::read(packet) {
             Ok(message) => self.counts.held += self.judge.write(number, &message),
             Err(_) => self.found(Some(Violation::Unreadable { responder: number })),

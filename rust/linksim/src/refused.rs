@@ -48,7 +48,8 @@ pub fn receive(random: &mut Random, clock: u64, last: u64, packet: Packet) -> Ca
             receive(clock, MDNS_PORT, wrong, packet, LEAST_OUT)
         }
         2 => receive(clock, MDNS_PORT, draw, packet, small(random)),
-        3 => {
+        // "Refusal 5 for the port is now given only to responses."
+        3 if packet[2] & 0x80 != 0 => {
             let wrong = random.pick(&[0, 53, MDNS_PORT - 1, MDNS_PORT + 1, 65536 + MDNS_PORT]);
             receive(clock, wrong, draw, packet, LEAST_OUT)
         }

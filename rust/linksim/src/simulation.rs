@@ -23,6 +23,8 @@ const BEGIN: u64 = 1_000_000;
 /// No list is longer, so that a clock ahead by `MOST_TIME` less this stays legal.
 const MOST_LENGTH: u64 = 60_000;
 
+const OTHER_PORTS: [u64; 4] = [53, 1024, MDNS_PORT + 1, 65536 + MDNS_PORT];
+
 pub struct Simulation<'a> {
     link: Link<'a>,
     limits: Limits,
@@ -52,6 +54,11 @@ enum Event {
     },
     /// A packet is taken, from port 5353.
     Delivery {
+        to: Target,
+        packet: Packet,
+    },
+    /// A packet is taken from another port.
+    Astray {
         to: Target,
         packet: Packet,
     },
@@ -151,6 +158,7 @@ impl<'a> Simulation<'a> {
             Event::Delivery { to, packet } if !self.lives(to) => self.stale(to.console, packet),
             Event::Step { to, .. }
             | Event::Hostile { to }
+            | Event::Astray { to, .. }
             | Event::EarlyTick { to }
             | Event::Refused { to, .. }
                 if !self.lives(to) =>
@@ -160,6 +168,7 @@ impl<'a> Simulation<'a> {
             Event::Step { to, step, due } => self.step(to, step, due),
             Event::Delivery { to, packet } => self.receive(to, packet),
             Event::Hostile { to } => self.hostile(to),
+            Event::Astray { to, packet } => self.astray(to, packet),
             Event::EarlyTick { to } => self.tick(to),
             Event::Refused { to, packet } => self.refused(to, packet),
         }
@@ -243,9 +252,13 @@ impl<'a> Simulation<'a> {
     }
 
     fn receive(&mut self, to: Target, packet: Packet) -> io::Result<()> {
+        self.receive_from(to, MDNS_PORT, packet)
+    }
+
+    fn receive_from(&mut self, to: Target, port: u64, packet: Packet) -> io::Result<()> {
         let call = Call::Receive {
             clock: self.clock(to.console),
-            port: MDNS_PORT,
+            port,
             draw: self.reply_draw(),
             packet,
             out: self.out(),
@@ -285,7 +298,16 @@ impl<'a> Simulation<'a> {
                 self.at(wait, Event::Delivery { to: other, packet });
             }
         }
+        if self.random.chance(20) {
+            return self.astray(to, packet);
+        }
         self.receive(to, packet)
+    }
+
+    /// As from a plain resolver, or refused if it is a response.
+    fn astray(&mut self, to: Target, packet: Packet) -> io::Result<()> {
+        let port = self.random.pick(&OTHER_PORTS);
+        self.receive_from(to, port, packet)
     }
 
     /// The responder that a console runs.
@@ -336,6 +358,14 @@ impl<'a> Simulation<'a> {
                 let wait = self.random.up_to(delay);
                 let packet = Some(packet.clone());
                 self.at(wait, Event::Refused { to, packet });
+            }
+        }
+        // a responder's packet from a port that is not its own
+        if self.random.chance(self.style.extras) {
+            if let [first, ..] = self.others(from.console)[..] {
+                let wait = self.random.up_to(self.limits.delay);
+                let packet = packet.clone();
+                self.at(wait, Event::Astray { to: first, packet });
             }
         }
         // a packet may come back to its sender

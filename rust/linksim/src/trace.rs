@@ -2,6 +2,7 @@
 
 use reference::console::hex;
 use reference::setup::Setup;
+use reference::MDNS_PORT;
 
 use crate::console::Answer;
 use crate::describe::{packet, text_of};
@@ -35,7 +36,16 @@ pub fn lines(played: &[(Entry, Option<Answer>)], consoles: usize) -> Vec<String>
 fn call_words(call: &Call) -> String {
     match call {
         Call::Start { draw, setup, .. } => format!("starts, draw {draw}, {}", setup_words(setup)),
-        Call::Receive { packet: heard, .. } => format!("hears {}", packet(heard)),
+        Call::Receive {
+            packet: heard,
+            port: MDNS_PORT,
+            ..
+        } => format!("hears {}", packet(heard)),
+        Call::Receive {
+            packet: heard,
+            port,
+            ..
+        } => format!("gets from port {port} {}", packet(heard)),
         Call::Tick { .. } => "ticks".to_string(),
         Call::Cut => "is cut".to_string(),
     }
@@ -44,6 +54,7 @@ fn call_words(call: &Call) -> String {
 fn answer_words(answer: Option<&Answer>) -> String {
     match answer {
         Some(Answer::Sent(sent)) => format!(": sends {}", packet(sent)),
+        Some(Answer::Unicast(reply)) => format!(": replies {}", packet(reply)),
         Some(Answer::Refused(number)) => format!(": refused {number}"),
         Some(Answer::Started | Answer::Quiet) | None => String::new(),
     }

@@ -489,8 +489,15 @@ mod tests {
         assert_eq!(cache.look(10, &[0, 0], 1, 0), Err(Refusal::Malformed));
         assert_eq!(cache.put(9, 1, &[]), Err(Refusal::Time));
         assert_eq!(cache.put(10, 1, &[]), Err(Refusal::MessageLength));
-        assert_eq!(cache.put(10, 1, &[0; 12]), Err(Refusal::Header));
-        let mut cut = response(&[(OWNER, 1, 1, 1, &[2; 4]), (OWNER, 1, 1, 1, &[3; 4])]);
+        let response = response(&[(OWNER, 1, 1, 1, &[2; 4]), (OWNER, 1, 1, 1, &[3; 4])]);
+        assert_eq!(cache.put(10, 1, &response), Err(Refusal::Header));
+        // a query from another port is accepted, and nothing is taken
+        let mut query = response.clone();
+        query[2] = 0;
+        assert_eq!(cache.put(10, 1, &query), Ok(Counts::default()));
+        query.pop();
+        assert_eq!(cache.put(10, 1, &query), Err(Refusal::Malformed));
+        let mut cut = response;
         cut.pop();
         assert_eq!(cache.put(10, MDNS_PORT, &cut), Err(Refusal::Malformed));
         assert_eq!(cache.entries()[1], Entry::default());

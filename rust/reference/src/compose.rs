@@ -1,12 +1,17 @@
-//! "Writing a packet": responses and probes, with every name compressed.
+//! "Writing a packet": responses, replies to plain resolvers and probes, with
+//! their names compressed.
 
-use crate::message::HEADER;
+use crate::message::{Question, HEADER};
 use crate::name::Name;
 use crate::setup::{srv_numbers, ClaimName, Data, Kind, OwnRecord, Setup};
 use crate::{class, rtype};
 
 const RESPONSE_FLAGS: u16 = 0x8400;
 const PROBE_FLAGS: u16 = 0;
+/// "ID 0"
+const NO_ID: u16 = 0;
+/// The TTL of a reply to a plain resolver.
+const PLAIN_TTL: u32 = 10;
 const POINTER: u16 = 0xC000;
 
 struct Packet {
@@ -15,15 +20,18 @@ struct Packet {
     /// rising offset. Only labels count: an offset that holds a pointer is
     /// never the smallest, since its target reads the same.
     suffixes: Vec<(usize, Vec<u8>)>,
+    /// Whether an SRV target is cut as other names are.
+    cuts_targets: bool,
 }
 
 impl Packet {
-    fn new(flags: u16, counts: [usize; 4]) -> Packet {
+    fn new(id: u16, flags: u16, counts: [usize; 4]) -> Packet {
         let mut packet = Packet {
             bytes: Vec::new(),
             suffixes: Vec::new(),
+            cuts_targets: true,
         };
-        packet.u16(0); // "ID 0"
+        packet.u16(id);
         packet.u16(flags);
         for count in counts {
             packet.u16(count as u16);
@@ -61,18 +69,37 @@ impl Packet {
         self.suffixes.extend(written);
     }
 
-    fn record(&mut self, record: &OwnRecord, wire_class: u16) {
+    /// Writes a name in full; what stands in it can be pointed to.
+    fn whole_name(&mut self, name: &Name) {
+        let start = self.bytes.len();
+        let suffixes = name.suffixes();
+        let written = suffixes.map(|(at, suffix)| (start + at, suffix.to_vec()));
+        self.suffixes.extend(written);
+        self.bytes.extend(name.wire());
+    }
+
+    fn question(&mut self, name: &Name, rtype: u16, wire_class: u16) {
+        self.name(name);
+        self.u16(rtype);
+        self.u16(wire_class);
+    }
+
+    fn record(&mut self, record: &OwnRecord, wire_class: u16, ttl: u32) {
         self.name(&record.owner);
         self.u16(record.kind.rtype());
         self.u16(wire_class);
-        self.bytes.extend(record.kind.ttl().to_be_bytes());
+        self.bytes.extend(ttl.to_be_bytes());
         let length_at = self.bytes.len();
         self.u16(0);
         match &record.data {
             Data::Pointer(name) => self.name(name),
             Data::Service { port, target } => {
                 self.bytes.extend(srv_numbers(*port));
-                self.name(target);
+                if self.cuts_targets {
+                    self.name(target);
+                } else {
+                    self.whole_name(target);
+                }
             }
             Data::Bytes(bytes) => self.bytes.extend(bytes),
             Data::Negative { next, window } => {
@@ -88,13 +115,26 @@ impl Packet {
 /// "Records in responses go in the order PTR, SRV, TXT, A, AAAA; class 0x8001,
 /// PTR 1.", NSEC after AAAA. `records` are in that order.
 pub fn response(records: &[&OwnRecord]) -> Vec<u8> {
-    let mut packet = Packet::new(RESPONSE_FLAGS, [0, records.len(), 0, 0]);
+    let mut packet = Packet::new(NO_ID, RESPONSE_FLAGS, [0, records.len(), 0, 0]);
     for record in records {
         let flush = match record.kind {
             Kind::Ptr => 0,
             _ => class::TOP_BIT,
         };
-        packet.record(record, class::IN | flush);
+        packet.record(record, class::IN | flush, record.kind.ttl());
+    }
+    packet.bytes
+}
+
+/// "its ID and question bytes repeated, TTL 10, the records' top class bit clear,
+/// an SRV target uncompressed". The first question of a message holds no pointer,
+/// so its bytes are its name's.
+pub fn plain_reply(id: u16, question: &Question, records: &[&OwnRecord]) -> Vec<u8> {
+    let mut packet = Packet::new(id, RESPONSE_FLAGS, [1, records.len(), 0, 0]);
+    packet.cuts_targets = false;
+    packet.question(&question.name, question.rtype, question.wire_class);
+    for record in records {
+        packet.record(record, class::IN, PLAIN_TTL);
     }
     packet.bytes
 }
@@ -104,12 +144,10 @@ pub fn response(records: &[&OwnRecord]) -> Vec<u8> {
 pub fn probe(setup: &Setup, claim: ClaimName) -> Vec<u8> {
     let mut records = setup.claimed_records(claim);
     records.sort_by_key(|record| record.kind.rtype());
-    let mut packet = Packet::new(PROBE_FLAGS, [1, 0, records.len(), 0]);
-    packet.name(&setup.claim_name(claim));
-    packet.u16(rtype::ANY);
-    packet.u16(class::IN);
+    let mut packet = Packet::new(NO_ID, PROBE_FLAGS, [1, 0, records.len(), 0]);
+    packet.question(&setup.claim_name(claim), rtype::ANY, class::IN);
     for record in &records {
-        packet.record(record, class::IN);
+        packet.record(record, class::IN, record.kind.ttl());
     }
     packet.bytes
 }

@@ -239,10 +239,11 @@ impl Message {
         Message::read_sections(message)
     }
 
-    /// Reads a message from a source port, which is tested with refusal 5.
+    /// Reads a message from a source port: "Refusal 5 for the port is now given
+    /// only to responses."
     pub fn read_from(port: u64, message: &[u8]) -> Result<Message, Refusal> {
         check_header(message)?;
-        if port != MDNS_PORT {
+        if port != MDNS_PORT && u16_at(message, 2) & RESPONSE_BIT != 0 {
             return Err(Refusal::Header);
         }
         Message::read_sections(message)
@@ -356,7 +357,7 @@ mod tests {
         let plain = message(0, [0; 4], &[]);
         assert!(Message::read_from(5353, &plain).is_ok());
         assert_eq!(
-            Message::read_from(5354, &message(0, [1, 0, 0, 0], &[])).err(),
+            Message::read_from(5354, &message(0x8000, [1, 0, 0, 0], &[])).err(),
             Some(Refusal::Header)
         );
     }

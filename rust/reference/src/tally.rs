@@ -5,7 +5,7 @@ use std::collections::{BTreeMap, BTreeSet};
 use std::fmt;
 
 use crate::message::{Message, Record, Section};
-use crate::{class, rtype};
+use crate::{class, rtype, MDNS_PORT};
 
 pub struct Tally {
     counts: BTreeMap<String, u64>,
@@ -42,10 +42,47 @@ impl Tally {
         if call == "look" && answer.starts_with("slot") && line.split(' ').nth(3) == Some("47") {
             kinds.push("look slot of NSEC".to_string());
         }
+        if matches!(call, "recv" | "put") {
+            kinds.extend(other_port(call, &line, answer));
+        }
         for kind in kinds {
             *self.counts.entry(kind).or_insert(0) += 1;
         }
     }
+}
+
+/// The kind of an answer to a message from another port than 5353.
+fn other_port(call: &str, line: &str, answer: &str) -> Option<String> {
+    let port = line.split(' ').nth(2)?;
+    if answer == "bad line" || port.parse() == Ok(MDNS_PORT) {
+        return None;
+    }
+    let words: Vec<&str> = answer.split(' ').collect();
+    Some(match words[..] {
+        ["refused", number] => format!("{call} refused {number} from another port"),
+        [first, ..] => format!("{call} {first} from another port"),
+        [] => return None,
+    })
+}
+
+/// The kinds of a reply to a plain resolver.
+fn plain_kinds(reply: &str) -> Vec<String> {
+    let message = bytes_of(reply).and_then(|bytes| Message::read(&bytes).ok());
+    let Some(message) = message else {
+        return vec!["recv unicast of no message".to_string()];
+    };
+    let mut kinds = vec![format!("recv unicast of {}", message.records.len())];
+    for record in &message.records {
+        match record.rtype {
+            rtype::SRV => kinds.push("recv unicast with SRV".to_string()),
+            rtype::PTR => kinds.push("recv unicast with PTR".to_string()),
+            _ => (),
+        }
+        if message.questions[0].name.wire() != record.owner.wire() {
+            kinds.push("recv unicast in other case".to_string());
+        }
+    }
+    kinds
 }
 
 /// The bytes of a field, unless it is a hyphen.
@@ -120,6 +157,7 @@ fn kinds(call: &str, answer: &str, entries: &str) -> Vec<String> {
             }
             kinds
         }
+        (_, ["unicast", packet]) => plain_kinds(packet),
         (_, ["sent", packet, "more"]) => {
             vec![format!("{call} sent {} more", packet_kind(packet))]
         }

@@ -16,7 +16,7 @@ fn meaning(refusal: Refusal) -> &'static str {
         Refusal::Draw => "a draw outside its range: 0..250 to start, 20..120 for a packet",
         Refusal::Buffer => "the out buffer is under 1,452 bytes",
         Refusal::Length => "a message under 12 or over 8,972 bytes",
-        Refusal::Header => "opcode or RCODE not zero, or the source port is not 5353",
+        Refusal::Header => "opcode or RCODE not zero, or a response from a port other than 5353",
         Refusal::Malformed => "a malformed message, TXT or name",
         Refusal::Setup => {
             "names or data break the rules: an instance is 1..63 bytes of UTF-8 without control characters such as a line feed; a host is 1..63 bytes; a service is '_' and 1..15 letters, digits or single inner hyphens, one of them a letter, then '_tcp' or '_udp'; TXT is at most 400 bytes"
@@ -52,7 +52,8 @@ mod tests {
 
     #[test]
     fn a_refusal_is_told_by_number_and_meaning() {
-        let told = "refusal 5 (opcode or RCODE not zero, or the source port is not 5353)";
+        let told =
+            "refusal 5 (opcode or RCODE not zero, or a response from a port other than 5353)";
         assert_eq!(text(Refusal::Header), told);
     }
 

@@ -5,6 +5,9 @@ use Rattle.capi_responder.proofs.answered.Tie as tie
 refusal-of-requires : tie.Need-refusal-of-requires
 refusal-of-requires c κs = search needs
 
+is-unicast-requires : tie.Need-is-unicast-requires
+is-unicast-requires c κs = search needs
+
 length-of-requires : tie.Need-length-of-requires
 length-of-requires c κs = search needs
 
@@ -12,4 +15,4 @@ returns : tie.Need-returns
 returns c = cc
 
 pub answered-spec : {M : Type 1} → statement M
-answered-spec = tie.close (tie.spec refusal-of-requires length-of-requires returns)
+answered-spec = tie.close (tie.spec refusal-of-requires is-unicast-requires length-of-requires returns)

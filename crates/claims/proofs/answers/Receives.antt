@@ -1,4 +1,4 @@
--- Of any packet received: the start draw stays, and the time is the call's; a lost claim stays lost; the times kept stay within bounds; and a claim that
+-- Of any packet received, and of a query from another port: the start draw stays, and the time is the call's; a lost claim stays lost; the times kept stay within bounds; and a claim that
 -- is clear to probe from a time on stays so. Assumes nothing.
 use Prim.Native.Nat.{ℕ, _+_, _≤_}
 use mathlib.Core.Path.{_≡_, refl}
@@ -22,7 +22,7 @@ use Rattle.claims.specs.declared.records.Own.the-variants.{Ptr}
 use Rattle.claims.specs.declared.When.{When}
 use Rattle.claims.specs.declared.When.the-variants.{Never, At}
 use Rattle.claims.specs.declared.Progress.{Progress}
-use Rattle.claims.specs.answers.Answers.{heardFor, heardOf, wantedOf, setReply, receiveOf}
+use Rattle.claims.specs.answers.Answers.{heardFor, heardOf, wantedOf, setReply, receiveOf, plainOf}
 use Rattle.claims.specs.declared.answers.Heard.{Heard}
 use Rattle.claims.specs.declared.answers.Facts.{Facts}
 
@@ -118,3 +118,26 @@ module _ (now draw : ℕ) (f : Facts) (aaaa : Bool) where
     unfolding receiveOf
     receive-clear Instance progress s q = heard-clear (progress .instance) (progress .draw) (f .instance) s q
     receive-clear Host progress s q = heard-clear (progress .host) (progress .draw) (f .host) s q
+
+-- ---- a query from another port: nothing but the last time changes
+
+module _ (now : ℕ) (f : Facts) (aaaa : Bool) where
+  pub plain-claim : (k : Claim) (progress : Progress) → claimOf k (plainOf progress now f aaaa .progress) ≡ claimOf k progress
+  unfolding plainOf
+  plain-claim Instance progress = refl
+  plain-claim Host progress = refl
+
+  pub plain-draw : (progress : Progress) → plainOf progress now f aaaa .progress .draw ≡ progress .draw
+  unfolding plainOf
+  plain-draw progress = refl
+
+  pub plain-last : (progress : Progress) → plainOf progress now f aaaa .progress .last ≡ now
+  unfolding plainOf
+  plain-last progress = refl
+
+  pub plain-kept : (most : ℕ) → now ≤ lastTime → lastDue ≤ most → (progress : Progress) → kept most progress ≡ true
+      → kept most (plainOf progress now f aaaa .progress) ≡ true
+  unfolding plainOf
+  plain-kept most h l progress q =
+      let p : Five _ _ _ _ _ = parts most progress q in
+      whole most _ (record { one = p .one; two = p .two; three = p .three; four = p .four; five = le-leb now most (omega arith) })

@@ -6,6 +6,7 @@ use Rattle.claims.specs.records.Own.{claimFor, present, has, each}
 use Rattle.claims.specs.records.Sets.{atOnce}
 use Rattle.claims.specs.Time.{deferral, multicastGap, defenceGap, afterMs, recently, sentOf, markedAll}
 use Rattle.claims.specs.Claims.{heldNow, claimOf, afterConflict, afterProbe}
+use Rattle.claims.specs.steps.Tick.{withLast}
 use Rattle.claims.specs.declared.records.Claim.{Claim}
 use Rattle.claims.specs.declared.records.Claim.the-variants.{Instance, Host}
 use Rattle.claims.specs.declared.records.Own.{Own}
@@ -71,3 +72,13 @@ receiveOf progress now draw f aaaa =
           };
       answers = atOnce (wantedOf progress f now aaaa);
     }
+
+-- ---- a query from a port other than 5353: replies to plain resolvers
+
+-- the records that are due: "Known answers in it are ignored", and it "neither starts nor obeys the 1,000 and 250 ms gaps"
+unfoldable pub dueOf : Progress → Facts → Bool → Set
+dueOf progress f aaaa = each (isDue progress f aaaa)
+
+-- "PTR at once too". "Probes from such a port have no effect on any claim": nothing but the last time changes
+unfoldable pub plainOf : Progress → ℕ → Facts → Bool → Received
+plainOf progress now f aaaa = record { progress = withLast now progress; answers = dueOf progress f aaaa }

@@ -36,6 +36,10 @@ anyOf set = someOf (λ o. has o set) all
 unfoldable pub atOnce : Set → Set
 atOnce set = each (λ o. goesAtOnce o && has o set)
 
+-- the records of a set that carry data: all but NSEC
+unfoldable pub withData : Set → Set
+withData set = each (λ o. carriesData o && has o set)
+
 -- the records that are announced for a claim: those that go with it and carry data
 unfoldable pub recordsOf : Claim → Bool → Set
 recordsOf claim aaaa = each (λ o. sameClaim (claimFor o) claim && (carriesData o && present o aaaa))

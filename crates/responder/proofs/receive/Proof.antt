@@ -3,26 +3,51 @@ use Rattle.wire.proofs.message.Walk.{layout-shows}
 use Rattle.facts.specs.Facts.{factsOf}
 use Rattle.responder.proofs.Refusals.{receive-accepted}
 use Rattle.responder.proofs.Refusing.{can-send, is-admitted, is-refused}
-use Rattle.responder.proofs.Settling.{receive-refused, receives}
+use Rattle.responder.proofs.Settling.{receive-refused, receives, replies}
 use borrow.Author.Needs.{needs}
 use Rattle.responder.proofs.receive.Statement.{statement}
 use Rattle.responder.proofs.receive.Tie as tie
 
 admit-requires : tie.Need-admit-requires
-admit-requires c κs = tt
+admit-requires c κs = search needs
 
 enum-known-l : tie.Need-enum-known-l
 enum-known-l c = search needs
 
 facts-requires : tie.Need-facts-requires
-facts-requires c κs = tt
+facts-requires c κs = search needs
+
+plain-requires : tie.Need-plain-requires
+plain-requires c κs = search needs
+
+reply-requires : tie.Need-reply-requires
+reply-requires c κs =
+    let l = c .before .before .before .before .before .before .before .before in
+    let admit = l .before .before in
+    let a = admit .before .before .before .args in
+    let admitted = is-admitted _ _ _ (admit .admit .ensures) _ (l .l .given .1) in
+    let accepted = receive-accepted _ _ (admitted .0) in
+    (can-send (a .state) (a .out .now) (accepted .buffer) (accepted .right), (admitted .1, admitted .2))
+
+same-length : tie.Need-same-length
+same-length c = search needs
+
+returns : tie.Need-returns
+returns c =
+    let if1 = c .before .before .before .before .before .before .before in
+    let facts = if1 .before in
+    let l = facts .before .before .before in
+    let admit = l .before .before in
+    let admitted = is-admitted _ _ _ (admit .admit .ensures) _ (l .l .given .1) in
+    replies _ _ _ _ _ _ _ (if1 .if1 .taken) (admitted .0) (admitted .2) (facts .facts .ensures ∙ ap (factsOf _) (layout-shows _ _ (admitted .1) (admitted .2)))
+    (c .before .before .before .before .before .before .plain .ensures) (c .before .before .reply .ensures)
 
 receive-requires : tie.Need-receive-requires
-receive-requires c κs = tt
+receive-requires c κs = search needs
 
 send-requires : tie.Need-send-requires
 send-requires c κs =
-    let l = c .before .before .before .before .before .before .before in
+    let l = c .before .before .before .before .before .before .before .before in
     let admit = l .before .before in
     let a = admit .before .before .before .args in
     let accepted = receive-accepted _ _ (is-admitted _ _ _ (admit .admit .ensures) _ (l .l .given .1) .0) in
@@ -31,22 +56,36 @@ send-requires c κs =
 enum-known-n : tie.Need-enum-known-n
 enum-known-n c = search needs
 
-same-length : tie.Need-same-length
-same-length c = search needs
+same-length-2 : tie.Need-same-length-2
+same-length-2 c = search needs
 
-returns : tie.Need-returns
-returns c =
-    let receive = c .before .before .before .before .before .before in
-    let facts = receive .before in
+returns-2 : tie.Need-returns-2
+returns-2 c =
+    let if1 = c .before .before .before .before .before .before .before in
+    let facts = if1 .before in
     let l = facts .before .before .before in
     let admit = l .before .before in
     let admitted = is-admitted _ _ _ (admit .admit .ensures) _ (l .l .given .1) in
-    receives _ _ _ _ _ _ _ (admitted .0) (admitted .2) (facts .facts .ensures ∙ ap (factsOf _) (layout-shows _ _ (admitted .1) (admitted .2))) (receive .receive .ensures)
-    (c .before .before .send .ensures)
+    receives _ _ _ _ _ _ _ (if1 .if1 .left) (admitted .0) (admitted .2) (facts .facts .ensures ∙ ap (factsOf _) (layout-shows _ _ (admitted .1) (admitted .2)))
+    (c .before .before .before .before .before .before .receive .ensures) (c .before .before .send .ensures)
 
-returns-2 : tie.Need-returns-2
-returns-2 c = let admit = c .before .before .before in receive-refused _ _ _ _ (is-refused _ _ _ (admit .admit .ensures) _ (c .before .n .given .1))
+returns-3 : tie.Need-returns-3
+returns-3 c = let admit = c .before .before .before in receive-refused _ _ _ _ (is-refused _ _ _ (admit .admit .ensures) _ (c .before .n .given .1))
 
 pub receive-spec : {M : Type 1} → statement M
 receive-spec =
-    tie.close (tie.spec admit-requires enum-known-l facts-requires receive-requires send-requires enum-known-n same-length returns returns-2)
+    tie.close
+    (tie.spec
+    admit-requires
+    enum-known-l
+    facts-requires
+    plain-requires
+    reply-requires
+    same-length
+    returns
+    receive-requires
+    send-requires
+    enum-known-n
+    same-length-2
+    returns-2
+    returns-3)

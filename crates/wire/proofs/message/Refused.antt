@@ -6,7 +6,7 @@ use Prim.Native.Nat.{ℕ, _<_, _≤_}
 use native.Mathlib.Omega.{arith}
 use lib.ListN.{length}
 use lib.Dec.{eqb}
-use borrow.Author.Tests.{lt-ltb, le-ltb, eq-eqb, ne-eqb, eqb-true, eqb-false}
+use borrow.Author.Tests.{lt-ltb, le-ltb, lt-leb, le-leb, eq-eqb, ne-eqb, eqb-true, eqb-false}
 use Rattle.wire.specs.octets.Octets.{word16}
 use Rattle.wire.specs.message.Message.{Question, Record, Message}
 use Rattle.wire.specs.message.Layout.{Listing, listing, cut, questionAt, recordAt, listFrom, Reads, read, refused, andThen, sectionsOf, wrongLength, wrongHeader, messageAt, readOf, refusalOf}
@@ -15,6 +15,10 @@ use Rattle.wire.specs.declared.message.Layout.{Layout}
 use Rattle.wire.specs.declared.message.MessageRead.{MessageRead}
 use Rattle.wire.specs.declared.message.MessageRead.the-variants as answer
 use Rattle.wire.proofs.message.Cursor.{as-read}
+
+-- what a result is by its contract and by a test of it
+pub told : {A : Type 0} {r test v : A} → r ≡ test → r ≡ v → test ≡ v
+told e t = cc
 
 -- sections that are cut are refused as malformed
 Malformed : Reads → Type 0
@@ -32,6 +36,14 @@ sections-malformed p =
     then-malformed (listFrom (recordAt p) (word16 p 6) a) _ (λ an b.
     then-malformed (listFrom (recordAt p) (word16 p 8) b) _ (λ ns c.
     then-malformed (listFrom (recordAt p) (word16 p 10) c) _ (λ ar e. refl))))
+
+-- the port: a query comes from any
+module _ (p : List ℕ) (port w : ℕ) (is : w ≡ word16 p 2) where
+  pub query-port : w < 32768 → false ≡ wrongPort port p
+  query-port h = simp (← is, lt-leb _ _ h)
+
+  pub response-port : 32768 ≤ w → (v : Bool) → v ≡ not (eqb port 5353) → v ≡ wrongPort port p
+  response-port h v e = e ∙ sym (simp (← is, le-leb _ _ h))
 
 module _ (p : List ℕ) where
   malformed-is : refusalOf (readOf (sectionsOf p)) ≡ cond (isMalformed p) 6 0
@@ -81,40 +93,40 @@ module _ (p : List ℕ) where
       right-length : wrongLength p ≡ false
       right-length = simp (le-ltb _ _ least, le-ltb _ _ most)
 
-      pub from-elsewhere : (port ≡ 5353 → ⊥) → messageRefusal port p ≡ 5
+      pub from-elsewhere : wrongPort port p ≡ true → messageRefusal port p ≡ 5
       unfolding messageRefusal
-      from-elsewhere h = go (wrongLength p) (wrongHeader p) (eqb port 5353) right-length (ne-eqb port 5353 h)
+      from-elsewhere h = go (wrongLength p) (wrongHeader p) (wrongPort port p) right-length h
         where
-          go : (a b c : Bool) → a ≡ false → c ≡ false → _≡_ {A = ℕ} (cond a 4 (cond (b || not c) 5 (cond (isMalformed p) 6 0))) 5
+          go : (a b c : Bool) → a ≡ false → c ≡ true → _≡_ {A = ℕ} (cond a 4 (cond (b || c) 5 (cond (isMalformed p) 6 0))) 5
           go false true c f g = refl
-          go false false false f g = refl
-          go false false true f g = let z : _≡_ {A = ℕ} 0 1 = cc in absurd (omega arith)
+          go false false true f g = refl
+          go false false false f g = let z : _≡_ {A = ℕ} 0 1 = cc in absurd (omega arith)
           go true b c f g = let z : _≡_ {A = ℕ} 0 1 = cc in absurd (omega arith)
 
-      pub from-there : port ≡ 5353 → messageRefusal port p ≡ refusalOf (readOf (messageAt p))
-      unfolding messageRefusal packetRefusal
-      from-there h = go (wrongHeader p) (eqb port 5353) (eq-eqb port 5353 h) ∙ sym refusal-is
-        where
-          go : (b c : Bool) → c ≡ true
-              → _≡_ {A = ℕ} (cond (wrongLength p) 4 (cond (b || not c) 5 (cond (isMalformed p) 6 0))) (cond (wrongLength p) 4 (cond b 5 (cond (isMalformed p) 6 0)))
-          go true c g = refl
-          go false true g = refl
-          go false false g = let z : _≡_ {A = ℕ} 0 1 = cc in absurd (omega arith)
+    pub from-there : wrongPort port p ≡ false → messageRefusal port p ≡ refusalOf (readOf (messageAt p))
+    unfolding messageRefusal packetRefusal
+    from-there h = go (wrongHeader p) (wrongPort port p) h ∙ sym refusal-is
+      where
+        go : (b c : Bool) → c ≡ false
+            → _≡_ {A = ℕ} (cond (wrongLength p) 4 (cond (b || c) 5 (cond (isMalformed p) 6 0))) (cond (wrongLength p) 4 (cond b 5 (cond (isMalformed p) 6 0)))
+        go true c g = refl
+        go false false g = refl
+        go false true g = let z : _≡_ {A = ℕ} 0 1 = cc in absurd (omega arith)
 
-    -- a packet that is not refused came from port 5353 and was read
-    pub accepted-from : messageRefusal port p ≡ 0 → (port ≡ 5353) × (l : Layout) × (says : Message) × (messageAt p ≡ read l says)
+    -- a packet that is not refused is no response from another port, and was read
+    pub accepted-from : messageRefusal port p ≡ 0 → (wrongPort port p ≡ false) × (l : Layout) × (says : Message) × (messageAt p ≡ read l says)
     unfolding messageRefusal packetRefusal
     accepted-from h =
-        let t = go (wrongLength p) (wrongHeader p) (eqb port 5353) (isMalformed p) h in
+        let t = go (wrongLength p) (wrongHeader p) (wrongPort port p) (isMalformed p) h in
         let r = was-read (messageAt p) refl (refusal-is ∙ t .1) in
-        (eqb-true port 5353 (t .0), r .0, r .1, r .2)
+        (t .0, r .0, r .1, r .2)
       where
-        go : (a b c d : Bool) → _≡_ {A = ℕ} (cond a 4 (cond (b || not c) 5 (cond d 6 0))) 0 → (c ≡ true) × (_≡_ {A = ℕ} (cond a 4 (cond b 5 (cond d 6 0))) 0)
+        go : (a b c d : Bool) → _≡_ {A = ℕ} (cond a 4 (cond (b || c) 5 (cond d 6 0))) 0 → (c ≡ false) × (_≡_ {A = ℕ} (cond a 4 (cond b 5 (cond d 6 0))) 0)
         go true b c d e = absurd (omega (arith, e))
         go false true c d e = absurd (omega (arith, e))
-        go false false false d e = absurd (omega (arith, e))
-        go false false true true e = absurd (omega (arith, e))
-        go false false true false e = (refl, refl)
+        go false false true d e = absurd (omega (arith, e))
+        go false false false true e = absurd (omega (arith, e))
+        go false false false false e = (refl, refl)
 
         was-read : (x : Reads) → messageAt p ≡ x → refusalOf (readOf x) ≡ 0 → (l : Layout) × (says : Message) × (messageAt p ≡ read l says)
         was-read (read l says) e z = (l, says, e)
@@ -160,21 +172,21 @@ module _ (p : List ℕ) (port : ℕ) where
   long-from h = refuses-from 4 (from-long p port h) (λ e. omega arith)
 
   module _ (least : 12 ≤ length p) (most : length p ≤ 8972) where
-    pub elsewhere-from : (port ≡ 5353 → ⊥) → answer.Refused 5 ≡ readOf (messageFrom port p)
+    pub elsewhere-from : wrongPort port p ≡ true → answer.Refused 5 ≡ readOf (messageFrom port p)
     elsewhere-from h = refuses-from 5 (from-elsewhere p port least most h) (λ e. omega arith)
 
-    pub read-from : port ≡ 5353 → (r : MessageRead) → r ≡ readOf (messageAt p) → r ≡ readOf (messageFrom port p)
-    unfolding messageFrom
-    read-from h r is = go (messageAt p) refl
-      where
-        number : messageRefusal port p ≡ refusalOf (readOf (messageAt p))
-        number = from-there p port least most h
+  pub read-from : wrongPort port p ≡ false → (r : MessageRead) → r ≡ readOf (messageAt p) → r ≡ readOf (messageFrom port p)
+  unfolding messageFrom
+  read-from h r is = go (messageAt p) refl
+    where
+      number : messageRefusal port p ≡ refusalOf (readOf (messageAt p))
+      number = from-there p port h
 
-        go : (x : Reads) → messageAt p ≡ x → r ≡ readOf (orRefused (messageRefusal port p) (messageAt p))
-        go (read l says) e = reading (messageRefusal port p) (messageAt p) r (number ∙ ap (λ (y : Reads). refusalOf (readOf y)) e) is
-        go (refused n) e =
-            let i : messageRefusal port p ≡ n = number ∙ ap (λ (y : Reads). refusalOf (readOf y)) e in
-            is ∙ ap readOf e ∙ refuses-from n i (λ z. omega (arith, refused-as p n e .0))
+      go : (x : Reads) → messageAt p ≡ x → r ≡ readOf (orRefused (messageRefusal port p) (messageAt p))
+      go (read l says) e = reading (messageRefusal port p) (messageAt p) r (number ∙ ap (λ (y : Reads). refusalOf (readOf y)) e) is
+      go (refused n) e =
+          let i : messageRefusal port p ≡ n = number ∙ ap (λ (y : Reads). refusalOf (readOf y)) e in
+          is ∙ ap readOf e ∙ refuses-from n i (λ z. omega (arith, refused-as p n e .0))
 
   -- what a caller of `read_from` learns from its answer
   module _ (r : MessageRead) (is : r ≡ readOf (messageFrom port p)) where

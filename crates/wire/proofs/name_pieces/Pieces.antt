@@ -67,6 +67,9 @@ module _ (p : List ℕ) (start at used : ℕ) where
   pub pointer-back : (t : ℕ) → pieceAt p start at used ≡ Pointer t → t < start
   pointer-back t e = let f = is-pointer t e in omega (arith, f .4, f .5)
 
+  pub pointer-far : (t : ℕ) → pieceAt p start at used ≡ Pointer t → 12 ≤ t
+  pointer-far t e = let f = is-pointer t e in omega (arith, f .3, f .5)
+
   pub piece-past : length p ≤ at → pieceAt p start at used ≡ Bad
   unfolding pieceAt
   piece-past h = simp (le-ltb _ _ h)

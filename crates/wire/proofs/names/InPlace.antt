@@ -1,5 +1,5 @@
 -- Names that lie in a packet as they are: a name is read behind where it starts, an uncompressed one is read wherever it lies, and what is read without any
--- packet before it is uncompressed. Assumes nothing.
+-- name before it is uncompressed. Assumes nothing.
 use Prim.Native.Nat.{ℕ, zero, suc, _+_, _<_, _≤_}
 use mathlib.Core.Path.{_≡_, refl, sym, ap, ap₂, _∙_}
 use mathlib.Core.List.{List, [], _∷_, _++_, append-assoc}
@@ -19,7 +19,7 @@ use Rattle.wire.specs.names.Names.{Reading, name, malformed, before, end
 use Rattle.wire.specs.labels.Labels.{encode, Labels, none, one, IsName}
 use Rattle.wire.proofs.labels.Encoded.{encode-pos, made-of}
 use Rattle.wire.proofs.case_folding.Equal.{heads, same-length}
-use Rattle.wire.proofs.name_pieces.Pieces.{is-root, is-label, pointer-back, piece-root, piece-label}
+use Rattle.wire.proofs.name_pieces.Pieces.{is-root, is-label, pointer-back, pointer-far, piece-root, piece-label}
 use Rattle.wire.proofs.names.Rest.{unroll}
 
 -- a name ends behind where it starts
@@ -108,13 +108,14 @@ abbrev Lies : List ℕ → ℕ → Reading → Type 0
 Lies p at (name bs e) = (e ≡ at + length bs) × (take (length bs) (drop at p) ≡ bs)
 Lies p at malformed = Unit {0}
 
--- from the first run on no pointer leads anywhere
-lies-piece : (rest : ℕ → ℕ → ℕ → Reading) (p : List ℕ) → ((a u : ℕ) → Lies p a (rest 0 a u)) → (at used : ℕ) (x : Piece) → pieceAt p 0 at used ≡ x → Lies p at (readPiece rest p 0 at used x)
-lies-piece rest p ih at used Root e = let f = is-root p 0 at used e in (refl, ap (take 1) (drop-cons p at 0 (f .0)) ∙ ap (λ (b : ℕ). b ∷ []) (f .1))
-lies-piece rest p ih at used (Label n) e = go (rest 0 (at + 1 + n) (used + 1 + n)) (ih (at + 1 + n) (used + 1 + n))
+-- a target is at least 12, so from a run that starts there or before it no pointer leads anywhere
+lies-piece : (start : ℕ) → start ≤ 12 → (rest : ℕ → ℕ → ℕ → Reading) (p : List ℕ) → ((a u : ℕ) → Lies p a (rest start a u)) → (at used : ℕ) (x : Piece)
+    → pieceAt p start at used ≡ x → Lies p at (readPiece rest p start at used x)
+lies-piece start low rest p ih at used Root e = let f = is-root p start at used e in (refl, ap (take 1) (drop-cons p at 0 (f .0)) ∙ ap (λ (b : ℕ). b ∷ []) (f .1))
+lies-piece start low rest p ih at used (Label n) e = go (rest start (at + 1 + n) (used + 1 + n)) (ih (at + 1 + n) (used + 1 + n))
   where
     f : (at < length p) × (getD p at 0 ≡ 0 → ⊥) × (getD p at 0 < 64) × (at + 1 + getD p at 0 ≤ length p) × (used + 1 + getD p at 0 < 255) × (getD p at 0 ≡ n)
-    f = is-label p 0 at used n e
+    f = is-label p start at used n e
 
     xs : List ℕ
     xs = take (n + 1) (drop at p)
@@ -131,19 +132,24 @@ lies-piece rest p ih at used (Label n) e = go (rest 0 (at + 1 + n) (used + 1 + n
               ∙ ap (λ (l : List ℕ). take (n + 1) (drop at p) ++ l) (ap (take (length ys)) (drop-drop (n + 1) at p ∙ ap (λ (k : ℕ). drop k p) next) ∙ h .1),
         )
     go malformed h = tt
-lies-piece rest p ih at used (Pointer t) e = absurd (omega (arith, pointer-back p 0 at used t e))
-lies-piece rest p ih at used Bad e = tt
+lies-piece start low rest p ih at used (Pointer t) e = absurd (omega (arith, pointer-back p start at used t e, pointer-far p start at used t e))
+lies-piece start low rest p ih at used Bad e = tt
 
-lies : (f : ℕ) (p : List ℕ) (at used : ℕ) → Lies p at (readFrom f p 0 at used)
+lies : (start : ℕ) → start ≤ 12 → (f : ℕ) (p : List ℕ) (at used : ℕ) → Lies p at (readFrom f p start at used)
 unfolding readFrom
-lies zero p at used = tt
-lies (suc f) p at used = lies-piece (readFrom f p) p (lies f p) at used (pieceAt p 0 at used) refl
+lies start low zero p at used = tt
+lies start low (suc f) p at used = lies-piece start low (readFrom f p) p (lies start low f p) at used (pieceAt p start at used) refl
 
 pub front-plain : (p bs : List ℕ) (e : ℕ) → nameAt p 0 ≡ name bs e → (e ≡ length bs) × (p ≡ bs ++ drop (length bs) p)
 unfolding nameAt fromRun
 front-plain p bs e h =
-    let s : Lies p 0 (name bs e) = rw h at (lies (0 + 256) p 0 0) in
+    let s : Lies p 0 (name bs e) = rw h at (lies 0 (omega arith) (0 + 256) p 0 0) in
     (omega (arith, s .0), sym (ap (λ (l : List ℕ). l ++ drop (length bs) p) (sym (s .1)) ∙ take-append-drop (length bs) p))
+
+-- the first name behind a header holds no pointer: its bytes lie there as they were read
+pub first-plain : (p bs : List ℕ) (e : ℕ) → nameAt p 12 ≡ name bs e → (e ≡ 12 + length bs) × (take (length bs) (drop 12 p) ≡ bs)
+unfolding nameAt fromRun
+first-plain p bs e h = rw h at (lies 12 (omega arith) (12 + 256) p 12 0)
 
 -- a length byte is below every letter, so only itself folds to it
 length-only : (y n : ℕ) → n < 64 → n ≡ lower y → y ≡ n

@@ -2,14 +2,16 @@
 -- proofs/message/Refused.antt), and of a packet with the port that it came from. Assumes nothing: these are definitions.
 use Prim.Native.Nat.{ℕ}
 use mathlib.Core.List.{List, [], _∷_}
-use mathlib.Core.Bool.{Bool, true, false, cond, not, _||_}
+use mathlib.Core.Bool.{Bool, true, false, cond, not, _&&_, _||_}
 use lib.Dec.{eqb}
 use Rattle.wire.specs.refusals.Numbers.{LENGTH, HEADER, MALFORMED, firstRefusal}
+use Rattle.wire.specs.octets.Octets.{word16}
+use Rattle.wire.specs.message.Message.{isResponse}
 use Rattle.wire.specs.message.Layout.{Reads, read, refused, sectionsOf, wrongLength, wrongHeader, messageAt}
 
--- 5: "or source port not 5353"
-abbrev pub wrongPort : ℕ → Bool
-wrongPort port = not (eqb port 5353)
+-- 5: "or source port not 5353", which "is now given only to responses"
+abbrev pub wrongPort : ℕ → List ℕ → Bool
+wrongPort port p = isResponse (word16 p 2) && not (eqb port 5353)
 
 abbrev pub isRefused : Reads → Bool
 isRefused (read l m) = false
@@ -25,7 +27,7 @@ packetTests p = (LENGTH, wrongLength p) ∷ ((HEADER, wrongHeader p) ∷ ((MALFO
 
 -- the refusals of a message from a port
 abbrev pub messageTests : ℕ → List ℕ → List (ℕ × Bool)
-messageTests port p = (LENGTH, wrongLength p) ∷ ((HEADER, wrongHeader p || wrongPort port) ∷ ((MALFORMED, isMalformed p) ∷ []))
+messageTests port p = (LENGTH, wrongLength p) ∷ ((HEADER, wrongHeader p || wrongPort port p) ∷ ((MALFORMED, isMalformed p) ∷ []))
 
 unfoldable pub packetRefusal : List ℕ → ℕ
 packetRefusal p = firstRefusal (packetTests p)

@@ -38,7 +38,7 @@ use Rattle.writer.proofs.own_packets.Owned.{own-front, placed-grown, ow
 use Rattle.writer.proofs.own_packets.Room.{response-size, response-labels, probe-size, probe-labels, claim-size, claim-labels}
 
 -- the answer and the buffer
-abbrev Answered : ℕ → List ℕ → List ℕ → Written → List ℕ → Type 0
+abbrev pub Answered : ℕ → List ℕ → List ℕ → Written → List ℕ → Type 0
 Answered n packet o r o′ =
     (r ≡ writtenOf n packet)
     × ((o′ ≡ laidOver (unlessRefused n packet) o) × ((refusalOf r ≡ n) × (lengthOf r ≡ length (unlessRefused n packet))))
@@ -67,11 +67,11 @@ sent-of : (packet : List ℕ) → 1 ≤ length packet → sentOf packet ≡ Sent
 sent-of [] h = absurd (omega arith)
 sent-of (b ∷ bs) h = refl
 
-sent : (n : ℕ) (packet o : List ℕ) (e : ℕ) (o′ : List ℕ) → n ≡ 0 → 1 ≤ length packet → e ≡ length packet → o′ ≡ packet ++ drop (length packet) o → Answered n
+pub sent : (n : ℕ) (packet o : List ℕ) (e : ℕ) (o′ : List ℕ) → n ≡ 0 → 1 ≤ length packet → e ≡ length packet → o′ ≡ packet ++ drop (length packet) o → Answered n
     packet o (Sent e) o′
 sent n packet o e o′ z h le w = let k : eqb n 0 ≡ true = eq-eqb n 0 z in numbered n packet o (Sent e) o′ (simp (k, sent-of packet h) (ap Sent le)) (simp k w)
 
-nothing : (n : ℕ) (packet o : List ℕ) → n ≡ 0 → packet ≡ [] → Answered n packet o Nothing o
+pub nothing : (n : ℕ) (packet o : List ℕ) → n ≡ 0 → packet ≡ [] → Answered n packet o Nothing o
 nothing n packet o z e = let k : eqb n 0 ≡ true = eq-eqb n 0 z in numbered n packet o Nothing o (simp (k, e)) (simp (k, e))
 
 -- what stands behind a packet is as it was
@@ -297,7 +297,7 @@ module _ (s : Setup) (style : Style) (name : List ℕ) (list : Picked) (o : List
           )
 
 -- the packet is longer than nothing
-packet-some : (s : Setup) (ok : Valid s) (style : Style) (name : List ℕ) (os : List Own) → (style .asks ≡ true → isName name ≡ true) → 1 ≤ length
+pub packet-some : (s : Setup) (ok : Valid s) (style : Style) (name : List ℕ) (os : List Own) → (style .asks ≡ true → isName name ≡ true) → 1 ≤ length
     (packetIn s style name os)
 unfolding packetOf
 packet-some s ok style name os named =

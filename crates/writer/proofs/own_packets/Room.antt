@@ -11,7 +11,7 @@ use Rattle.wire.specs.nsec.Nsec.{names, isBlock}
 use Rattle.wire.proofs.labels.Encoded.{is-name}
 use Rattle.writer.proofs.compression.Written.{labels-in}
 use Rattle.claims.specs.records.Own.{all, ownType, firstOf, claimed, has}
-use Rattle.claims.specs.records.Sets.{picked}
+use Rattle.claims.specs.records.Sets.{picked, withData}
 use Rattle.claims.specs.declared.records.Claim.{Claim}
 use Rattle.claims.specs.declared.records.Claim.the-variants.{Instance, Host}
 use Rattle.claims.specs.declared.records.Own.{Own}
@@ -27,7 +27,7 @@ use Rattle.writer.specs.Fit.{formFor}
 use Rattle.writer.specs.Writer.{labelsFor}
 use Rattle.writer.proofs.Rdata.{held-rest}
 use Rattle.writer.proofs.Fitting.{again-labels}
-use Rattle.writer.specs.own_packets.Own.{responseRecords, probeRecords}
+use Rattle.writer.specs.own_packets.Own.{responseRecords, probeRecords, plainRecords}
 use Rattle.writer.specs.own_packets.Ready.{sizeOf, labelsOf, sizes, labelCounts}
 
 -- the types of an own NSEC are a window block
@@ -172,6 +172,26 @@ module _ (s : Setup) (ok : Valid s) where
         instance-nsec-labels,
         host-nsec-labels,
       )
+
+  -- those that carry data
+  abbrev five : List Own
+  five = Ptr ∷ Srv ∷ Txt ∷ A ∷ Aaaa ∷ []
+
+  of-five : (chosen : Set) → plainRecords s chosen ≡ picked (λ o. has o (withData chosen) && hasRecord s o) five
+  unfolding plainRecords responseRecords picked withData
+  of-five chosen = refl
+
+  pub plain-size : (chosen : Set) → sizes s (plainRecords s chosen) ≤ 997
+  unfolding sizes
+  plain-size chosen =
+      rw (of-five chosen)
+      (omega (arith, sizes-picked s (λ (o : Own). has o (withData chosen) && hasRecord s o) five, ptr-size, srv-size, txt-size, a-size, aaaa-size))
+
+  pub plain-labels : (chosen : Set) → labelCounts s (plainRecords s chosen) ≤ 21
+  unfolding labelCounts
+  plain-labels chosen =
+      rw (of-five chosen)
+      (omega (arith, labels-picked s (λ (o : Own). has o (withData chosen) && hasRecord s o) five, ptr-labels, srv-labels, txt-labels, a-labels, aaaa-labels))
 
   pub probe-size : (claim : Claim) → sizes s (probeRecords s claim) ≤ 683
   unfolding probeRecords sizes

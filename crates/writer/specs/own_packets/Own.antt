@@ -1,20 +1,21 @@
--- The packets of own records (specification, 'Writing a packet'): a response of any of them, and a claim's probe. Assumes nothing: these are definitions.
+-- The packets of own records (specification, 'Writing a packet'): a response of any of them, a claim's probe, and a reply to a plain resolver. Assumes nothing: these are definitions.
 use Prim.Native.Nat.{ℕ}
 use mathlib.Core.List.{List, [], _∷_, _++_, map}
 use mathlib.Core.Bool.{Bool, cond, not, _&&_}
 use Rattle.claims.specs.records.Own.{all, firstOf, claimed, has}
-use Rattle.claims.specs.records.Sets.{picked}
+use Rattle.claims.specs.records.Sets.{picked, withData}
 use Rattle.claims.specs.declared.records.Claim.{Claim}
 use Rattle.claims.specs.declared.records.Own.{Own}
 use Rattle.claims.specs.declared.records.Set.{Set}
 use lib.ListN.{length, drop}
 use lib.Dec.{ltb, eqb}
 use Rattle.wire.specs.refusals.Numbers.{BUFFER, SETUP, firstRefusal}
-use Rattle.wire.specs.message.Message.{Message}
+use Rattle.wire.specs.names.Names.{isName}
+use Rattle.wire.specs.message.Message.{Question, Message}
 use Rattle.own.specs.declared.records.Setup.{Setup}
 use Rattle.own.specs.records.Setups.{validSetup}
 use Rattle.own.specs.records.Records.{hasRecord, ownName}
-use Rattle.writer.specs.own_packets.Styles.{responseStyle, probeStyle, styledMessage, packetIn}
+use Rattle.writer.specs.own_packets.Styles.{responseStyle, probeStyle, plainStyle, styledMessage, packetIn}
 use Rattle.writer.specs.declared.own_packets.Written.{Written}
 use Rattle.writer.specs.declared.own_packets.Written.the-variants.{Sent, Nothing, Refused}
 
@@ -26,12 +27,19 @@ responseRecords s chosen = picked (λ o. has o chosen && hasRecord s o) all
 unfoldable pub probeRecords : Setup → Claim → List Own
 probeRecords s claim = picked (hasRecord s) (claimed claim)
 
--- a response has the chosen records, and a probe asks for the claim's name
+-- those of a plain reply: the chosen ones in the same order, and never an NSEC
+unfoldable pub plainRecords : Setup → Set → List Own
+plainRecords s chosen = responseRecords s (withData chosen)
+
+-- a response has the chosen records, a probe asks for the claim's name, and a plain reply repeats the ID and the question of its query
 unfoldable pub responseOf : Setup → Set → Message
 responseOf s chosen = styledMessage s responseStyle [] (responseRecords s chosen)
 
 unfoldable pub probeOf : Setup → Claim → Message
 probeOf s claim = styledMessage s probeStyle (ownName s (firstOf claim)) (probeRecords s claim)
+
+unfoldable pub plainReplyOf : Setup → Set → ℕ → Question → Message
+plainReplyOf s chosen id q = styledMessage s (plainStyle id (q .rtype) (q .class)) (q .name) (plainRecords s chosen)
 
 -- the packet, or none where there is no record to send
 abbrev pub noneIfEmpty : List Own → List ℕ → List ℕ
@@ -43,6 +51,13 @@ responsePacket s chosen = noneIfEmpty (responseRecords s chosen) (packetIn s res
 
 unfoldable pub probePacket : Setup → Claim → List ℕ
 probePacket s claim = packetIn s probeStyle (ownName s (firstOf claim)) (probeRecords s claim)
+
+-- to a question for what is no name there is none
+unfoldable pub plainPacket : Setup → Set → ℕ → Question → List ℕ
+plainPacket s chosen id q =
+    cond (isName (q .name))
+    (noneIfEmpty (plainRecords s chosen) (packetIn s (plainStyle id (q .rtype) (q .class)) (q .name) (plainRecords s chosen)))
+    []
 
 -- 3: "out buffer under 1,452 bytes"
 abbrev pub smallBuffer : ℕ → Bool

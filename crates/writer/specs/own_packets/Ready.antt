@@ -86,7 +86,7 @@ pub record AskReady (style : Style) (name out places : List ℕ) : Type 0 where
 
 -- how many offsets are noted in a packet at most
 abbrev pub mostPlaces : ℕ
-mostPlaces = 40
+mostPlaces = 148
 
 pub record PacketReady (s : Setup) (style : Style) (name : List ℕ) (os : List Own) (out : List ℕ) : Type 0 where
   pub ok : validSetup s ≡ true

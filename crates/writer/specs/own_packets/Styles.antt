@@ -41,6 +41,20 @@ probeStyle = record {
   whole = false;
 }
 
+-- A reply to a plain resolver: "its ID and question bytes repeated, TTL 10, the records' top class bit clear, an SRV target uncompressed".
+abbrev pub plainStyle : ℕ → ℕ → ℕ → Style
+plainStyle id qtype qclass = record {
+  id = id;
+  flags = 0x8400;
+  asks = true;
+  qtype = qtype;
+  qclass = qclass;
+  authority = false;
+  ttl = Fixed 10;
+  flush = false;
+  whole = true;
+}
+
 -- "class 0x8001, PTR 1", or 1 for all
 abbrev pub classIn : Style → Own → ℕ
 classIn style o = cond (style .flush) (ownClass o) 1

@@ -3,6 +3,7 @@
 
 mod lines;
 mod packet;
+mod plain;
 pub mod random;
 mod responder;
 mod store;
@@ -163,6 +164,14 @@ mod tests {
             "recv sent response with 1 NSEC",
             "recv sent response with 2 NSEC",
             "recv sent response of 6",
+            "recv unicast of 1",
+            "recv unicast of 2",
+            "recv unicast with SRV",
+            "recv unicast with PTR",
+            "recv unicast in other case",
+            "recv quiet from another port",
+            "recv refused 5 from another port",
+            "put cached from another port",
             "put cached with a restricted NSEC",
             "put cached with another NSEC",
             "look slot of NSEC",

@@ -3,10 +3,11 @@
 
 use super::packet::{corner, largest, long_name, some_name, some_rdata, some_record, txt_of};
 use super::packet::{window_block, Draft, DraftData, DraftRecord, CLASSES, TYPES};
+use super::plain::OTHER_PORTS;
 use super::Script;
 use crate::responder::Claim;
 use crate::setup::{ClaimName, Kind, OwnRecord, Setup};
-use crate::{rtype, MOST_TIME};
+use crate::{rtype, MDNS_PORT, MOST_TIME};
 
 /// Types that a claim may have no record of.
 const ABSENT: [u16; 14] = [28, 28, 28, 1, 12, 16, 33, 47, 47, 0, 99, 256, 284, 65_535];
@@ -100,6 +101,8 @@ impl Script {
             "recv 0 5353 20 000000000000000000000000",
             "recv 0 5353 20 000000000001000000000000",
             "recv 0 5354 20 000000000001000000000000",
+            "recv 0 5354 20 000080000001000000000000",
+            "recv 0 5354 20 000000000000000000000000",
             "recv 0 5353 19 000000000001000000000000",
             "slot 0",
             "slot 63",
@@ -174,7 +177,8 @@ impl Script {
             10..=12 => self.relapse(),
             13..=34 => self.tick_all(now),
             35..=49 => self.recv_probe(now),
-            50..=74 => self.recv_query(now),
+            50..=66 => self.recv_query(now),
+            67..=74 => self.recv_plain(now),
             75..=87 => self.recv_response(now),
             88..=90 => self.recv_echo(now),
             91..=94 => self.refused_call(now),
@@ -310,14 +314,23 @@ impl Script {
         }
     }
 
+    /// Most times from port 5353.
     fn recv(&mut self, now: u64, packet: &[u8]) {
+        let port = match self.random.chance(4) {
+            true => self.random.pick(&OTHER_PORTS),
+            false => MDNS_PORT,
+        };
+        self.recv_from(port, now, packet);
+    }
+
+    pub(super) fn recv_from(&mut self, port: u64, now: u64, packet: &[u8]) {
         let draw = match self.random.below(5) {
             0 => 20,
             1 => 120,
             _ => self.random.within(20..=120),
         };
         let room = self.random.pick(&["", "", "", "", " 1452", " 4096"]);
-        let line = format!("recv {now} 5353 {draw} {}{room}", self.hex(packet));
+        let line = format!("recv {now} {port} {draw} {}{room}", self.hex(packet));
         self.say(line);
     }
 
@@ -394,10 +407,10 @@ impl Script {
                 0 | 1 => *next = self.random.recase(next),
                 2 => *next = some_name(&mut self.random),
                 3 => *window = window_block(&mut self.random),
-                4 if window.len() < 34 => {
+                4 if (2..34).contains(&window.len()) => {
                     // a zero byte at the end
                     window.push(0);
-                    window[1] += 1;
+                    window[1] = window[1].wrapping_add(1);
                 }
                 _ => {
                     let at = self.random.below(window.len().max(1));
@@ -438,7 +451,7 @@ impl Script {
     }
 
     /// The records a rival probes with.
-    fn rival_records(&mut self, claim: ClaimName) -> Vec<DraftRecord> {
+    pub(super) fn rival_records(&mut self, claim: ClaimName) -> Vec<DraftRecord> {
         let mut records = Vec::new();
         for own in self.claimed(claim) {
             let class = self.random.pick(&[1, 1, 1, 0x8001]);
@@ -532,7 +545,7 @@ impl Script {
         self.recv(now, &packet);
     }
 
-    fn some_question(&mut self) -> (Vec<u8>, u16, u16) {
+    pub(super) fn some_question(&mut self) -> (Vec<u8>, u16, u16) {
         let own = self.own_records();
         let class = self.random.pick(&[1, 1, 1, 0x8001, 255, 0x80ff, 3, 0]);
         if self.random.chance(25) {
@@ -549,7 +562,7 @@ impl Script {
         (self.aimed_name(), self.random.pick(&TYPES), class)
     }
 
-    fn add_known_answers(&mut self, draft: &mut Draft) {
+    pub(super) fn add_known_answers(&mut self, draft: &mut Draft) {
         for own in self.all_records() {
             if self.random.chance(40) {
                 continue;
@@ -721,16 +734,15 @@ impl Script {
         let mut draft = Draft::query();
         let question = self.some_question();
         draft.questions.push(question);
+        if self.random.chance(30) {
+            draft.flags = 0x8400;
+        }
         let mut packet = draft.encode(&mut self.random);
-        let (mut time, mut port, mut draw, mut room) = (now, 5353, 20, 1452);
+        let (mut time, mut port, mut draw, mut room) = (now, MDNS_PORT, 20, 1452);
         for _ in 0..self.random.within(1..=3) {
             match self.random.below(7) {
                 0 => time = self.bad_time(last),
-                1 => {
-                    port = self
-                        .random
-                        .pick(&[0, 53, 5352, 5354, 5353 + 65_536, u64::MAX])
-                }
+                1 => port = self.random.pick(&OTHER_PORTS),
                 2 => {
                     draw = self
                         .random

@@ -3,9 +3,10 @@
 
 use super::packet::{corner, labelled_name, long_name, nsec_rdata, some_rdata, some_record};
 use super::packet::{some_ttl, txt_of, Draft, DraftRecord};
+use super::plain::OTHER_PORTS;
 use super::Script;
 use crate::cache::SLOT;
-use crate::{rtype, MOST_TIME};
+use crate::{rtype, MDNS_PORT, MOST_TIME};
 
 const OWNERS: [&[u8]; 5] = [
     b"\x04desk\x05local\x00",
@@ -272,8 +273,10 @@ impl Script {
 
     fn put_some(&mut self, now: u64) {
         let mut draft = Draft::response();
-        if self.random.chance(3) {
+        let mut port = MDNS_PORT;
+        if self.random.chance(5) {
             draft.flags = 0;
+            port = self.random.pick(&[MDNS_PORT, 53, 1024]);
         }
         for _ in 0..self.random.pick(&[1, 1, 1, 2, 3, 5]) {
             let section = self.random.pick(&[0, 0, 0, 2, 2, 1]);
@@ -289,7 +292,7 @@ impl Script {
         }
         let packet = self.packet(draft);
         let before = self.model.cache.entries().to_vec();
-        let line = format!("put {now} 5353 {}", self.hex(&packet));
+        let line = format!("put {now} {port} {}", self.hex(&packet));
         self.say(line);
         // what became of an entry
         let after = self.model.cache.entries();
@@ -337,12 +340,16 @@ impl Script {
         let mut draft = Draft::response();
         let record = self.cache_record();
         draft.sections[0].push(record);
+        if self.random.chance(30) {
+            // a query, which no port is refused for
+            draft.flags = 0;
+        }
         let mut packet = self.packet(draft);
         let (mut time, mut port) = (now, 5353);
         for _ in 0..self.random.within(1..=2) {
             match self.random.below(4) {
                 0 => time = self.bad_time(self.cache_received()),
-                1 => port = self.random.pick(&[0, 5352, 5354, 5353 + 65_536, u64::MAX]),
+                1 => port = self.random.pick(&OTHER_PORTS),
                 2 => packet.truncate(self.random.pick(&[0, 11, 12, 20])),
                 _ if packet.len() > 3 => packet[2] ^= 8 << self.random.below(4),
                 _ => (),

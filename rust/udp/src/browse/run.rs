@@ -13,7 +13,7 @@ use super::wants::{known_pointers, wants};
 use crate::clock::Clock;
 use crate::command::End;
 use crate::draw::{self, Draws};
-use crate::link::{self, Link};
+use crate::link::{self, Hears, Link};
 use crate::query::{compose, Question};
 use crate::refusal::{text, Tally};
 use crate::stop;
@@ -29,7 +29,7 @@ pub fn run(options: &Options) -> Result<End, Box<dyn Error>> {
     let first = Draws::open()?.within(&draw::REPLY)?;
     let mut session = Session {
         options,
-        link: Link::open(interface)?,
+        link: Link::open(interface, Hears::GroupAlone)?,
         clock: Clock::begin(),
         cache: match options.entries {
             Some(entries) => Cache::with_entries(entries)?,
@@ -74,7 +74,7 @@ impl Session<'_> {
         let Some(packet) = self.link.receive(TURN)? else {
             return Ok(());
         };
-        let (now, source) = (self.clock.now(), packet.source);
+        let (now, source) = (self.clock.now(), packet.header.source);
         match self.cache.take(now, source.port(), packet.bytes) {
             Ok(taken) => {
                 self.turned_away += u64::from(taken.turned_away);
@@ -130,7 +130,7 @@ impl Session<'_> {
                 writeln!(out, "{line}")?;
             }
         }
-        write!(out, "{}", self.refused)?;
+        write!(out, "{}{}", self.refused, self.link.dropped())?;
         for (count, why) in [
             (self.turned_away, all_live.as_str()),
             (

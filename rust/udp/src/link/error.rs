@@ -2,7 +2,7 @@
 
 use std::fmt;
 use std::io;
-use std::net::Ipv4Addr;
+use std::net::{Ipv4Addr, SocketAddrV4};
 
 use super::{GROUP, PORT};
 
@@ -21,6 +21,7 @@ pub enum Step {
     Join(Ipv4Addr),
     Receive,
     Send,
+    Reply(SocketAddrV4),
 }
 
 #[derive(Debug)]
@@ -33,6 +34,11 @@ impl LinkError {
     pub fn at(step: Step) -> impl Fn(io::Error) -> LinkError {
         move |cause| LinkError { step, cause }
     }
+}
+
+/// As the system says it.
+pub fn no_such_interface() -> io::Error {
+    io::Error::from_raw_os_error(ENODEV)
 }
 
 impl fmt::Display for LinkError {
@@ -62,6 +68,7 @@ impl fmt::Display for LinkError {
                 "sending failed: no multicast route on this interface, or it is down; start again when it is up, so that the names are claimed anew"
             ),
             (Step::Send, _) => write!(f, "sending failed: {cause}"),
+            (Step::Reply(to), _) => write!(f, "the reply to {to} failed: {cause}"),
         }
     }
 }

@@ -6,24 +6,44 @@ use std::net::{Ipv4Addr, UdpSocket};
 use std::os::fd::{AsRawFd, FromRawFd, OwnedFd};
 
 use super::error::{LinkError, Step};
-use super::{GROUP, PORT};
+use super::PORT;
 
-const AF_INET: i32 = 2;
+pub const AF_INET: i32 = 2;
 const SOCK_DGRAM: i32 = 2;
 const SOCK_CLOEXEC: i32 = 0o2000000;
 const SOL_SOCKET: i32 = 1;
 const SO_REUSEADDR: i32 = 2;
 const SO_REUSEPORT: i32 = 15;
-const IPPROTO_IP: i32 = 0;
+pub const IPPROTO_IP: i32 = 0;
+pub const IP_PKTINFO: i32 = 8;
 const IP_MULTICAST_IF: i32 = 32;
 const IP_MULTICAST_ALL: i32 = 49;
 
 #[repr(C)]
-struct SocketAddress {
-    family: u16,
+pub struct SocketAddress {
+    pub family: u16,
     port: [u8; 2],
     address: [u8; 4],
     zero: [u8; 8],
+}
+
+impl SocketAddress {
+    pub fn new(address: Ipv4Addr, port: u16) -> SocketAddress {
+        SocketAddress {
+            family: AF_INET as u16,
+            port: port.to_be_bytes(),
+            address: address.octets(),
+            zero: [0; 8],
+        }
+    }
+
+    pub fn ip(&self) -> Ipv4Addr {
+        self.address.into()
+    }
+
+    pub fn port(&self) -> u16 {
+        u16::from_be_bytes(self.port)
+    }
 }
 
 extern "C" {
@@ -32,23 +52,17 @@ extern "C" {
     fn bind(socket: i32, address: *const SocketAddress, length: u32) -> i32;
 }
 
-/// A socket bound to the group and port, which other sockets may be bound to as well.
-pub fn shared_socket() -> Result<UdpSocket, LinkError> {
+/// A socket bound to an address and the port, which other sockets may be bound to as well.
+pub fn shared_socket(address: Ipv4Addr) -> Result<UdpSocket, LinkError> {
     let open = LinkError::at(Step::Open);
     // SAFETY: plain numbers; a new descriptor or -1 comes back.
-    let descriptor = unsafe { socket(AF_INET, SOCK_DGRAM | SOCK_CLOEXEC, 0) };
-    check(descriptor).map_err(&open)?;
+    let descriptor = check(unsafe { socket(AF_INET, SOCK_DGRAM | SOCK_CLOEXEC, 0) });
     // SAFETY: the descriptor is new and owned by no one else.
-    let owned = unsafe { OwnedFd::from_raw_fd(descriptor) };
+    let owned = unsafe { OwnedFd::from_raw_fd(descriptor.map_err(&open)?) };
     for option in [SO_REUSEADDR, SO_REUSEPORT] {
         set(&owned, SOL_SOCKET, option, 1i32.to_ne_bytes()).map_err(&open)?;
     }
-    let address = SocketAddress {
-        family: AF_INET as u16,
-        port: PORT.to_be_bytes(),
-        address: GROUP.octets(),
-        zero: [0; 8],
-    };
+    let address = SocketAddress::new(address, PORT);
     // SAFETY: the address outlives the call, and its true size is given.
     let bound = unsafe {
         bind(
@@ -71,14 +85,21 @@ pub fn hear_own_groups_only(socket: &UdpSocket) -> io::Result<()> {
     set(socket, IPPROTO_IP, IP_MULTICAST_ALL, 0i32.to_ne_bytes())
 }
 
-fn set(socket: &impl AsRawFd, level: i32, name: i32, value: [u8; 4]) -> io::Result<()> {
-    // SAFETY: the value outlives the call, and its true size is given.
-    check(unsafe { setsockopt(socket.as_raw_fd(), level, name, value.as_ptr(), 4) })
+/// Each datagram comes with the address that it was sent to.
+pub fn tell_destinations(socket: &UdpSocket) -> io::Result<()> {
+    set(socket, IPPROTO_IP, IP_PKTINFO, 1i32.to_ne_bytes())
 }
 
-fn check(answer: i32) -> io::Result<()> {
-    if answer < 0 {
+fn set(socket: &impl AsRawFd, level: i32, name: i32, value: [u8; 4]) -> io::Result<()> {
+    // SAFETY: the value outlives the call, and its true size is given.
+    check(unsafe { setsockopt(socket.as_raw_fd(), level, name, value.as_ptr(), 4) })?;
+    Ok(())
+}
+
+/// What a call gave, or why it failed.
+pub fn check<Number: Default + PartialOrd>(answer: Number) -> io::Result<Number> {
+    if answer < Number::default() {
         return Err(io::Error::last_os_error());
     }
-    Ok(())
+    Ok(answer)
 }

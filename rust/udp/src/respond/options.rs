@@ -23,10 +23,11 @@ usage: responder --instance LABEL --service TYPE --host LABEL --port NUMBER [opt
   --draw NUMBER        wait this many milliseconds (0..250) before the first probe; else a random time
   --at MILLISECONDS    begin at this time of the wall clock (since 1970), so that several begin together
   --seconds NUMBER     stop after this many seconds; else on Ctrl-C
-  --verbose            also tell of each packet that the library refuses
+  --verbose            also tell of each packet that the library refuses, and of replies to plain clients that can't be sent
   --help               this text
 
 It prints one line for each change of a claim: waiting, probing, deferred, held or lost. A lost name is lost for good: start again with another.
+Once a name is held, plain DNS clients are answered too, such as 'dig -p 5353 @ADDRESS dock.local A', if they are in a subnet of the interface.
 It ends with status 0 when stopped, 1 on an error, and 3 when both names are lost.
 ";
 

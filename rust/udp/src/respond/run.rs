@@ -3,14 +3,14 @@
 use std::error::Error;
 use std::io::{self, Write};
 
-use kurgashel::{Responder, OUT_BYTES};
+use kurgashel::{Refusal, Responder, OUT_BYTES};
 
 use super::options::Options;
 use super::report::{all_lost, claims, Report};
 use crate::clock::{self, Clock};
 use crate::command::End;
 use crate::draw::{self, Draws};
-use crate::link::{self, Link};
+use crate::link::{self, Header, Hears, Link, LinkError};
 use crate::refusal::{text, Tally};
 use crate::stop;
 
@@ -19,7 +19,7 @@ pub fn run(options: &Options) -> Result<End, Box<dyn Error>> {
         Some(interface) => interface,
         None => link::default_interface()?,
     };
-    let link = Link::open(interface)?;
+    let link = Link::open(interface, Hears::OwnAddressesToo)?;
     let mut draws = Draws::open()?;
     let draw = match options.draw {
         Some(draw) => draw,
@@ -71,7 +71,8 @@ impl Session {
                 return Ok(End::Unmet);
             }
         }
-        write!(io::stdout(), "stopped\n{}", self.refused)?;
+        let (refused, dropped) = (&self.refused, self.link.dropped());
+        write!(io::stdout(), "stopped\n{refused}{dropped}")?;
         Ok(End::Stopped)
     }
 
@@ -84,22 +85,50 @@ impl Session {
             return Ok(());
         };
         let draw = self.draws.within(&draw::REPLY)?;
-        let (now, source) = (self.clock.now(), packet.source);
+        let (now, header) = (self.clock.now(), packet.header);
+        let port = header.source.port();
         match self
             .responder
-            .receive(now, source.port(), draw, packet.bytes, &mut out)
+            .receive(now, port, draw, packet.bytes, &mut out)
         {
-            Ok(0) => (),
-            Ok(length) => self.link.send(&out[..length])?,
-            Err(refusal) => {
-                self.refused.add(refusal);
-                if self.verbose {
-                    eprintln!("{now:6} ms  packet from {source}: {}", text(refusal));
-                }
+            Ok(sent) => {
+                self.send_to_all(&out[..sent.to_all])?;
+                self.reply(now, &out[..sent.to_sender], &header);
             }
+            Err(refusal) => self.note_refused(now, &header, refusal),
         }
         self.tell(now)?;
         Ok(())
+    }
+
+    /// Sends a packet to the group, where there is one.
+    fn send_to_all(&self, packet: &[u8]) -> Result<(), LinkError> {
+        if packet.is_empty() {
+            return Ok(());
+        }
+        self.link.send(packet)
+    }
+
+    /// Sends a reply, where there is one, to where its query came from. A failure is the asker's loss alone: an address or port that can't be sent to must
+    /// not end the responder.
+    fn reply(&self, now: u64, packet: &[u8], to: &Header) {
+        if packet.is_empty() {
+            return;
+        }
+        if let (Err(error), true) = (self.link.reply(packet, to), self.verbose) {
+            eprintln!("{now:6} ms  {error}");
+        }
+    }
+
+    fn note_refused(&mut self, now: u64, header: &Header, refusal: Refusal) {
+        self.refused.add(refusal);
+        if self.verbose {
+            eprintln!(
+                "{now:6} ms  packet from {}: {}",
+                header.source,
+                text(refusal)
+            );
+        }
     }
 
     /// Ticks until nothing more is due.
@@ -110,9 +139,7 @@ impl Session {
             let ticked = self.responder.tick(now, &mut out);
             let ticked =
                 ticked.map_err(|refusal| format!("a tick was refused: {}", text(refusal)))?;
-            if ticked.length > 0 {
-                self.link.send(&out[..ticked.length])?;
-            }
+            self.send_to_all(&out[..ticked.length])?;
             self.tell(now)?;
             if !ticked.more {
                 return Ok(());

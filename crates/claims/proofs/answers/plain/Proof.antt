@@ -1,0 +1,14 @@
+use Rattle.claims.specs.answers.Answers.{plainOf}
+use borrow.Author.Needs.{needs}
+use Rattle.claims.proofs.answers.plain.Statement.{statement}
+use Rattle.claims.proofs.answers.plain.Tie as tie
+
+due-requires : tie.Need-due-requires
+due-requires c κs = search needs
+
+returns : tie.Need-returns
+unfolding plainOf
+returns c = simp (c .due .ensures)
+
+pub plain-spec : {M : Type 1} → statement M
+plain-spec = tie.close (tie.spec due-requires returns)

@@ -1,0 +1,233 @@
+//! Dialogues, and lines that are of their form or not.
+
+use super::*;
+
+const START: &str =
+    "start 0 0 626f6f7468 5f766f696365 5f746370 646f636b 6c6f63616c 4000 00 0a000007 -";
+
+fn ask(console: &mut Console, line: &str) -> String {
+    console.answer(line.as_bytes()).expect("an answer")
+}
+
+#[test]
+fn the_example_dialogue() {
+    let mut console = Console::default();
+    assert_eq!(
+        ask(&mut console, "claims"),
+        "0 instance lost - host lost - reply -"
+    );
+    assert_eq!(ask(&mut console, "tick 0"), "refused 7");
+    assert_eq!(ask(&mut console, START), "started");
+    assert_eq!(
+        ask(&mut console, "claims"),
+        "0 instance waiting 0 host waiting 0 reply -"
+    );
+    let first = ask(&mut console, "tick 0");
+    assert!(first.starts_with("sent 000000000001000000020000"));
+    assert!(first.ends_with(" more"));
+    assert_eq!(
+        ask(&mut console, "tick 0"),
+        "sent 00000000000100000001000004646f636b056c6f63616c0000ff0001c00c000100010000007800040a000007"
+    );
+    assert_eq!(ask(&mut console, "tick 0"), "quiet");
+    assert_eq!(
+        ask(&mut console, "claims"),
+        "0 instance probing 250 host probing 250 reply -"
+    );
+    assert_eq!(ask(&mut console, "out 12 6"), "out 04646f636b05");
+}
+
+#[test]
+fn a_reply_to_a_plain_resolver() {
+    let mut console = Console::default();
+    ask(&mut console, START);
+    for now in [0, 0, 250, 250, 500, 500, 750, 750] {
+        ask(&mut console, &format!("tick {now}"));
+    }
+    let question = "04444f434b056c6f63616c0000010001";
+    let packet = format!("123401000001000000000000{question}");
+    let reply =
+        format!("123484000001000100000000{question}04646f636bc011000100010000000a00040a000007");
+    assert_eq!(
+        ask(&mut console, &format!("recv 750 53 20 {packet}")),
+        format!("unicast {reply}")
+    );
+    assert_eq!(ask(&mut console, "out 0 4"), "out 12348400");
+    assert_eq!(
+        ask(&mut console, &format!("recv 750 5353 20 {packet}")),
+        "quiet"
+    );
+}
+
+#[test]
+fn lines_without_answer() {
+    let mut console = Console::default();
+    assert_eq!(console.answer(b""), None);
+    assert_eq!(console.answer(b"#claims"), None);
+}
+
+#[test]
+fn bad_lines() {
+    let mut console = Console::default();
+    for line in [
+        " ",
+        " claims",
+        "claims ",
+        "claims\r",
+        "Claims",
+        "claims 1",
+        "tick",
+        "tick ",
+        "tick  0",
+        "tick\t0",
+        "tick -1",
+        "tick +1",
+        "tick 0x1",
+        "tick 18446744073709551616",
+        "tick 0 4097",
+        "tick 0 1452 0",
+        "recv 0 5353 20",
+        "recv 0 5353 20 0",
+        "recv 0 5353 20 0g",
+        "recv 0 5353 20 --",
+        "recv 0 5353 20 - 4097",
+        "out 4096 1",
+        "out 18446744073709551615 1",
+        "out 4097 0",
+        "slot 64",
+        "table",
+        "table ",
+        "table -1",
+        "table x",
+        "table 514",
+        "table 1 525313",
+        "table 1 -",
+        "table 1 1024 0",
+        "table 18446744073709551616",
+        "txt 61 -",
+        "read",
+        "start 0 0 61 5f61 5f746370 61 6c6f63616c 65536 00 00000000 -",
+        "start 0 0 61 5f61 5f746370 61 6c6f63616c 1 00 000000 -",
+        "start 0 0 61 5f61 5f746370 61 6c6f63616c 1 00 - -",
+        "start 0 0 61 5f61 5f746370 61 6c6f63616c 1 00 00000000 00",
+    ] {
+        assert_eq!(ask(&mut console, line), "bad line", "{line:?}");
+    }
+    let long = format!("tick {}", "0".repeat(MOST_LINE - 5));
+    assert_eq!(ask(&mut console, &long), "refused 7");
+    assert_eq!(ask(&mut console, &(long + "0")), "bad line");
+    assert_eq!(console.answer(b"tick \xff"), Some("bad line".to_string()));
+}
+
+#[test]
+fn numbers_wider_than_a_field_keep_their_meaning() {
+    let mut console = Console::default();
+    ask(&mut console, START);
+    let header = "000084000000000000000000";
+    for (line, answer) in [
+        ("recv 0 70889 20 H", "refused 5"),
+        ("recv 0 70889 20 000000000000000000000000", "quiet"),
+        ("recv 0 5353 276 H", "refused 2"),
+        ("recv 0 5353 18446744073709551615 H", "refused 2"),
+        ("recv 0 5353 020 H", "quiet"),
+        ("recv 0 5353 20 H 1451", "refused 3"),
+        ("recv 0 5353 20 H 4096", "quiet"),
+        ("put 0 70889 H", "refused 5"),
+        ("put 0 70889 000000000000000000000000", "cached 0 0"),
+        ("put 0 5353 H", "cached 0 0"),
+        ("look 0 00 65537 18446744073709551615", "none"),
+        ("look 0 - 1 0", "refused 6"),
+        ("look 4611686018427387905 - 1 0", "refused 1"),
+        ("tick 4611686018427387905", "refused 1"),
+        ("out 4096 0", "out -"),
+        ("read 00", "refused 4"),
+        ("read H", "message 0 33792"),
+        (
+            "read 0000000000010000000000000161016200000c0001",
+            "message 0 0 q 0161016200 2 1 12 1",
+        ),
+        (
+            "read 00008400000000020000000004646f636b00000c0001000000090002c00c000010000100000009000100",
+            "message 0 33792 r an 04646f636b00 1 4 12 1 9 04646f636b00 1 4 r an 00 0 0 16 1 9 00",
+        ),
+        (
+            "put 0 5353 000084000000000100000000016100000100010000000900040a000007",
+            "cached 0 0",
+        ),
+        ("look 0 014100 1 0", "slot 0 0 9000 016100 1 1 0a000007"),
+        ("txt - 01 -", "refused 9"),
+        ("txt 41 04613d3d31 -", "value received 3 3d31"),
+    ] {
+        let line = line.replace('H', header);
+        assert_eq!(ask(&mut console, &line), answer, "{line}");
+    }
+}
+
+#[test]
+fn tables_of_other_sizes() {
+    let mut console = Console::default();
+    let zeros = format!(" 0 0 0 0 0 {}", "00".repeat(1024));
+    for (line, answer) in [
+        ("slot 63", &format!("slot 63{zeros}")[..]),
+        ("table 0", "table"),
+        ("slot 0", "bad line"),
+        ("look 0 00 1 0", "refused 8"),
+        ("look 0 - 1 0", "refused 8"),
+        ("look 4611686018427387905 - 1 0", "refused 1"),
+        ("put 0 1 -", "refused 8"),
+        ("table 02 002047", "table"),
+        ("put 0 1 -", "refused 8"),
+        ("slot 1", "bad line"),
+        ("slot 0", &format!("slot 0{zeros}")),
+        ("table 2", "table"),
+        ("put 0 1 -", "refused 4"),
+        ("slot 1", &format!("slot 1{zeros}")),
+        ("slot 2", "bad line"),
+        ("look 0 00 1 2", "none"),
+        ("clear", "cleared"),
+        ("slot 2", "bad line"),
+        ("table 514", "bad line"),
+        ("slot 1", &format!("slot 1{zeros}")),
+        ("table 513 525312", "table"),
+        ("put 0 1 -", "refused 8"),
+        ("slot 512", &format!("slot 512{zeros}")),
+        ("slot 513", "bad line"),
+        ("table 512", "table"),
+        ("put 0 1 -", "refused 4"),
+        ("table 1 525312", "table"),
+        ("put 0 1 -", "refused 8"),
+        ("slot 1", "bad line"),
+    ] {
+        assert_eq!(ask(&mut console, line), answer, "{line}");
+    }
+}
+
+#[test]
+fn start_refusals() {
+    let mut console = Console::default();
+    for (line, answer) in [
+        (
+            "start 4611686018427387905 251 - - - - - 0 - 00000000 -",
+            "refused 1",
+        ),
+        (
+            "start 4611686018427387904 251 - - - - - 0 - 00000000 -",
+            "refused 2",
+        ),
+        (
+            "start 4611686018427387904 250 - - - - - 0 - 00000000 -",
+            "refused 7",
+        ),
+    ] {
+        assert_eq!(ask(&mut console, line), answer);
+    }
+    let long = format!(
+        "start 0 0 {} 5f61 5f746370 61 6c6f63616c 1 00 00000000 -",
+        "61".repeat(257)
+    );
+    assert_eq!(ask(&mut console, &long), "refused 7");
+    assert_eq!(
+        ask(&mut console, "claims"),
+        "0 instance lost - host lost - reply -"
+    );
+}

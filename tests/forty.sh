@@ -1,0 +1,79 @@
+#!/usr/bin/env bash
+# Forty responders on one link, and a browser that knows them all: its list of known answers takes several packets, all but the last with TC (RFC 6762
+# section 7.2). How many responders answer it?
+#   tests/forty.sh [COUNT [MOST]]             as root; about 12 s; COUNT responders (40; 1 to 200); fails where more than MOST answer (COUNT)
+#   PROGRAMS=FOLDER tests/forty.sh ..         with a responder that is built already
+# Each responder, and the browser, is alone in a network namespace that is joined to one bridge; the machine's own network is not touched. Every wait has an
+# end. Where namespaces can't be made it says 'skipped: ...' and succeeds. First the browser asks without known answers, and all have to answer: so it is known
+# that each hears and is heard. The last line is 'forty: of N responders answer N that aren't known, M that are known, K that are known behind others': others
+# are instances that are no longer there, and fill the first packet.
+set -uo pipefail
+root=$(cd "$(dirname "$0")/.." && pwd)
+count=${1:-40}
+most=${2:-$count}
+[ "$count" -ge 1 ] 2>/dev/null && [ "$count" -le 200 ] && [ "$most" -ge 0 ] 2>/dev/null || { sed -n 2,9p "$0" >&2; exit 2; }
+asker=$((count + 1)) # the browser's machine; the responders' are 1 to count
+net=forty$$
+work=$(mktemp -d)
+running=
+
+skip() { echo "skipped: $*"; exit 0; }
+
+# A machine of the link, with the address 10.78.0.NUMBER.
+make_machine() { # NUMBER
+    ip netns add "$net-$1" || return 1
+    ip -n "$net-$1" link set lo up
+    ip -n "$net-$1" link add wire type veth peer name "to-$1" netns "$net-bridge" || return 1
+    ip -n "$net-$1" addr add "10.78.0.$1/24" dev wire
+    ip -n "$net-$1" link set wire up
+    ip -n "$net-bridge" link set "to-$1" master bridge up
+}
+
+make_link() {
+    ip netns add "$net-bridge" && ip -n "$net-bridge" link add bridge type bridge mcast_snooping 0 && ip -n "$net-bridge" link set bridge up || return 1
+    local number
+    for number in $(seq "$asker"); do make_machine "$number" || return 1; done
+}
+
+remove_all() {
+    local id number
+    for id in $running; do kill "$id" 2>/dev/null; done
+    for id in $running; do wait "$id" 2>/dev/null; done
+    for number in $(seq "$asker") bridge; do ip netns del "$net-$number" 2>/dev/null; done
+    rm -rf "$work"
+}
+
+# As long as an instance's label may be, so that its PTR takes 77 bytes in a list of known answers.
+label() { printf 'Audience booth %03d, third floor, east wing, the big registry..' "$1"; }
+
+start_responder() { # NUMBER
+    timeout -k 2 60 ip netns exec "$net-$1" "$responder" --interface "10.78.0.$1" --seconds 50 \
+        --instance "$(label "$1")" --service _voice._tcp --host "dock-$1" --port $((4000 + $1)) >"$work/$1" 2>&1 &
+    running="$running $!"
+}
+
+# Waits until all hold both names.
+all_hold() {
+    local tries=300
+    while [ "$tries" -gt 0 ]; do
+        [ "$(cat "$work"/[0-9]* | grep -c ' held ')" = $((2 * count)) ] && return 0
+        sleep 0.1
+        tries=$((tries - 1))
+    done
+    echo "after 30 s only $(cat "$work"/[0-9]* | grep -c ' held ') of $((2 * count)) names are held"
+    return 1
+}
+
+[ "$(id -u)" = 0 ] || skip "network namespaces need root"
+for command in ip timeout python3 cargo; do command -v "$command" >/dev/null 2>&1 || skip "$command is not installed"; done
+. "$root/tests/interop/programs.sh"
+find_programs || exit 1
+trap remove_all EXIT
+make_link 2>"$work/refused" || skip "a link of network namespaces can't be made here: $(head -n 1 "$work/refused")"
+
+for number in $(seq "$count"); do start_responder "$number"; done
+all_hold || exit 1
+# their second announcements come a second after the first, and no PTR goes out again within a second
+sleep 2.5
+for number in $(seq "$count"); do label "$number"; echo; done >"$work/labels"
+timeout -k 2 30 ip netns exec "$net-$asker" python3 "$root/tests/forty_ask.py" "10.78.0.$asker" "$work/labels" "$most"

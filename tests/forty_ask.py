@@ -1,0 +1,141 @@
+"""A browser asks for the instances of _voice._tcp.local three times: without known answers; with all instances as known answers, in as many packets as they
+take; and with as many others before them as fill the first packet.
+
+ADDRESS LABELS MOST: the interface's address; a file of the instances' labels, one a line; how many may answer that are known. Prints how many answered, and
+when. Fails where one is silent that isn't known, or more than so many answer that are."""
+
+import pathlib
+import socket
+import struct
+import sys
+import time
+
+GROUP, PORT = "224.0.0.251", 5353
+MOST = 1452  # bytes of a packet
+APART = 0.020  # seconds between the packets of one query
+HEARD_FOR = 0.700  # seconds that answers are counted after the last packet of a query
+PAUSE = 1.5  # seconds between two queries: no PTR goes out again within a second
+TTL = 4500
+PTR, CLASS_IN = 12, 1
+TC, RESPONSE = 0x0200, 0x8000
+
+
+def name(*labels):
+    return b"".join(bytes([len(label)]) + label for label in labels) + b"\0"
+
+
+SERVICE = name(b"_voice", b"_tcp", b"local")
+QUESTION = SERVICE + struct.pack("!HH", PTR, CLASS_IN)
+TO_SERVICE = b"\xc0\x0c"  # a pointer to what stands right behind the header, always the service's name
+
+
+def known_answer(owner, label):
+    rdata = bytes([len(label)]) + label + TO_SERVICE
+    return owner + struct.pack("!HHIH", PTR, CLASS_IN, TTL, len(rdata)) + rdata
+
+
+def packets(labels):
+    """The query: the question and as many known answers as fit, then packets without a question; TC is set in all but the last."""
+    lists = [[QUESTION]]
+    for label in labels:
+        record = known_answer(TO_SERVICE, label)
+        if 12 + sum(map(len, lists[-1])) + len(record) > MOST:
+            lists.append([])
+            record = known_answer(SERVICE, label)
+        lists[-1].append(record)
+    return [packet(parts, number == 0, number + 1 < len(lists)) for number, parts in enumerate(lists)]
+
+
+def packet(parts, is_first, is_cut):
+    header = struct.pack("!6H", 0, TC if is_cut else 0, int(is_first), len(parts) - int(is_first), 0, 0)
+    return header + b"".join(parts)
+
+
+def read_name(packet, at):
+    """The labels of a name, and where what follows it begins."""
+    labels, end = [], None
+    while packet[at]:
+        if packet[at] >= 0xC0:
+            end = end or at + 2
+            at = struct.unpack_from("!H", packet, at)[0] & 0x3FFF
+        else:
+            labels.append(packet[at + 1 : at + 1 + packet[at]])
+            at += 1 + packet[at]
+    return labels, end or at + 1
+
+
+def pointers(packet):
+    """The instances' labels in the PTR records of a response's Answer section."""
+    _, flags, questions, answers, _, _ = struct.unpack_from("!6H", packet)
+    if not flags & RESPONSE or questions:
+        return []
+    at, found = 12, []
+    for _ in range(answers):
+        _, at = read_name(packet, at)
+        kind, _, ttl, length = struct.unpack_from("!HHIH", packet, at)
+        if kind == PTR and ttl:
+            found.append(read_name(packet, at + 10)[0][0])
+        at += 10 + length
+    return found
+
+
+def open_socket(address):
+    opened = socket.socket(socket.AF_INET, socket.SOCK_DGRAM)
+    opened.setsockopt(socket.SOL_SOCKET, socket.SO_REUSEADDR, 1)
+    opened.setsockopt(socket.SOL_SOCKET, socket.SO_RCVBUF, 1 << 20)
+    opened.bind((GROUP, PORT))
+    membership = socket.inet_aton(GROUP) + socket.inet_aton(address)
+    opened.setsockopt(socket.IPPROTO_IP, socket.IP_ADD_MEMBERSHIP, membership)
+    opened.setsockopt(socket.IPPROTO_IP, socket.IP_MULTICAST_IF, socket.inet_aton(address))
+    opened.setsockopt(socket.IPPROTO_IP, socket.IP_MULTICAST_TTL, 255)
+    opened.setsockopt(socket.IPPROTO_IP, socket.IP_MULTICAST_LOOP, 0)
+    return opened
+
+
+def ask(link, query):
+    """Sends a query; gives each answer's source, labels and time since the first packet of the query."""
+    begun, answers = time.monotonic(), []
+    for number, packet in enumerate(query):
+        hear(link, begun + number * APART, begun, answers)
+        link.sendto(packet, (GROUP, PORT))
+    hear(link, time.monotonic() + HEARD_FOR, begun, answers)
+    return answers
+
+
+def hear(link, until, begun, answers):
+    while (left := until - time.monotonic()) > 0:
+        link.settimeout(left)
+        try:
+            packet, source = link.recvfrom(9000)
+        except TimeoutError:
+            return
+        if labels := pointers(packet):
+            answers.append((source[0], labels, round((time.monotonic() - begun) * 1000)))
+
+
+def count(link, words, known):
+    """Asks with these known answers; says and gives how many responders answered."""
+    query = packets(known)
+    answers = ask(link, query)
+    responders = len({source for source, _, _ in answers})
+    times = [time for _, _, time in answers]
+    when = f", {min(times)} to {max(times)} ms after the first" if times else ""
+    lengths = "+".join(str(len(packet)) for packet in query)
+    print(f"{words}: asked in {len(query)} packets of {lengths} bytes; {len(answers)} packets from {responders} responders{when}", flush=True)
+    time.sleep(PAUSE)
+    return responders
+
+
+def main():
+    address, file, most = sys.argv[1:]
+    labels = pathlib.Path(file).read_bytes().splitlines()
+    others = [labels[0].replace(b"001", b"%d" % (900 + number)) for number in range(MOST // len(known_answer(TO_SERVICE, labels[0])))]
+    link = open_socket(address)
+    unknown = count(link, "none known", [])
+    known = count(link, "all known", labels)
+    behind = count(link, "all known, behind others", others + labels)
+    print(f"forty: of {len(labels)} responders answer {unknown} that aren't known, {known} that are known, {behind} that are known behind others")
+    sys.exit(unknown != len(labels) or max(known, behind) > int(most))
+
+
+main()
