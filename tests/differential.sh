@@ -49,6 +49,15 @@ recv unicast with SRV
 recv unicast in other case
 tick sent probe more
 tick sent response of 3 more
+tick sent response of 5
+tick sent response of 6
+tick sent response with 1 NSEC
+tick sent response with 2 NSEC
+holds none
+holds of 1
+holds of 2
+holds of 3
+holds of 4
 claims instance waiting
 claims instance probing
 claims instance deferred

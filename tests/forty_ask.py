@@ -1,5 +1,5 @@
-"""A browser asks for the instances of _voice._tcp.local three times: without known answers; with all instances as known answers, in as many packets as they
-take; and with as many others before them as fill the first packet.
+"""A browser asks for the instances of _voice._tcp.local four times: without known answers; with all instances as known answers, in as many packets as they
+take; with as many others before them as fill the first packet; and with all but the last.
 
 ADDRESS LABELS MOST: the interface's address; a file of the instances' labels, one a line; how many may answer that are known. Prints how many answered, and
 when. Fails where one is silent that isn't known, or more than so many answer that are."""
@@ -114,7 +114,7 @@ def hear(link, until, begun, answers):
 
 
 def count(link, words, known):
-    """Asks with these known answers; says and gives how many responders answered."""
+    """Asks with these known answers; says how many responders answered, and gives the labels in their answers."""
     query = packets(known)
     answers = ask(link, query)
     responders = len({source for source, _, _ in answers})
@@ -123,7 +123,7 @@ def count(link, words, known):
     lengths = "+".join(str(len(packet)) for packet in query)
     print(f"{words}: asked in {len(query)} packets of {lengths} bytes; {len(answers)} packets from {responders} responders{when}", flush=True)
     time.sleep(PAUSE)
-    return responders
+    return {label for _, labels, _ in answers for label in labels}
 
 
 def main():
@@ -134,8 +134,13 @@ def main():
     unknown = count(link, "none known", [])
     known = count(link, "all known", labels)
     behind = count(link, "all known, behind others", others + labels)
-    print(f"forty: of {len(labels)} responders answer {unknown} that aren't known, {known} that are known, {behind} that are known behind others")
-    sys.exit(unknown != len(labels) or max(known, behind) > int(most))
+    but_one = count(link, "all known but one", labels[:-1])
+    print(
+        f"forty: of {len(labels)} responders answer {len(unknown)} that aren't known, {len(known)} that are known, "
+        f"{len(behind)} that are known behind others, and {len(but_one)} where all but one are known"
+    )
+    is_heard = unknown == set(labels) and labels[-1] in but_one
+    sys.exit(not is_heard or max(len(known), len(behind), len(but_one) - 1) > int(most))
 
 
 main()

@@ -18,10 +18,21 @@ static struct kurgashel_answer start(const struct kurgashel_setup *setup, uint64
     return kurgashel_start(state, KURGASHEL_STATE_BYTES, (const uint8_t *)setup, sizeof *setup, now, draw);
 }
 static struct kurgashel_answer tick(uint64_t now) { return kurgashel_tick(state, KURGASHEL_STATE_BYTES, now, out, KURGASHEL_OUT_BYTES); }
+static struct kurgashel_answer receive(uint64_t now, const uint8_t *from, size_t from_bytes, uint16_t port, uint64_t draw, uint64_t hold, const uint8_t *packet,
+    size_t bytes) {
+    return kurgashel_receive(state, KURGASHEL_STATE_BYTES, now, from, from_bytes, port, draw, hold, packet, bytes, out, KURGASHEL_OUT_BYTES);
+}
+// from a neighbour, where its address does not matter
+static const uint8_t neighbour[4] = { 10, 0, 0, 9 };
+static struct kurgashel_answer hear(uint64_t now, uint16_t port, uint64_t draw, const uint8_t *packet, size_t bytes) {
+    return receive(now, neighbour, sizeof neighbour, port, draw, 400, packet, bytes);
+}
 static void keep(void) { memcpy(kept, state, sizeof state); memcpy(was, out, sizeof out); }
 static int same(void) { return !memcmp(kept, state, sizeof state) && !memcmp(was, out, sizeof out); }
+static int quiet(struct kurgashel_answer a) { return !a.refusal && !a.more && !a.unicast && !a.length; }
 static int is(struct kurgashel_answer a, uint8_t refusal) { return a.refusal == refusal && !a.more && !a.unicast && !a.length && same(); }
 static int due(uint64_t time) { struct kurgashel_due d = kurgashel_due(state, KURGASHEL_STATE_BYTES); return d.due && d.time == time; }
+static int none_due(void) { return !kurgashel_due(state, KURGASHEL_STATE_BYTES).due; }
 static uint8_t claim(uint8_t which) { return kurgashel_claim(state, KURGASHEL_STATE_BYTES, which); }
 
 static void sizes(void) {
@@ -37,7 +48,8 @@ static void sizes(void) {
     expect(is(kurgashel_start(NULL, 0, NULL, 0, 0, 251), 2), "start: 2 comes before 7");
     expect(is(kurgashel_tick(NULL, 0, 0, NULL, 0), 3), "tick: 3 comes before 7");
     expect(is(kurgashel_tick(NULL, 0, 0, out, KURGASHEL_OUT_BYTES), 7), "tick: no state is 7");
-    expect(is(kurgashel_receive(NULL, 0, 0, 5353, 20, NULL, 0, out, KURGASHEL_OUT_BYTES), 4), "receive: 4 comes before 7");
+    expect(is(kurgashel_receive(NULL, 0, 0, NULL, 0, 5353, 20, 400, NULL, 0, out, KURGASHEL_OUT_BYTES), 4), "receive: 4 comes before 7");
+    expect(is(kurgashel_tick(state, 685, 0, out, KURGASHEL_OUT_BYTES), 7), "tick: a state of 685 bytes, as older versions kept them, is 7");
     expect(kurgashel_claim(NULL, 0, 0) == KURGASHEL_LOST, "no state is lost");
     expect(!kurgashel_due(NULL, 0).due && !kurgashel_due(NULL, 0).time, "no state has a step to come");
     expect(kurgashel_cache_take(NULL, 0, NULL, 0, 0, 5353, NULL, 0).refusal == 8, "cache: no table is 8, before 4");
@@ -84,47 +96,151 @@ static void life(void) {
     expect(due(1750), "the second announcements 1,000 ms later");
     keep();
     uint8_t query[29] = "\0\0\0\0\0\1\0\0\0\0\0\0\4dock\5local\0\0\1\0\1";
-    expect(is(kurgashel_receive(state, KURGASHEL_STATE_BYTES, 800, 5354, 20, announcement, 38, out, KURGASHEL_OUT_BYTES), 5), "a response from another port");
-    expect(is(kurgashel_receive(state, KURGASHEL_STATE_BYTES, 800, 5353, 19, query, 28, out, KURGASHEL_OUT_BYTES), 2), "a draw of 19");
-    expect(is(kurgashel_receive(state, KURGASHEL_STATE_BYTES, 800, 5353, 20, query, 27, out, KURGASHEL_OUT_BYTES), 6), "a cut question");
-    expect(is(kurgashel_receive(state, KURGASHEL_STATE_BYTES, 800, 5353, 20, query, 11, out, KURGASHEL_OUT_BYTES), 4), "11 bytes");
-    a = kurgashel_receive(state, KURGASHEL_STATE_BYTES, 1750, 5353, 20, query, 28, out, KURGASHEL_OUT_BYTES);
+    expect(is(hear(800, 5354, 20, announcement, 38), 5), "a response from another port");
+    expect(is(hear(800, 5353, 19, query, 28), 2), "a draw of 19");
+    expect(is(hear(800, 5353, 20, query, 27), 6), "a cut question");
+    expect(is(hear(800, 5353, 20, query, 11), 4), "11 bytes");
+    a = hear(1750, 5353, 20, query, 28);
     expect(!a.refusal && !a.unicast && a.length == 38 && !memcmp(out, announcement, 38), "the host's address, asked for");
     // a plain resolver: its ID and question again, TTL 10, class 1; asked in other letters, no name is cut
     static const uint8_t reply[45] = "\x12\x34\x84\0\0\1\0\1\0\0\0\0\4dock\5local\0\0\1\x80\1\xc0\x0c\0\1\0\1\0\0\0\x0a\0\4\x0a\0\0\7";
     uint8_t plain[29] = "\x12\x34\1\0\0\1\0\0\0\0\0\0\4dock\5local\0\0\1\x80\1";
     keep();
-    a = kurgashel_receive(state, KURGASHEL_STATE_BYTES, 1750, 1024, 20, plain, 28, out, KURGASHEL_OUT_BYTES);
+    a = hear(1750, 1024, 20, plain, 28);
     expect(!a.refusal && a.unicast && a.length == 44 && !memcmp(out, reply, 44), "a plain resolver is answered by unicast, whatever was multicast just now");
     expect(!memcmp(state, kept, sizeof state) && !memcmp(out + 44, was + 44, sizeof out - 44), "at the same time that changes no byte of the state");
     plain[20] = 'C';
-    a = kurgashel_receive(state, KURGASHEL_STATE_BYTES, 1750, 1024, 20, plain, 28, out, KURGASHEL_OUT_BYTES);
+    a = hear(1750, 1024, 20, plain, 28);
     expect(!a.refusal && a.unicast && a.length == 54 && out[20] == 'C' && out[28] == 4, "asked for in other letters: the question again, the owner whole");
     plain[25] = 28;
-    a = kurgashel_receive(state, KURGASHEL_STATE_BYTES, 1750, 1024, 20, plain, 28, out, KURGASHEL_OUT_BYTES);
+    a = hear(1750, 1024, 20, plain, 28);
     expect(!a.refusal && !a.unicast && !a.length, "AAAA, which the host lacks: no NSEC for a plain resolver");
     static const uint8_t nsec[39] = "\0\0\x84\0\0\0\0\1\0\0\0\0\4dock\5local\0\0\x2f\x80\1\0\0\0\x78\0\5\xc0\x0c\0\1\x40";
     query[25] = 28;
-    a = kurgashel_receive(state, KURGASHEL_STATE_BYTES, 1750, 5353, 20, query, 28, out, KURGASHEL_OUT_BYTES);
+    a = hear(1750, 5353, 20, query, 28);
     expect(!a.refusal && a.length == 39 && !memcmp(out, nsec, 39), "AAAA, which the host lacks: NSEC says that it has A alone");
-    a = kurgashel_receive(state, KURGASHEL_STATE_BYTES, 1799, 5353, 20, query, 28, out, KURGASHEL_OUT_BYTES);
+    a = hear(1799, 5353, 20, query, 28);
     expect(!a.refusal && !a.length, "and not again within 1,000 ms");
     uint8_t theirs[38]; memcpy(theirs, announcement, 38); theirs[37] = 8;
-    a = kurgashel_receive(state, KURGASHEL_STATE_BYTES, 1800, 5353, 20, theirs, 38, out, KURGASHEL_OUT_BYTES);
+    a = hear(1800, 5353, 20, theirs, 38);
     expect(!a.refusal && !a.length && claim(KURGASHEL_HOST) == KURGASHEL_WAITING, "a conflict: back to waiting");
     expect(claim(KURGASHEL_INSTANCE) == KURGASHEL_HELD && claim(255) == KURGASHEL_WAITING, "the instance is held; any number but 0 is the host");
     expect(due(1750), "the instance's second step is overdue");
     a = tick(1800);
     expect(a.length && a.more && due(1800), "it sends, and the host's first probe is due");
     state[579] = 6; state[588] = 7; state[660] = 0;
-    expect(!kurgashel_due(state, KURGASHEL_STATE_BYTES).due, "held for good and lost: no step to come");
+    expect(none_due(), "held for good and lost: no step to come");
+}
+
+// Begins with both names held, at a time when nothing was multicast for long; tells that time.
+static uint64_t settled(void) {
+    start(&good, 0, 0);
+    for (uint64_t now = 0; now < 5000; now += 50) while (tick(now).more) ;
+    return 5000;
+}
+
+// A query for the host's address that is cut short (TC), one for its AAAA, and known answers without a question: the host's address with TTL 60, half its own.
+static const uint8_t cut[28] = "\0\0\2\0\0\1\0\0\0\0\0\0\4dock\5local\0\0\1\0\1";
+static const uint8_t cut_aaaa[28] = "\0\0\2\0\0\1\0\0\0\0\0\0\4dock\5local\0\0\x1c\0\1";
+static const uint8_t known[38] = "\0\0\0\0\0\0\0\1\0\0\0\0\4dock\5local\0\0\1\0\1\0\0\0\x3c\0\4\n\0\0\7";
+static const uint8_t address[38] = "\0\0\x84\0\0\0\0\1\0\0\0\0\4dock\5local\0\0\1\x80\1\0\0\0\x78\0\4\n\0\0\7";
+static int sends_address(struct kurgashel_answer a) { return !a.refusal && !a.unicast && a.length == sizeof address && !memcmp(out, address, sizeof address); }
+
+// the second draw is tested on every call, whatever the packet
+static void hold_draws(void) {
+    uint64_t now = settled();
+    keep();
+    static const uint64_t refused[] = { 0, 120, 399, 501, UINT64_MAX };
+    for (size_t i = 0; i < sizeof refused / sizeof *refused; i++) {
+        expect(is(receive(now, neighbour, 4, 5353, 20, refused[i], cut, sizeof cut), 2), "a draw for holding outside 400..500, of a query with TC");
+        expect(is(receive(now, neighbour, 4, 5353, 20, refused[i], address, sizeof address), 2), "and of a response");
+        expect(is(receive(now, neighbour, 4, 1024, 20, refused[i], NULL, 0), 2), "and before 4");
+        expect(is(kurgashel_receive(state, KURGASHEL_STATE_BYTES, now, neighbour, 4, 5353, 20, refused[i], cut, sizeof cut, NULL, 0), 2), "and before 3");
+    }
+    expect(is(receive(1, neighbour, 4, 5353, 20, 399, cut, sizeof cut), 1), "1 comes before 2");
+    expect(quiet(receive(now, neighbour, 4, 5353, 20, 400, cut, sizeof cut)) && due(now + 400), "a draw of 400");
+    now = settled();
+    expect(quiet(receive(now, neighbour, 4, 5353, 20, 500, cut, sizeof cut)) && due(now + 500), "a draw of 500");
+}
+
+static void held_queries(void) {
+    uint64_t now = settled();
+    expect(none_due() && quiet(receive(now, neighbour, 4, 5353, 20, 400, cut, sizeof cut)) && due(now + 400), "a query with TC is held as long as is drawn");
+    expect(quiet(tick(now + 399)) && due(now + 400), "before that a tick sends nothing");
+    expect(sends_address(tick(now + 400)) && none_due(), "then it is answered, and no longer held");
+
+    now = settled();
+    receive(now, neighbour, 4, 5353, 20, 400, cut, sizeof cut);
+    expect(quiet(receive(now + 20, neighbour, 4, 5353, 20, 400, known, sizeof known)) && due(now + 400), "a second packet tells known answers");
+    expect(quiet(tick(now + 400)) && none_due(), "what it tells is left out, and nothing is sent");
+
+    now = settled();
+    receive(now, neighbour, 4, 5353, 20, 400, cut, sizeof cut);
+    expect(sends_address(receive(now + 20, neighbour, 4, 5353, 20, 500, cut, sizeof cut)) && due(now + 400), "a second query of the address is no second hold");
+
+    // another port is another asker: nothing of it is held, and what it knows is not known
+    now = settled();
+    receive(now, neighbour, 4, 5353, 20, 400, cut, sizeof cut);
+    receive(now + 20, neighbour, 4, 1024, 20, 400, known, sizeof known);
+    expect(sends_address(tick(now + 400)), "known answers from another port do not count");
+    struct kurgashel_answer a = receive(now + 400, neighbour, 4, 1024, 20, 400, cut, sizeof cut);
+    expect(a.unicast && a.length && none_due(), "a query with TC from another port is answered at once");
+}
+
+// whose known answers count: those of the same address, in whatever form it is handed
+static void addresses(void) {
+    static const uint8_t mapped[16] = { [10] = 0xff, 0xff, 10, 0, 0, 9 }, compatible[16] = { [12] = 10, 0, 0, 9 }, nobody[16], other[4] = { 10, 0, 0, 8 };
+    static const uint8_t five[5] = { 10, 0, 0, 9, 1 };
+    static const struct { const uint8_t *first; size_t first_bytes; const uint8_t *second; size_t second_bytes; int same; const char *what; } cases[] = {
+        { neighbour, 4, mapped, 16, 1, "4 bytes, then ::ffff:10.0.0.9" },
+        { mapped, 16, neighbour, 4, 1, "::ffff:10.0.0.9, then 4 bytes" },
+        { neighbour, 4, other, 4, 0, "another address" },
+        { neighbour, 4, compatible, 16, 0, "::10.0.0.9 is another address" },
+        { mapped, 16, mapped, 15, 0, "15 bytes count as ::" },
+        { five, 5, nobody, 16, 1, "5 bytes count as ::" },
+        { mapped, 3, NULL, 0, 1, "3 bytes and none count as ::" },
+        { nobody, 4, nobody, 16, 0, "0.0.0.0 is ::ffff:0.0.0.0" },
+    };
+    for (size_t i = 0; i < sizeof cases / sizeof *cases; i++) {
+        uint64_t now = settled();
+        receive(now, cases[i].first, cases[i].first_bytes, 5353, 20, 400, cut, sizeof cut);
+        receive(now + 1, cases[i].second, cases[i].second_bytes, 5353, 20, 400, known, sizeof known);
+        struct kurgashel_answer a = tick(now + 400);
+        expect(cases[i].same ? quiet(a) : sends_address(a), cases[i].what);
+    }
+}
+
+// up to four are held, in order of arrival
+static void four_and_a_fifth(void) {
+    uint64_t now = settled();
+    static const uint8_t nsec[39] = "\0\0\x84\0\0\0\0\1\0\0\0\0\4dock\5local\0\0\x2f\x80\1\0\0\0\x78\0\5\xc0\x0c\0\1\x40";
+    uint8_t from[4] = { 10, 0, 0, 0 };
+    for (from[3] = 1; from[3] <= 4; from[3]++) {
+        uint64_t hold = from[3] == 1 ? 500 : 400;
+        expect(quiet(receive(now, from, 4, 5353, 20, hold, from[3] == 2 ? cut_aaaa : cut, 28)) && due(now + hold), "four are held");
+    }
+    expect(sends_address(receive(now, from, 4, 5353, 20, 400, cut, sizeof cut)) && due(now + 400), "a fifth is answered at once");
+    struct kurgashel_answer a = tick(now + 400);
+    expect(a.length == 39 && a.more && !memcmp(out, nsec, 39) && due(now + 400), "the second, which asked for AAAA, is the first that is due; so are two more");
+    expect(quiet(tick(now + 400)) && due(now + 500), "what the fifth was sent is not sent again, and those two are taken");
+    expect(quiet(tick(now + 500)) && none_due(), "nor for the first");
+    from[3] = 6;
+    expect(quiet(receive(now + 500, from, 4, 5353, 20, 400, cut, sizeof cut)) && due(now + 900), "there is room again");
+
+    now = settled();
+    for (from[3] = 1; from[3] <= 2; from[3]++) receive(now, from, 4, 5353, 20, 400, from[3] == 1 ? cut : cut_aaaa, 28);
+    a = tick(now + 400);
+    expect(sends_address(a) && a.more, "of two that are due the first to come goes first");
+    a = tick(now + 400);
+    expect(a.length == 39 && !a.more && none_due(), "then the second, and no more is due");
 }
 
 // the times and the draw below 256
 static void small_numbers(void) {
     for (size_t i = 0; i < 10; i++) memset(state + 579 + 9 * i + 1, 0, 7);
-    memset(state + 669, 0, 7);
-    memset(state + 677, 0, 7);
+    for (size_t i = 0; i < 4; i++) memset(state + 669 + 39 * i + 17, 0, 7);
+    memset(state + 825, 0, 7);
+    memset(state + 833, 0, 7);
 }
 
 // every buffer of the right length is a state: a case beyond the last is lost, a flag counts by its low bit
@@ -145,6 +261,18 @@ static void any_bytes(void) {
     state[579] = 8; expect(claim(KURGASHEL_INSTANCE) == KURGASHEL_LOST, "case 8 is lost");
     state[579] = 255; expect(claim(KURGASHEL_INSTANCE) == KURGASHEL_LOST, "case 255 is lost");
     state[588] = 6; expect(claim(KURGASHEL_HOST) == KURGASHEL_HELD, "case 6 is held");
+
+    // the second held query's due time: 2^62 + 2,000 may be kept, 1 ms more is refused; a flag of 2 is a free place, whatever stands there
+    uint64_t now = settled(), latest = (1ull << 62) + 2000;
+    uint8_t *second = state + 669 + 39 + 16;
+    second[0] = 255;
+    for (int i = 0; i < 8; i++) second[1 + i] = latest >> (56 - 8 * i);
+    expect(due(latest) && quiet(tick(now)) && second[0] == 1 && due(latest), "a flag counts by its low bit, and is written as 1");
+    second[8]++;
+    keep();
+    expect(is(tick(now), 1) && is(hear(now, 5353, 20, cut, sizeof cut), 1), "a held query that is due too late");
+    second[0] = 2;
+    expect(none_due() && quiet(tick(now)) && !second[0] && !second[8], "a free place, written as zeros");
 }
 
 static void pairs(void) {
@@ -165,6 +293,10 @@ int main(void) {
     sizes();
     setups();
     life();
+    hold_draws();
+    held_queries();
+    addresses();
+    four_and_a_fifth();
     any_bytes();
     pairs();
     printf("%d cases, %d failed\n", cases, failed);

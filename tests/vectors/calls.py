@@ -1,4 +1,4 @@
-# The responder's calls for vectors: `start`, `recv`, `tick`, `claims` and `out`, messages for them, and a responder in each state.
+# The responder's calls for vectors: `start`, `recv`, `tick`, `claims`, `holds` and `out`, messages for them, and a responder in each state.
 from packets import *
 
 INSTANCE = name(b"booth", b"_voice", b"_tcp", b"local")
@@ -25,12 +25,16 @@ def tick(now, *out):
     print("tick", now, *out)
 
 
-def recv(now, packet, draw=20, port=5353, out=()):
-    print("recv", now, port, draw, text(packet), *out)
+def recv(now, packet, draw=20, port=5353, out=(), source=bytes([10, 0, 0, 1]), hold=400):
+    print("recv", now, text(source), port, draw, hold, text(packet), *out)
 
 
 def claims():
     print("claims")
+
+
+def holds():
+    print("holds")
 
 
 def out(at, n):

@@ -1,11 +1,12 @@
 -- A packet received, or a tick, on lent bytes. Assumes nothing.
-use mathlib.Core.Path.{_≡_, refl, sym, ap, _∙_}
+use mathlib.Core.Path.{_≡_, refl, sym, ap, subst, _∙_}
 use mathlib.Core.Bool.{Bool, true, false}
 use mathlib.Core.List.{List}
 use Prim.Native.Nat.{ℕ}
 use borrow.Author.Tests.{eq-eqb, ne-eqb}
 use lib.Dec.{eqb}
 use Rattle.writer.specs.own_packets.Own.{laidOver}
+use Rattle.claims.specs.declared.holds.Address.{Address}
 use Rattle.responder.specs.declared.State.{State}
 use Rattle.responder.specs.declared.Answer.{Answer}
 use Rattle.responder.specs.declared.Received.{Received}
@@ -34,6 +35,11 @@ of-receive h = record {
   is-after = ap (λ (x : Received). x .state) (h .answers);
   is-out = h .writes;
 }
+
+-- a packet from an address that was read of bytes
+pub of-receive-from : {s : State} (a : Address → Arrival) {from source : Address} {out out′ : List ℕ} {r : Received} → from ≡ source → Receives s (a from) out r out′
+    → Gives s (received (a source)) out (r .answer) false (r .state) out′
+of-receive-from {s} a {out = out} {out′} {r} e h = of-receive (subst (λ (x : Address). Receives s (a x) out r out′) e h)
 
 pub of-tick : {s : State} {t : Tick} {out out′ : List ℕ} {r : Ticked} → Ticks s t out r out′ → Gives s (ticked t) out (r .answer) (r .more) (r .state) out′
 of-tick h = record {

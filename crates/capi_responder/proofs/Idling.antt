@@ -26,7 +26,7 @@ use Rattle.responder.specs.Runs.{ticked}
 use Rattle.capi_responder.specs.codec.Numbers.{bytes64}
 use Rattle.capi_responder.specs.codec.Layout as layout
 use Rattle.capi_responder.specs.codec.Parts.{setupAt, progressAt}
-use Rattle.capi_responder.specs.codec.Codec.{decode, lastBytes, multicastsBytes, progressBytes, withProgress, withTime, stateWith}
+use Rattle.capi_responder.specs.codec.Codec.{decode, lastBytes, multicastsBytes, setBytes, holdBytes, holdsBytes, progressBytes, withProgress, withTime, stateWith}
 use Rattle.capi_responder.specs.declared.Called.{Called}
 use Rattle.capi_responder.specs.Exported.{calledWith, Calls}
 use Rattle.capi_responder.specs.idle.Idle.{nothingDue, isIdle}
@@ -108,17 +108,17 @@ module _ (b : List ℕ) (bytes : Bytes b) (time room : ℕ) (idle : isIdle b tim
       record { is-answer = simp (z, w); is-more = simp (z, w); is-after = simp (z, w); is-out = simp (z, w) }
 
   -- the bytes up to the time of the last call are those that would be written
-  front : progressBytes after ≡ take 98 (progressBytes (progressAt b)) ++ bytes64 time
-  unfolding progressBytes multicastsBytes lastBytes bytes64
+  front : progressBytes after ≡ take 254 (progressBytes (progressAt b)) ++ bytes64 time
+  unfolding progressBytes multicastsBytes lastBytes holdsBytes holdBytes setBytes bytes64
   front = refl
 
   time-written : withTime b time ≡ withProgress b after
   unfolding withTime withProgress
   time-written =
       let l : _ = i .long in
-      let e : take 677 b ++ bytes64 time ≡ take 579 b ++ progressBytes after =
-      ap (λ (x : List ℕ). x ++ bytes64 time) (take-add 579 98 b ∙ ap (λ (x : List ℕ). take 579 b ++ take 98 x) (r .same))
-      ∙ append-assoc (take 579 b) (take 98 (progressBytes (progressAt b))) (bytes64 time) ∙ ap (λ (x : List ℕ). take 579 b ++ x) (sym front) in
+      let e : take 833 b ++ bytes64 time ≡ take 579 b ++ progressBytes after =
+      ap (λ (x : List ℕ). x ++ bytes64 time) (take-add 579 254 b ∙ ap (λ (x : List ℕ). take 579 b ++ take 254 x) (r .same))
+      ∙ append-assoc (take 579 b) (take 254 (progressBytes (progressAt b))) (bytes64 time) ∙ ap (λ (x : List ℕ). take 579 b ++ x) (sym front) in
       simp l e
 
   says : decode (withProgress b after) ≡ stateWith b after

@@ -4,6 +4,7 @@ pub mod Cases
 pub mod Lengths
 pub mod Stands
 pub mod Multicast
+pub mod Held
 pub mod Round
 pub mod Front
 pub mod Whole

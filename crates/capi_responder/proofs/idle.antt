@@ -2,4 +2,5 @@
 pub mod Bytes
 pub mod Tests
 pub mod Cases
+pub mod Unheld
 pub mod Resting

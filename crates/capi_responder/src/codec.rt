@@ -4,9 +4,10 @@ ghost use mathlib.Core.Path.{_≡_};
 ghost use Prim.Native.Nat.{_+_, _≤_, _<_};
 ghost use lib.ListN.{length};
 ghost use Rattle.capi_responder.specs.codec.Numbers.{word64};
-ghost use Rattle.capi_responder.specs.codec.Layout.{mostLabel, mostService, mostTxt, setupSize, stateSize};
+ghost use Rattle.claims.specs.records.Own.{indexOf};
+ghost use Rattle.capi_responder.specs.codec.Layout.{mostLabel, mostService, mostTxt, holdSize, setupSize, stateSize};
 ghost use Rattle.capi_responder.specs.codec.Parts.{partAt, flagAt, labelAt, serviceAt, stringsAt, setupAt};
-ghost use Rattle.capi_responder.specs.codec.Parts.{claimOf, claimAt, whenAt, sentAt, multicastsAt, progressAt};
+ghost use Rattle.capi_responder.specs.codec.Parts.{claimOf, claimAt, whenAt, sentAt, multicastsAt, setAt, holdAt, holdsAt, progressAt};
 ghost use Rattle.capi_responder.specs.codec.Codec.{setupOf, decode};
 use crate::layout;
 use claims::ClaimState;
@@ -14,8 +15,12 @@ use claims::Multicast;
 use claims::Multicasts;
 use claims::Progress;
 use claims::When;
+use claims::holds::Address;
+use claims::holds::Hold;
+use claims::holds::Holds;
 use claims::records::Own;
 use claims::records::RECORDS;
+use claims::records::Set;
 use own::records::Label;
 use own::records::Service;
 use own::records::Setup;
@@ -171,6 +176,58 @@ fn multicasts_at(b: &[u8]) -> Multicasts
     Multicasts { of }
 }
 
+// Whether an own record is in a set.
+fn set_flag(b: &[u8], at: usize, o: Own) -> bool
+    requires { ⌜ at < stateSize ⌝ }
+    ensures { λ r. ⌜ r ≡ flagAt (now (b .entry)) (at + indexOf o) ⌝ }
+{
+    flag(b, at + claims::records::index_of(o))
+}
+
+fn set_at(b: &[u8], at: usize) -> Set
+    requires { ⌜ at < stateSize ⌝ }
+    ensures { λ r. ⌜ r ≡ setAt (now (b .entry)) at ⌝ }
+{
+    let mut flags = [false; RECORDS];
+    let mut i = 0;
+    while i < RECORDS {
+        flags[i] = set_flag(b, at, claims::records::record_at(i));
+        i += 1;
+    }
+    claims::records::set_of(flags)
+}
+
+// A held query.
+fn hold_at(b: &[u8], at: usize) -> Hold
+    requires { ⌜ at + holdSize ≤ stateSize ⌝ }
+    ensures { λ r. ⌜ r ≡ holdAt (now (b .entry)) at ⌝ }
+{
+    let low = at + layout::NUMBER_SIZE;
+    let due = low + layout::NUMBER_SIZE;
+    let asked = due + layout::CASE_SIZE;
+    let known = asked + layout::SET_SIZE;
+    Hold {
+        from: Address {
+            high: be64(b, at),
+            low: be64(b, low),
+        },
+        due: when_at(b, due),
+        asked: set_at(b, asked),
+        known: set_at(b, known),
+    }
+}
+
+fn holds_at(b: &[u8]) -> Holds
+    ensures { λ r. ⌜ r ≡ holdsAt (now (b .entry)) ⌝ }
+{
+    Holds {
+        first: hold_at(b, layout::HOLDS),
+        second: hold_at(b, layout::HOLDS + layout::HOLD_SIZE),
+        third: hold_at(b, layout::HOLDS + 2 * layout::HOLD_SIZE),
+        fourth: hold_at(b, layout::HOLDS + 3 * layout::HOLD_SIZE),
+    }
+}
+
 fn progress_at(b: &[u8]) -> Progress
     ensures { λ r. ⌜ r ≡ progressAt (now (b .entry)) ⌝ }
 {
@@ -179,6 +236,7 @@ fn progress_at(b: &[u8]) -> Progress
         host: claim_at(b, layout::HOST_CLAIM),
         sent: multicasts_at(b),
         reply: when_at(b, layout::REPLY),
+        holds: holds_at(b),
         draw: be64(b, layout::DRAW),
         last: be64(b, layout::LAST),
     }

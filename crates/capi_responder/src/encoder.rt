@@ -6,7 +6,9 @@ ghost use lib.ListN.{length};
 ghost use Rattle.capi_responder.specs.codec.Numbers.{bytes64, Fits64};
 ghost use Rattle.capi_responder.specs.codec.Layout as layout;
 ghost use Rattle.capi_responder.specs.codec.Codec.{claimTag, claimDue, whenFlag, whenTime};
+ghost use Rattle.claims.specs.records.Own.{has};
 ghost use Rattle.capi_responder.specs.codec.Codec.{caseBytes, claimBytes, whenBytes, multicastsBytes, progressBytes};
+ghost use Rattle.capi_responder.specs.codec.Codec.{flagByte, setBytes, holdBytes, holdsBytes, HoldFits, HoldsFit};
 ghost use Rattle.capi_responder.specs.codec.Codec.{decode, MulticastsFit, ProgressFits, withProgress, withTime, stateWith, withSetup};
 ghost use Rattle.capi_responder.specs.encoder.Laid.{Laid};
 use crate::layout;
@@ -14,7 +16,11 @@ use claims::ClaimState;
 use claims::Multicasts;
 use claims::Progress;
 use claims::When;
+use claims::holds::Hold;
+use claims::holds::Holds;
+use claims::records::Own;
 use claims::records::RECORDS;
+use claims::records::Set;
 
 // Lays `s` over `out` from index `at` on.
 fn put(out: &mut [u8], at: usize, s: &[u8])
@@ -139,6 +145,71 @@ fn put_multicasts(out: &mut [u8], sent: Multicasts)
     }
 }
 
+// The flag of an own record.
+fn flag_byte(o: Own, set: Set) -> u8
+    ensures { λ r. ⌜ r ≡ flagByte (has o set) ⌝ }
+{
+    if claims::records::is_in(o, set) {
+        return 1;
+    }
+    0
+}
+
+// The flags of a set of own records.
+fn set_bytes(set: Set) -> [u8; layout::SET_SIZE]
+    ensures { λ r. ⌜ r ≡ setBytes set ⌝ }
+{
+    let mut flags = [0u8; layout::SET_SIZE];
+    let mut i = 0;
+    while i < RECORDS {
+        flags[i] = flag_byte(claims::records::record_at(i), set);
+        i += 1;
+    }
+    flags
+}
+
+fn put_set(out: &mut [u8], at: usize, set: Set)
+    requires { ⌜ at + layout.setSize ≤ length (now out) ⌝ }
+    ensures { λ _. ⌜ Laid (now (out .entry)) at (setBytes set) (now (out .exit)) ⌝ }
+{
+    let flags = set_bytes(set);
+    put(out, at, &flags);
+}
+
+// A held query.
+fn put_hold(out: &mut [u8], at: usize, h: Hold)
+    requires { ⌜ at + layout.holdSize ≤ length (now out) ⌝ }
+    ensures { λ _. ⌜ Laid (now (out .entry)) at (holdBytes h) (now (out .exit)) × HoldFits h ⌝ }
+{
+    let from = h.from;
+    let due = h.due;
+    let asked = h.asked;
+    let known = h.known;
+    let lowat = at + layout::NUMBER_SIZE;
+    let dueat = lowat + layout::NUMBER_SIZE;
+    let askedat = dueat + layout::CASE_SIZE;
+    put_number(out, at, from.high);
+    put_number(out, lowat, from.low);
+    put_when(out, dueat, due);
+    put_set(out, askedat, asked);
+    put_set(out, askedat + layout::SET_SIZE, known);
+}
+
+// The held queries, one behind the other.
+fn put_holds(out: &mut [u8], holds: Holds)
+    requires { ⌜ layout.stateSize ≤ length (now out) ⌝ }
+    ensures { λ _. ⌜ Laid (now (out .entry)) layout.holds (holdsBytes holds) (now (out .exit)) × HoldsFit holds ⌝ }
+{
+    let first = holds.first;
+    let second = holds.second;
+    let third = holds.third;
+    let fourth = holds.fourth;
+    put_hold(out, layout::HOLDS, first);
+    put_hold(out, layout::HOLDS + layout::HOLD_SIZE, second);
+    put_hold(out, layout::HOLDS + 2 * layout::HOLD_SIZE, third);
+    put_hold(out, layout::HOLDS + 3 * layout::HOLD_SIZE, fourth);
+}
+
 // Writes what changes, behind the set-up.
 fn lay_progress(out: &mut [u8], progress: Progress)
     requires { ⌜ length (now out) ≡ layout.stateSize ⌝ }
@@ -148,10 +219,12 @@ fn lay_progress(out: &mut [u8], progress: Progress)
     let host = progress.host;
     let sent = progress.sent;
     let reply = progress.reply;
+    let holds = progress.holds;
     put_claim(out, layout::INSTANCE_CLAIM, instance);
     put_claim(out, layout::HOST_CLAIM, host);
     put_multicasts(out, sent);
     put_when(out, layout::REPLY, reply);
+    put_holds(out, holds);
     put_number(out, layout::DRAW, progress.draw);
     put_number(out, layout::LAST, progress.last);
 }

@@ -5,7 +5,7 @@ ghost use Prim.Native.Nat.{_+_, _≤_, _<_};
 ghost use lib.ListN.{length};
 ghost use Rattle.capi_responder.specs.codec.Numbers.{word64};
 ghost use Rattle.capi_responder.specs.codec.Layout as layout;
-ghost use Rattle.capi_responder.specs.idle.Idle.{claimRests, replyRests, whenKept, multicastsKept, nothingDue, isIdle};
+ghost use Rattle.capi_responder.specs.idle.Idle.{claimRests, replyRests, whenKept, multicastsKept, zerosFrom, noneHeld, nothingDue, isIdle};
 use crate::layout;
 use claims::records::RECORDS;
 use claims::refusal_tests::LAST_KEPT;
@@ -91,7 +91,25 @@ fn multicasts_kept(b: &[u8]) -> bool
     true
 }
 
-// The claims and the reply rest, and what else changes is in order.
+// No query is held: the bytes of all four places are zeros, as those of a start are. Twenty numbers are as many bytes and four more, the first of the draw, which
+// are zeros in every state that is not refused.
+fn none_held(b: &[u8]) -> bool
+    requires { ⌜ length (now b) ≡ layout.stateSize ⌝ }
+    ensures { λ r. ⌜ r ≡ noneHeld (now (b .entry)) ⌝ }
+{
+    let mut at = layout::HOLDS;
+    let mut left: usize = 20;
+    while 0 < left {
+        if number_at(b, at) != 0 {
+            return false;
+        }
+        at += layout::NUMBER_SIZE;
+        left -= 1;
+    }
+    true
+}
+
+// The claims and the reply rest, no query is held, and what else changes is in order.
 fn nothing_due(b: &[u8], time: u64) -> bool
     requires { ⌜ length (now b) ≡ layout.stateSize ⌝ }
     ensures { λ r. ⌜ r ≡ nothingDue (now (b .entry)) time ⌝ }
@@ -103,6 +121,9 @@ fn nothing_due(b: &[u8], time: u64) -> bool
         return false;
     }
     if !reply_rests(b, layout::REPLY, time) {
+        return false;
+    }
+    if !none_held(b) {
         return false;
     }
     if 250 < number_at(b, layout::DRAW) {

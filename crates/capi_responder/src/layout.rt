@@ -34,6 +34,13 @@ pub const CASE_SIZE: usize = 1 + NUMBER_SIZE;
 // The last multicasts: one for each own record.
 pub const MULTICASTS_SIZE: usize = RECORDS * CASE_SIZE;
 
+// A set of own records, a flag for each; a held query: the address that it came from, when it is due, what it asks for and what it knows; and all held queries.
+pub const SET_SIZE: usize = RECORDS * FLAG_SIZE;
+
+pub const HOLD_SIZE: usize = 2 * NUMBER_SIZE + CASE_SIZE + 2 * SET_SIZE;
+
+pub const HOLDS_SIZE: usize = 4 * HOLD_SIZE;
+
 // ---- the set-up
 
 pub const INSTANCE: usize = 0;
@@ -68,7 +75,9 @@ pub const MULTICASTS: usize = HOST_CLAIM + CASE_SIZE;
 
 pub const REPLY: usize = MULTICASTS + MULTICASTS_SIZE;
 
-pub const DRAW: usize = REPLY + CASE_SIZE;
+pub const HOLDS: usize = REPLY + CASE_SIZE;
+
+pub const DRAW: usize = HOLDS + HOLDS_SIZE;
 
 pub const LAST: usize = DRAW + NUMBER_SIZE;
 

@@ -10,6 +10,7 @@ pub mod state;
 ghost use mathlib.Core.Path.{_≡_};
 ghost use lib.ListN.{length};
 ghost use Rattle.responder.specs.Handed.{Arrival, Tick};
+ghost use Rattle.responder.specs.address.Address.{addressOf};
 ghost use Rattle.responder.specs.Calls.{refusalOf, lengthOf, isUnicast};
 ghost use Rattle.responder.specs.Runs.{received, ticked};
 ghost use Rattle.capi_responder.specs.Exported.{calledWith, setupFor, Starts, Calls};
@@ -98,26 +99,31 @@ pub extern "C" fn kurgashel_start(state: &mut [u8], setup: &[u8], time: u64, dra
     answered(answer, false)
 }
 
-// Takes a packet that came from `port`, with the draw for a PTR reply, and writes the answers that go out at once: to all, or to a plain resolver, which
-// asks from another port than 5353.
+// Takes a packet that came from an address (16 bytes, or the 4 of IPv4) and a port, with the draws for a PTR reply and for a query that is held, and writes the
+// answers that go out at once: to all, or to a plain resolver, which asks from another port than 5353.
 #[no_mangle]
 pub extern "C" fn kurgashel_receive(
     state: &mut [u8],
     time: u64,
+    from: &[u8],
     port: u16,
     draw: u64,
+    hold: u64,
     packet: &[u8],
     out: &mut [u8],
 ) -> Called
     ensures { λ r. ⌜ (let room = length (now (out .entry)) in
-        let a : Arrival = record { time = time; port = port; draw = draw; packet = now (packet .entry); room = room } in
+        let source = addressOf (now (from .entry)) in
+        let a : Arrival = record { time = time; from = source; port = port; draw = draw; hold = hold; packet = now (packet .entry); room = room } in
         Calls (now (state .entry)) (received a) (now (out .entry)) r (now (state .exit)) (now (out .exit))) ⌝ }
 {
     let heard = responder::receive(
         crate::codec::read_state(state),
         time,
+        responder::address::address_of(from),
         port,
         draw,
+        hold,
         packet,
         out,
     );

@@ -1,13 +1,13 @@
 -- A record asked for is left out exactly for a cause of the specification: the packet of an accepted call is read back as the records that are due and have no
 -- cause. Assumes nothing.
 use Prim.Native.Nat.{ℕ, _+_, _≤_}
-use mathlib.Core.Path.{_≡_, refl, sym, ap, _∙_}
+use mathlib.Core.Path.{_≡_, refl, sym, ap, subst, _∙_}
 use mathlib.Core.Bool.{Bool, true, false, cond, not, _&&_, _||_, and-true, and-false, or-false}
-use mathlib.Core.List.{List, [], _∷_, map}
+use mathlib.Core.List.{List, [], _∷_, _++_, map}
 use native.Mathlib.Omega.{arith}
 use lib.Dec.{eqb, ltb}
 use lib.ListN.{length}
-use borrow.Author.Tests.{eq-eqb, ltb-false}
+use borrow.Author.Tests.{ltb-false, eq-eqb}
 use mathlib.Mathlib.Data.Bool.Basic.{or-eq-false-eq-eq-false-and-eq-false as neither}
 use Rattle.wire.specs.Lists.{some}
 use Rattle.wire.specs.case_folding.Fold.{sameName}
@@ -20,28 +20,43 @@ use Rattle.own.specs.records.Records.{hasRecord, ownName}
 use Rattle.own.proofs.records.Valid.{valid}
 use Rattle.own.proofs.records.Apart.{apart}
 use Rattle.claims.specs.Claims.{heldNow, claimOf}
-use Rattle.claims.specs.Refusals.{kept, lateStart, wrongTime, wrongStartDraw, wrongReplyDraw}
-use Rattle.claims.specs.records.Own.{all, indexOf, ownType, claimFor, goesAtOnce, has}
+use Rattle.claims.specs.Refusals.{kept, lateStart, wrongTime, wrongStartDraw}
+use Rattle.claims.specs.records.Own.{all, indexOf, ownType, claimFor, goesAtOnce, has, each}
 use Rattle.claims.specs.records.Sets.{picked, atOnce}
 use Rattle.claims.specs.declared.records.Own.{Own}
 use Rattle.claims.specs.declared.records.Own.the-variants.{Ptr}
 use Rattle.claims.specs.declared.records.Set.{Set}
-use Rattle.claims.specs.answers.Answers as answers
-use Rattle.claims.specs.answers.Answers.{wantedOf, setReply}
+use Rattle.claims.specs.answers.Held as holding
+use Rattle.claims.specs.answers.Held.{toHold, holdOf, heldBack}
+use Rattle.claims.specs.answers.Answers.{asksOf, wantedOf, setReply, joined, judgedOf}
+use Rattle.claims.specs.declared.answers.Facts.{Facts}
+use Rattle.claims.specs.declared.answers.Received.{Received}
+use Rattle.claims.specs.declared.When.{When}
+use Rattle.claims.specs.declared.When.the-variants.{Never, At}
+use Rattle.claims.specs.declared.Progress.{Progress}
+use Rattle.claims.specs.declared.holds.Hold.{Hold}
+use Rattle.claims.specs.declared.records.Claim.the-variants.{Instance, Host}
+use Rattle.claims.specs.Time.{lastTime, lastKept}
+use Rattle.claims.specs.holds.Holds.{heldOf, someFrom, someFree, knowing, knowingAll}
+use Rattle.claims.proofs.holds.Lists.{queued-last, knowing-held}
+use Rattle.claims.proofs.answers.Causes.{held-or-judged}
+use Rattle.claims.proofs.answers.Receives.{held-truncated, held-room}
 use Rattle.claims.proofs.records.Sets.{by-record, has-each}
 use Rattle.claims.proofs.Times.{after-exact}
-use Rattle.facts.specs.Facts.{factsOf, isAsked}
+use Rattle.facts.specs.probe.Probe.{isProbe}
+use Rattle.facts.specs.Facts.{factsOf, responseFacts, queryFacts, isAsked, isKnown, claimName, isTruncated}
 use Rattle.writer.specs.own_packets.Styles.{responseStyle, ownRecord}
 use Rattle.writer.specs.own_packets.Own.{responseRecords, responseOf, noneIfEmpty, responsePacket}
 use Rattle.roundtrip.proofs.OwnPackets.{response-back}
-use Rattle.responder.specs.Handed.{Arrival}
+use Rattle.responder.specs.Handed.{Arrival, comingOf}
 use Rattle.responder.specs.Refusals.{wrongState, receiveRefusal}
 use Rattle.responder.specs.Calls.{packetFor, fromMdns, heardOf, receivedPacket, receiveOf}
 use Rattle.responder.specs.Causes.{isDue, hasCause, isWanted}
 use Rattle.responder.specs.declared.State.{State}
 use Rattle.responder.proofs.Refusals.{ReceiveAccepted, receive-accepted}
+use Rattle.responder.proofs.Closure.{small-draws, least-hold}
 use Rattle.responder.proofs.Causes.{wanted-exactly}
-use Rattle.causes.specs.Statement.{answersOf, answersIn, Accepted, goesNow, standsIn, Exactly, LeftOutExactly}
+use Rattle.causes.specs.Statement.{answersOf, answersIn, Accepted, isHeldBack, wantedNow, goesNow, keptOf, addedTo, standsIn, Exactly, LeftOutExactly}
 
 -- ---- lists
 
@@ -77,6 +92,15 @@ one-of-all f =
 
 -- ---- the packet
 
+-- the set-up of a state that keeps the rules
+pub right-setup : (s : State) → wrongState s ≡ false → validSetup (s .setup) ≡ true
+unfolding wrongState
+right-setup s h = not-false (validSetup (s .setup)) (neither (not (validSetup (s .setup))) (wrongStartDraw (s .progress .draw)) .0 h .0)
+  where
+    not-false : (b : Bool) → not b ≡ false → b ≡ true
+    not-false true e = refl
+    not-false false e = sym e
+
 filled : (o : Own) (os : List Own) → o ∷ os ≡ [] → ⊥
 filled o os z = let c : _≡_ {A = ℕ} (length (o ∷ os)) 0 = ap length z in omega (arith, c)
 
@@ -90,7 +114,7 @@ module _ (s : Setup) (set : Set) (v : validSetup s ≡ true) where
   unfolding responseOf
   some-back nz = ap answersOf (response-back s v set nz)
 
-  answers-back : answersIn (responsePacket s set) ≡ map (ownRecord s responseStyle) (responseRecords s set)
+  pub answers-back : answersIn (responsePacket s set) ≡ map (ownRecord s responseStyle) (responseRecords s set)
   answers-back = go (responseRecords s set) refl
     where
       go : (os : List Own) → responseRecords s set ≡ os → answersIn (responsePacket s set) ≡ map (ownRecord s responseStyle) (responseRecords s set)
@@ -105,26 +129,63 @@ module _ (s : State) (a : Arrival) (l : Layout) (m : Message) (ok : Accepted s a
   passed = receive-accepted s a (ok .accepted)
 
   right : validSetup (s .setup) ≡ true
-  unfolding wrongState
-  right = not-false (validSetup (s .setup)) (neither (not (validSetup (s .setup))) (wrongStartDraw (s .progress .draw)) .0 (passed .right) .0)
-    where
-      not-false : (b : Bool) → not b ≡ false → b ≡ true
-      not-false true e = refl
-      not-false false e = sym e
+  right = right-setup s (passed .right)
 
-  abbrev wanted : Set
-  wanted = wantedOf (s .progress) (factsOf (s .setup) m) (a .time) (s .setup .hasaaaa)
+  abbrev f : Facts
+  f = factsOf (s .setup) m
 
-  sent-is : receivedPacket s a ≡ responsePacket (s .setup) (atOnce wanted)
-  unfolding receivedPacket packetFor answers.receiveOf
+  abbrev aaaa : Bool
+  aaaa = s .setup .hasaaaa
+
+  abbrev heard : Received
+  heard = holding.receiveOf (s .progress) (comingOf a) f aaaa
+
+  sent-is : receivedPacket s a ≡ responsePacket (s .setup) (heard .answers)
+  unfolding receivedPacket packetFor
   sent-is = simp (ok .accepted, ok .message, from)
 
+  left : receiveOf s a .state .progress ≡ heard .progress
+  unfolding receiveOf
+  left = simp (ok .accepted, ok .message, from)
+
+  -- whether the message is held, by what it says
+  held-is : toHold (s .progress .holds) (comingOf a) f ≡ isHeldBack s a m
+  unfolding toHold isHeldBack factsOf responseFacts queryFacts
+  held-is = go (isResponse (m .flags))
+    where
+      go : (r : Bool)
+          → (not (cond r (responseFacts (s .setup) m) (queryFacts (s .setup) m) .response)
+          && (cond r (responseFacts (s .setup) m) (queryFacts (s .setup) m) .truncated
+          && ((not (cond r (responseFacts (s .setup) m) (queryFacts (s .setup) m) .instance .probe)
+          && not (cond r (responseFacts (s .setup) m) (queryFacts (s .setup) m) .host .probe))
+          && (not (someFrom (a .from) (s .progress .holds)) && someFree (s .progress .holds)))))
+          ≡ (not r
+          && (isTruncated (m .flags)
+          && ((not (isProbe (claimName (s .setup) Instance) m) && not (isProbe (claimName (s .setup) Host) m))
+          && (not (someFrom (a .from) (s .progress .holds)) && someFree (s .progress .holds)))))
+      go true = refl
+      go false = refl
+
+  -- by cases of what becomes of the message
+  by-held : (P : Bool → Received → Type 0)
+      → (isHeldBack s a m ≡ true → P true (heldBack (s .progress) (comingOf a) f))
+      → (isHeldBack s a m ≡ false → P false (judgedOf (s .progress) (comingOf a) f aaaa))
+      → P (isHeldBack s a m) heard
+  by-held P held judged =
+      subst (λ (b : Bool). P b heard) held-is
+      (held-or-judged (s .progress) (comingOf a) f aaaa P (λ e. held (sym held-is ∙ e)) (λ e. judged (sym held-is ∙ e)))
+
   -- a record that goes at once has no need of a second look at whether it is there
-  goes-once : (o : Own) → (has o (atOnce wanted) && hasRecord (s .setup) o) ≡ goesNow s (a .time) m o
-  unfolding atOnce isDue
+  goes-once : (o : Own) → (has o (heard .answers) && hasRecord (s .setup) o) ≡ goesNow s a m o
+  unfolding heldBack judgedOf atOnce isDue
   goes-once o =
-      ap (λ (v : Bool). v && hasRecord (s .setup) o) (has-each (λ p. goesAtOnce p && has p wanted) o ∙ ap (λ (v : Bool). goesAtOnce o && v) (wanted-exactly s (a .time) m o))
-      ∙ go (goesAtOnce o) (isResponse (m .flags)) (heldNow (claimOf (claimFor o) (s .progress))) (hasRecord (s .setup) o) (isAsked (s .setup) o m) (hasCause s (a .time) m o)
+      by-held (λ b r. (has o (r .answers) && hasRecord (s .setup) o) ≡ (goesAtOnce o && (not b && isWanted s (a .time) m o)))
+      (λ e. ap (λ (v : Bool). v && hasRecord (s .setup) o) (has-each (λ p. false) o) ∙ sym (and-false (goesAtOnce o)))
+      (λ e.
+      ap (λ (v : Bool). v && hasRecord (s .setup) o)
+      (has-each (λ p. goesAtOnce p && has p (wantedOf (s .progress) (asksOf f) (a .time) aaaa)) o
+      ∙ ap (λ (v : Bool). goesAtOnce o && v) (wanted-exactly s (a .time) m o))
+      ∙ go (goesAtOnce o) (isResponse (m .flags)) (heldNow (claimOf (claimFor o) (s .progress))) (hasRecord (s .setup) o) (isAsked (s .setup) o m) (hasCause s (a .time) m o))
     where
       go : (g r h t k c : Bool) → ((g && ((not r && (h && (t && k))) && not c)) && t) ≡ (g && ((not r && (h && (t && k))) && not c))
       go false r h t k c = refl
@@ -133,33 +194,98 @@ module _ (s : State) (a : Arrival) (l : Layout) (m : Message) (ok : Accepted s a
       go true false true false k c = refl
       go true false true true k c = and-true (k && not c)
 
-  answered : answersIn (receivedPacket s a) ≡ map (ownRecord (s .setup) responseStyle) (picked (goesNow s (a .time) m) all)
+  answered : answersIn (receivedPacket s a) ≡ map (ownRecord (s .setup) responseStyle) (picked (goesNow s a m) all)
   unfolding responseRecords
   answered =
       ap answersIn sent-is
-      ∙ (answers-back (s .setup) (atOnce wanted) right
-      ∙ ap (map (ownRecord (s .setup) responseStyle)) (picked-same (λ o. has o (atOnce wanted) && hasRecord (s .setup) o) (goesNow s (a .time) m) goes-once all))
+      ∙ (answers-back (s .setup) (heard .answers) right
+      ∙ ap (map (ownRecord (s .setup) responseStyle)) (picked-same (λ o. has o (heard .answers) && hasRecord (s .setup) o) (goesNow s a m) goes-once all))
 
   -- of all own records the one of an owner and type
-  goes : (o : Own) → goesAtOnce o ≡ true → standsIn (s .setup) o (answersIn (receivedPacket s a)) ≡ isWanted s (a .time) m o
+  goes : (o : Own) → goesAtOnce o ≡ true → standsIn (s .setup) o (answersIn (receivedPacket s a)) ≡ wantedNow s a m o
   unfolding ownRecord
   goes o g =
       ap (standsIn (s .setup) o) answered
       ∙ (some-picked (λ (r : Record). sameName (r .owner) (ownName (s .setup) o) && eqb (r .rtype) (ownType o)) (ownRecord (s .setup) responseStyle)
-      (goesNow s (a .time) m) all
-      ∙ (some-same (λ p. goesNow s (a .time) m p && (sameName (ownName (s .setup) p) (ownName (s .setup) o) && eqb (ownType p) (ownType o)))
-      (λ p. goesNow s (a .time) m p && eqb (indexOf p) (indexOf o))
-      (λ p. ap (λ (v : Bool). goesNow s (a .time) m p && v) (apart (s .setup) (valid (s .setup) right) p o)) all
-      ∙ (one-of-all (goesNow s (a .time) m) o ∙ ap (λ (v : Bool). v && isWanted s (a .time) m o) g)))
+      (goesNow s a m) all
+      ∙ (some-same (λ p. goesNow s a m p && (sameName (ownName (s .setup) p) (ownName (s .setup) o) && eqb (ownType p) (ownType o)))
+      (λ p. goesNow s a m p && eqb (indexOf p) (indexOf o))
+      (λ p. ap (λ (v : Bool). goesNow s a m p && v) (apart (s .setup) (valid (s .setup) right) p o)) all
+      ∙ (one-of-all (goesNow s a m) o ∙ ap (λ (v : Bool). v && wantedNow s a m o) g)))
 
-  replied : receiveOf s a .state .progress .reply ≡ setReply (isWanted s (a .time) m Ptr) (s .progress .reply) (a .time + a .draw)
-  unfolding receiveOf answers.receiveOf wrongTime
+  late : a .time ≤ lastTime
+  unfolding wrongTime
+  late = ltb-false lastTime (a .time) (neither (lateStart (a .time)) (ltb (a .time) (s .progress .last) || not (kept lastKept (s .progress))) .0 (passed .time) .0)
+
+  small : (a .draw ≤ 120) × (a .hold ≤ 500)
+  small = small-draws (a .draw) (a .hold) (passed .drawn)
+
+  replied : receiveOf s a .state .progress .reply ≡ setReply (wantedNow s a m Ptr) (s .progress .reply) (a .time + a .draw)
+  unfolding heldBack judgedOf
   replied =
-      let t : (lateStart (a .time) ≡ false) × _ = neither (lateStart (a .time)) (ltb (a .time) (s .progress .last) || not (kept 4611686018427389904 (s .progress))) .0 (passed .time) in
-      let d = neither (ltb (a .draw) 20) (ltb 120 (a .draw)) .0 (passed .drawn) in
-      let late : a .time ≤ 4611686018427387904 = ltb-false _ _ (t .0) in
-      let small : a .draw ≤ 120 = ltb-false 120 (a .draw) (d .1) in
-      simp (ok .accepted, ok .message, from, wanted-exactly s (a .time) m Ptr, after-exact (a .time) (a .draw) late (omega (arith, small)))
+      ap (λ (p : Progress). p .reply) left
+      ∙ by-held (λ b r. r .progress .reply ≡ setReply (not b && isWanted s (a .time) m Ptr) (s .progress .reply) (a .time + a .draw)) (λ e. sym (stays (s .progress .reply)))
+      (λ e. simp (wanted-exactly s (a .time) m Ptr, after-exact (a .time) (a .draw) late (omega (arith, small .0))))
+    where
+      stays : (w : When) → setReply false w (a .time + a .draw) ≡ w
+      stays Never = refl
+      stays (At due) = refl
+
+  -- what is kept is what the message says
+  abbrev keptTo : ℕ → Hold
+  keptTo due = record { from = a .from; due = At due; asked = each (λ o. isAsked (s .setup) o m); known = each (λ o. isKnown (s .setup) o m) }
+
+  kept-is : isHeldBack s a m ≡ true → holdOf (comingOf a) f ≡ keptOf s a m
+  unfolding factsOf responseFacts queryFacts
+  kept-is e =
+      ap (λ (g : Facts). holdOf (comingOf a) g) (query-facts (is-query e))
+      ∙ ap keptTo (after-exact (a .time) (a .hold) late (omega (arith, small .1)))
+    where
+      is-query : isHeldBack s a m ≡ true → isResponse (m .flags) ≡ false
+      is-query h = sym (facts-are (isResponse (m .flags))) ∙ held-truncated (s .progress) (comingOf a) f (held-is ∙ h) .query
+        where
+          facts-are : (b : Bool) → cond b (responseFacts (s .setup) m) (queryFacts (s .setup) m) .response ≡ b
+          facts-are true = refl
+          facts-are false = refl
+
+      query-facts : isResponse (m .flags) ≡ false → factsOf (s .setup) m ≡ queryFacts (s .setup) m
+      query-facts h = rw h
+
+  added-is : heldOf (joined (s .progress .holds) (comingOf a) f) ≡ addedTo s a m (heldOf (s .progress .holds))
+  unfolding joined factsOf responseFacts queryFacts
+  added-is = go (isResponse (m .flags))
+    where
+      go : (b : Bool)
+          → heldOf
+          (cond (cond b (responseFacts (s .setup) m) (queryFacts (s .setup) m) .response) (s .progress .holds)
+          (knowingAll (a .from) (cond b (responseFacts (s .setup) m) (queryFacts (s .setup) m) .known) (s .progress .holds)))
+          ≡ cond b (heldOf (s .progress .holds)) (map (knowing (a .from) (each (λ o. isKnown (s .setup) o m))) (heldOf (s .progress .holds)))
+      go true = refl
+      go false = knowing-held (a .from) (each (λ o. isKnown (s .setup) o m)) (s .progress .holds)
+
+  held-then :
+      heldOf (receiveOf s a .state .progress .holds)
+      ≡ cond (isHeldBack s a m) (heldOf (s .progress .holds) ++ (keptOf s a m ∷ [])) (addedTo s a m (heldOf (s .progress .holds)))
+  unfolding heldBack judgedOf
+  held-then =
+      ap (λ (p : Progress). heldOf (p .holds)) left
+      ∙ by-held
+      (λ b r.
+      heldOf (r .progress .holds) ≡ cond b (heldOf (s .progress .holds) ++ (keptOf s a m ∷ [])) (addedTo s a m (heldOf (s .progress .holds))))
+      (λ e.
+      queued-last (holdOf (comingOf a) f) (s .progress .holds) refl (held-room (s .progress) (comingOf a) f (held-is ∙ e) .1)
+      ∙ ap (λ (h : Hold). heldOf (s .progress .holds) ++ (h ∷ [])) (kept-is e))
+      (λ e. added-is)
+
+  least : a .time + 400 ≤ a .time + a .hold
+  least = omega (arith, least-hold (a .draw) (a .hold) (passed .drawn))
 
 pub left-out-exactly : LeftOutExactly
-left-out-exactly s a l m ok port = record { answers = answered s a l m ok port; goes = goes s a l m ok port; reply = replied s a l m ok port }
+left-out-exactly s a l m ok port = record {
+  answers = answered s a l m ok port;
+  goes = goes s a l m ok port;
+  reply = replied s a l m ok port;
+  holds = held-then s a l m ok port;
+  soonest = least s a l m ok port;
+  latest = omega (arith, small s a l m ok port .1);
+}

@@ -119,11 +119,11 @@ module _ (s : State) (a : Arrival) (l : Layout) (m : Message) (ok : Accepted s a
       go true true e h = e
 
   abbrev due : Set
-  due = answers.dueOf (s .progress) (factsOf (s .setup) m) (s .setup .hasaaaa)
+  due = answers.dueTo (s .progress) (answers.asksOf (factsOf (s .setup) m)) (s .setup .hasaaaa)
 
   has-due : (o : Own) → has o due ≡ isDue s m o
-  unfolding answers.dueOf
-  has-due o = has-each (answers.isDue (s .progress) (factsOf (s .setup) m) (s .setup .hasaaaa)) o ∙ due-is s (a .time) m query o
+  unfolding answers.dueTo
+  has-due o = has-each (answers.isDue (s .progress) (answers.asksOf (factsOf (s .setup) m)) (s .setup .hasaaaa)) o ∙ due-is s (a .time) m query o
 
   sent-is : receivedPacket s a ≡ plainFor (s .setup) due (m .id) (m .questions)
   unfolding receivedPacket answers.plainOf

@@ -1,5 +1,5 @@
--- Calls to which the theorems apply, so that they are not about nothing: a holder of both names is asked for its address, with the address as a known answer. Proved in
--- proofs/Witness.antt. Assumes nothing.
+-- Calls to which the theorems apply, so that they are not about nothing: a holder of both names is asked for its address, with the address as a known answer; and
+-- it is asked so with the TC bit, holds the query, and answers it at its step. Proved in proofs/Witness.antt. Assumes nothing.
 use Prim.Native.Nat.{ℕ}
 use mathlib.Core.Path.{_≡_}
 use mathlib.Core.Bool.{true, false}
@@ -9,41 +9,78 @@ use Rattle.own.specs.records.Records.{ownName, ownRdata}
 use Rattle.claims.specs.Time.{neverSent}
 use Rattle.claims.specs.declared.records.Own.the-variants.{A}
 use Rattle.claims.specs.declared.ClaimState.the-variants.{Held}
-use Rattle.claims.specs.declared.When.the-variants.{Never}
+use Rattle.claims.specs.declared.When.the-variants.{Never, At}
+use Rattle.claims.specs.holds.Holds.{noHold, noHolds, holdAt}
+use Rattle.claims.specs.declared.holds.Place.the-variants.{Fourth}
 use Rattle.writer.specs.own_packets.Packets.{packetOf}
 use Rattle.roundtrip.specs.Cases.{sample}
 use Rattle.roundtrip.specs.Writable.{layoutOf}
-use Rattle.responder.specs.Handed.{Arrival}
+use Rattle.responder.specs.Handed.{Arrival, Tick}
+use Rattle.responder.specs.Refusals.{tickRefusal}
+use Rattle.responder.specs.Calls.{receiveOf, tickOf}
 use Rattle.responder.specs.Causes.{isWanted}
 use Rattle.responder.specs.declared.State.{State}
-use Rattle.causes.specs.Statement.{Accepted}
+use Rattle.causes.specs.Statement.{Accepted, isHeldBack, wantedBy}
 use Rattle.causes.specs.Plain.{isReplied}
 
 abbrev pub holder : State
 holder = record {
   setup = sample;
-  progress = record { instance = Held; host = Held; sent = neverSent; reply = Never; draw = 0; last = 0 };
+  progress = record { instance = Held; host = Held; sent = neverSent; reply = Never; holds = noHolds; draw = 0; last = 0 };
 }
 
 -- the query, and the call that is handed its packet
-unfoldable pub query : ℕ → Message
-query ttl = record {
+unfoldable pub queryWith : ℕ → ℕ → Message
+queryWith flags ttl = record {
   id = 0;
-  flags = 0;
+  flags = flags;
   questions = record { name = ownName sample A; rtype = 1; class = 1 } ∷ [];
   answers = record { owner = ownName sample A; rtype = 1; class = 1; ttl = ttl; rdata = ownRdata sample A } ∷ [];
   authorities = [];
   additionals = [];
 }
 
+abbrev pub query : ℕ → Message
+query ttl = queryWith 0 ttl
+
+abbrev pub askedWith : ℕ → ℕ → Arrival
+askedWith flags ttl = record {
+  time = 0;
+  from = record { high = 0; low = 1 };
+  port = 5353;
+  draw = 20;
+  hold = 450;
+  packet = packetOf false (queryWith flags ttl);
+  room = 1452;
+}
+
 abbrev pub asked : ℕ → Arrival
-asked ttl = record { time = 0; port = 5353; draw = 20; packet = packetOf false (query ttl); room = 1452 }
+asked ttl = askedWith 0 ttl
 
 -- the same query from a plain resolver
 abbrev pub plainlyAsked : ℕ → Arrival
-plainlyAsked ttl = record { time = 0; port = 1024; draw = 20; packet = packetOf false (query ttl); room = 1452 }
+plainlyAsked ttl = record {
+  time = 0;
+  from = record { high = 0; low = 1 };
+  port = 1024;
+  draw = 20;
+  hold = 450;
+  packet = packetOf false (query ttl);
+  room = 1452;
+}
 
--- `witness`: the calls are accepted; at half the TTL the address is known, below it goes out; a plain resolver gets it all the same
+-- with the TC bit, the state that holds the query, and the tick at which it is due
+abbrev pub truncated : Message
+truncated = queryWith 512 59
+
+abbrev pub holding : State
+holding = receiveOf holder (askedWith 512 59) .state
+
+abbrev pub tick : ℕ → Tick
+tick time = record { time = time; room = 1452 }
+
+-- `witness`: the calls are accepted; at half the TTL the address is known, below it goes out; a plain resolver gets it all the same; with TC the query is held,
+-- and answered when it is due
 pub record Witness : Type 0 where
   pub known : Accepted holder (asked 60) (layoutOf false (query 60)) (query 60)
   pub left : isWanted holder 0 (query 60) A ≡ false
@@ -51,3 +88,9 @@ pub record Witness : Type 0 where
   pub goes : isWanted holder 0 (query 59) A ≡ true
   pub plain : Accepted holder (plainlyAsked 60) (layoutOf false (query 60)) (query 60)
   pub replied : isReplied holder (query 60) A ≡ true
+  pub held : Accepted holder (askedWith 512 59) (layoutOf false truncated) truncated
+  pub heldBack : isHeldBack holder (askedWith 512 59) truncated ≡ true
+  pub accepted : tickRefusal holding (tick 450) ≡ 0
+  pub due : holdAt Fourth (holding .progress .holds) .due ≡ At 450
+  pub answers : wantedBy holding 450 (holdAt Fourth (holding .progress .holds)) ≡ A ∷ []
+  pub gone : holdAt Fourth (tickOf holding (tick 450) .state .progress .holds) ≡ noHold

@@ -3,6 +3,7 @@
 use Prim.Native.Nat.{ℕ}
 use mathlib.Core.Bool.{Bool, true, false}
 use Rattle.claims.specs.Time.{afterMs, neverSent}
+use Rattle.claims.specs.holds.Holds.{noHolds}
 use Rattle.claims.specs.declared.ClaimState.{ClaimState}
 use Rattle.claims.specs.declared.ClaimState.the-variants.{Waiting, Probing1, Probing2, Probing3, Deferred, Announced, Held, Lost}
 use Rattle.claims.specs.declared.records.Claim.{Claim}
@@ -49,7 +50,7 @@ abbrev pub claimOf : Claim → Progress → ClaimState
 claimOf Instance progress = progress .instance
 claimOf Host progress = progress .host
 
--- "Waiting: first probe due at start plus draw." Nothing is multicast yet, and no reply is set.
+-- "Waiting: first probe due at start plus draw." Nothing is multicast yet, no reply is set, and no query is held.
 unfoldable pub begunAt : ℕ → ℕ → Progress
 begunAt now draw =
     record {
@@ -57,6 +58,7 @@ begunAt now draw =
       host = Waiting (afterMs now draw);
       sent = neverSent;
       reply = Never;
+      holds = noHolds;
       draw = draw;
       last = now;
     }

@@ -1,7 +1,8 @@
 pub mod records
 pub mod Time
+pub mod holds
 pub mod Claims
 pub mod Refusals
-pub mod steps
 pub mod answers
+pub mod steps
 pub mod due

@@ -7,6 +7,9 @@ use Rattle.claims.specs.Time.{lastTime, lastKept, atMost, sentOf}
 use Rattle.claims.specs.Claims.{dueOf}
 use Rattle.claims.specs.records.Own.{all}
 use Rattle.claims.specs.records.Sets.{everyOf}
+use Rattle.claims.specs.holds.Holds.{slots}
+use Rattle.claims.specs.declared.holds.Hold.{Hold}
+use Rattle.claims.specs.declared.holds.Holds.{Holds}
 use Rattle.claims.specs.declared.ClaimState.{ClaimState}
 use Rattle.claims.specs.declared.Multicasts.{Multicasts}
 use Rattle.claims.specs.declared.Progress.{Progress}
@@ -17,11 +20,19 @@ claimKept most c = atMost most (dueOf c)
 unfoldable pub multicastsKept : ℕ → Multicasts → Bool
 multicastsKept most sent = everyOf (λ o. atMost most (sentOf o sent)) all
 
+-- a hold's due time is a time kept in the state
+abbrev pub holdKept : ℕ → Hold → Bool
+holdKept most h = atMost most (h .due)
+
+unfoldable pub holdsKept : ℕ → Holds → Bool
+holdsKept most holds = everyOf (holdKept most) (slots holds)
+
 -- every time that is kept is at most `most`
 unfoldable pub kept : ℕ → Progress → Bool
 kept most progress =
     claimKept most (progress .instance)
-    && (claimKept most (progress .host) && (multicastsKept most (progress .sent) && (atMost most (progress .reply) && leb (progress .last) most)))
+    && (claimKept most (progress .host)
+    && (multicastsKept most (progress .sent) && (atMost most (progress .reply) && (holdsKept most (progress .holds) && leb (progress .last) most))))
 
 -- 1, of a start: "time above 2^62"
 abbrev pub lateStart : ℕ → Bool
@@ -38,3 +49,11 @@ wrongStartDraw draw = ltb 250 draw
 -- 2, of a packet received: "draw outside .. 20..120"
 abbrev pub wrongReplyDraw : ℕ → Bool
 wrongReplyDraw draw = ltb draw 20 || ltb 120 draw
+
+-- 2, of a packet received: "for 400 to 500 ms (a new draw, refusal 2 outside)"
+abbrev pub wrongHoldDraw : ℕ → Bool
+wrongHoldDraw hold = ltb hold 400 || ltb 500 hold
+
+-- "both draws are tested on every call"
+abbrev pub wrongDraws : ℕ → ℕ → Bool
+wrongDraws draw hold = wrongReplyDraw draw || wrongHoldDraw hold

@@ -3,6 +3,7 @@
 // `refusal_tests`.
 pub mod answers;
 pub mod due;
+pub mod holds;
 pub mod records;
 pub mod refusal_tests;
 pub mod steps;
@@ -10,6 +11,7 @@ pub mod steps;
 ghost use mathlib.Core.Path.{_≡_};
 ghost use Rattle.claims.specs.Time.{afterMs, age, recently, dueBy, atMost, neverSent, sentOf, marked, markedAll};
 ghost use Rattle.claims.specs.Claims.{stateNumber, dueOf, heldNow, claimOf, begunAt, afterConflict, afterProbe};
+use crate::holds::Holds;
 use crate::records::Claim;
 use crate::records::Own;
 use crate::records::RECORDS;
@@ -50,13 +52,14 @@ pub struct Multicasts {
     pub of: [Multicast; RECORDS],
 }
 
-// All that changes in a responder: the states of its claims, the last multicasts, when the PTR reply that a query asked for is due, the start draw, and the
-// time of the last call.
+// All that changes in a responder: the states of its claims, the last multicasts, when the PTR reply that a query asked for is due, the held queries, the start
+// draw, and the time of the last call.
 pub struct Progress {
     pub instance: ClaimState,
     pub host: ClaimState,
     pub sent: Multicasts,
     pub reply: When,
+    pub holds: Holds,
     pub draw: u64,
     pub last: u64,
 }
@@ -188,6 +191,7 @@ pub fn start(now: u64, draw: u64) -> Progress
         host: ClaimState::Waiting(due),
         sent: never_sent(),
         reply: When::Never,
+        holds: crate::holds::no_holds(),
         draw,
         last: now,
     }

@@ -2,10 +2,13 @@
 // claim's life, in claims/specs/Refusals.
 ghost use mathlib.Core.Path.{_≡_};
 ghost use mathlib.Core.Bool.{_&&_};
-ghost use Rattle.claims.specs.Refusals.{claimKept, multicastsKept, kept, lateStart, wrongTime, wrongStartDraw, wrongReplyDraw};
+ghost use Rattle.claims.specs.Refusals.{claimKept, multicastsKept, holdKept, holdsKept, kept, lateStart, wrongTime, wrongStartDraw, wrongReplyDraw};
+ghost use Rattle.claims.specs.Refusals.{wrongHoldDraw, wrongDraws};
 use crate::ClaimState;
 use crate::Multicasts;
 use crate::Progress;
+use crate::holds::Hold;
+use crate::holds::Holds;
 use crate::records::RECORDS;
 
 // The last time that a call may carry: 2^62.
@@ -36,14 +39,44 @@ fn multicasts_kept(sent: Multicasts, most: u64) -> bool
     true
 }
 
-// Do all five hold?
-fn all_five(a: bool, b: bool, c: bool, d: bool, e: bool) -> bool
-    ensures { λ r. ⌜ r ≡ a && (b && (c && (d && e))) ⌝ }
+// Is the due time of a held query, if there is one, at most `most`?
+fn hold_kept(h: Hold, most: u64) -> bool
+    ensures { λ r. ⌜ r ≡ holdKept most h ⌝ }
+{
+    let due = h.due;
+    crate::is_within(due, most)
+}
+
+// Is the due time of every held query at most `most`?
+fn holds_kept(holds: Holds, most: u64) -> bool
+    ensures { λ r. ⌜ r ≡ holdsKept most holds ⌝ }
+{
+    let first = holds.first;
+    let second = holds.second;
+    let third = holds.third;
+    let fourth = holds.fourth;
+    if hold_kept(first, most) {
+        if hold_kept(second, most) {
+            if hold_kept(third, most) {
+                if hold_kept(fourth, most) {
+                    return true;
+                }
+            }
+        }
+    }
+    false
+}
+
+// Do all six hold?
+fn all_six(a: bool, b: bool, c: bool, d: bool, e: bool, f: bool) -> bool
+    ensures { λ r. ⌜ r ≡ a && (b && (c && (d && (e && f)))) ⌝ }
 {
     if a {
         if b {
             if c {
-                return d && e;
+                if d {
+                    return e && f;
+                }
             }
         }
     }
@@ -58,12 +91,14 @@ fn is_kept(progress: Progress, most: u64) -> bool
     let host = progress.host;
     let sent = progress.sent;
     let reply = progress.reply;
+    let holds = progress.holds;
     let last = progress.last;
-    all_five(
+    all_six(
         claim_kept(instance, most),
         claim_kept(host, most),
         multicasts_kept(sent, most),
         crate::is_within(reply, most),
+        holds_kept(holds, most),
         last <= most,
     )
 }
@@ -96,12 +131,32 @@ pub fn start_draw_refused(draw: u64) -> bool
     250 < draw
 }
 
-// Refusal 2 of a packet received.
-pub fn reply_draw_refused(draw: u64) -> bool
+// Refusal 2 of a packet received: the draw for a PTR reply.
+fn reply_draw_refused(draw: u64) -> bool
     ensures { λ r. ⌜ r ≡ wrongReplyDraw draw ⌝ }
 {
     if draw < 20 {
         return true;
     }
     120 < draw
+}
+
+// Refusal 2 of a packet received: the draw for a hold.
+fn hold_draw_refused(hold: u64) -> bool
+    ensures { λ r. ⌜ r ≡ wrongHoldDraw hold ⌝ }
+{
+    if hold < 400 {
+        return true;
+    }
+    500 < hold
+}
+
+// Refusal 2 of a packet received: either draw.
+pub fn draws_refused(draw: u64, hold: u64) -> bool
+    ensures { λ r. ⌜ r ≡ wrongDraws draw hold ⌝ }
+{
+    if reply_draw_refused(draw) {
+        return true;
+    }
+    hold_draw_refused(hold)
 }

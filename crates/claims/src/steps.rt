@@ -1,13 +1,15 @@
-// A tick on numbers alone (specification, 'A claim's life'): the due steps of the two claims and of the PTR reply, in order, up to the first that sends.
+// A tick on numbers alone (specification, 'A claim's life'): the due steps of the two claims, of the PTR reply and of the held queries, in order, up to the
+// first that sends.
 ghost use mathlib.Core.Path.{_≡_};
-ghost use Rattle.claims.specs.steps.Steps.{claimDue, stepAt, stepDue, moreDue, takenAction, actionOf, unsent, unsentOf};
+ghost use Rattle.claims.specs.steps.Steps.{claimDue, stepAt, holdDue, stepDue, moreDue, takenAction, actionOf, unsent, unsentOf};
 ghost use Rattle.claims.specs.steps.Tick.{withClaim, withSent, withoutReply, sends, actionTurn, claimTurn};
-ghost use Rattle.claims.specs.steps.Tick.{ptrReply, replyTurn, stepTurn, walked, endedOf, tickOf};
+ghost use Rattle.claims.specs.steps.Tick.{ptrReply, replyTurn, withoutHold, holdAnswers, holdTurn, stepTurn, walked, endedOf, tickOf};
 ghost use Rattle.claims.specs.steps.Steps as steps;
 use crate::ClaimState;
 use crate::Multicasts;
 use crate::Progress;
 use crate::When;
+use crate::holds::Place;
 use crate::records::Claim;
 use crate::records::Own;
 use crate::records::RECORDS;
@@ -18,14 +20,15 @@ const PROBE_GAP: u64 = 250;
 
 const ANNOUNCEMENT_GAP: u64 = 1000;
 
-// The steps of a tick: of each claim, and of the PTR reply.
+// The steps of a tick: of each claim, of the PTR reply, and of each held query.
 pub enum Step {
     OfClaim(Claim),
     PtrReply,
+    OfHold(Place),
 }
 
 // How many steps a tick walks.
-pub const STEPS: usize = 3;
+pub const STEPS: usize = 7;
 
 // What a call sends: at most one packet.
 pub enum Output {
@@ -63,12 +66,24 @@ pub fn step_at(i: usize) -> Step
         Step::OfClaim(Claim::Instance),
         Step::OfClaim(Claim::Host),
         Step::PtrReply,
+        Step::OfHold(Place::First),
+        Step::OfHold(Place::Second),
+        Step::OfHold(Place::Third),
+        Step::OfHold(Place::Fourth),
     ];
     if i < STEPS {
         let s = steps[i];
         return s;
     }
     Step::OfClaim(Claim::Instance)
+}
+
+// When the query that is held at a place is answered.
+fn hold_due(place: Place, progress: Progress) -> When
+    ensures { λ r. ⌜ r ≡ holdDue place progress ⌝ }
+{
+    let h = crate::holds::hold_at(place, progress.holds);
+    h.due
 }
 
 // When a step is due.
@@ -78,6 +93,7 @@ pub fn step_due(s: Step, progress: Progress) -> When
     match s {
         Step::OfClaim(claim) => crate::due_of(crate::claim_of(claim, progress)),
         Step::PtrReply => progress.reply,
+        Step::OfHold(place) => hold_due(place, progress),
     }
 }
 
@@ -153,12 +169,14 @@ fn with_claim(claim: Claim, c: ClaimState, progress: Progress) -> Progress
     let host = progress.host;
     let sent = progress.sent;
     let reply = progress.reply;
+    let holds = progress.holds;
     match claim {
         Claim::Instance => Progress {
             instance: c,
             host,
             sent,
             reply,
+            holds,
             draw: progress.draw,
             last: progress.last,
         },
@@ -167,6 +185,7 @@ fn with_claim(claim: Claim, c: ClaimState, progress: Progress) -> Progress
             host: c,
             sent,
             reply,
+            holds,
             draw: progress.draw,
             last: progress.last,
         },
@@ -179,11 +198,13 @@ fn with_sent(sent: Multicasts, progress: Progress) -> Progress
     let instance = progress.instance;
     let host = progress.host;
     let reply = progress.reply;
+    let holds = progress.holds;
     Progress {
         instance,
         host,
         sent,
         reply,
+        holds,
         draw: progress.draw,
         last: progress.last,
     }
@@ -195,11 +216,13 @@ fn without_reply(progress: Progress) -> Progress
     let instance = progress.instance;
     let host = progress.host;
     let sent = progress.sent;
+    let holds = progress.holds;
     Progress {
         instance,
         host,
         sent,
         reply: When::Never,
+        holds,
         draw: progress.draw,
         last: progress.last,
     }
@@ -283,6 +306,51 @@ fn reply_turn(now: u64, progress: Progress) -> Turn
     }
 }
 
+// The progress without the query that is held at a place.
+fn without_hold(place: Place, progress: Progress) -> Progress
+    ensures { λ r. ⌜ r ≡ withoutHold place progress ⌝ }
+{
+    let instance = progress.instance;
+    let host = progress.host;
+    let sent = progress.sent;
+    let reply = progress.reply;
+    let holds = progress.holds;
+    Progress {
+        instance,
+        host,
+        sent,
+        reply,
+        holds: crate::holds::with_hold(place, crate::holds::no_hold(), holds),
+        draw: progress.draw,
+        last: progress.last,
+    }
+}
+
+// The records that the step of a held query sends.
+fn hold_answers(place: Place, aaaa: bool, now: u64, progress: Progress) -> Set
+    ensures { λ r. ⌜ r ≡ holdAnswers place aaaa now progress ⌝ }
+{
+    let h = crate::holds::hold_at(place, progress.holds);
+    crate::answers::wanted(progress, crate::answers::asks_of_hold(h), now, aaaa)
+}
+
+// The step of the query that is held at a place, if one is and it is due.
+fn hold_turn(place: Place, aaaa: bool, now: u64, progress: Progress) -> Turn
+    ensures { λ r. ⌜ r ≡ holdTurn place aaaa now progress ⌝ }
+{
+    if crate::has_come(hold_due(place, progress), now) {
+        return send(
+            hold_answers(place, aaaa, now, progress),
+            now,
+            without_hold(place, progress),
+        );
+    }
+    Turn {
+        progress,
+        output: Output::Nothing,
+    }
+}
+
 // A step, if it is due.
 fn step_turn(s: Step, aaaa: bool, now: u64, progress: Progress) -> Turn
     ensures { λ r. ⌜ r ≡ stepTurn s aaaa now progress ⌝ }
@@ -290,6 +358,7 @@ fn step_turn(s: Step, aaaa: bool, now: u64, progress: Progress) -> Turn
     match s {
         Step::OfClaim(claim) => claim_turn(claim, aaaa, now, progress),
         Step::PtrReply => reply_turn(now, progress),
+        Step::OfHold(place) => hold_turn(place, aaaa, now, progress),
     }
 }
 
@@ -331,12 +400,14 @@ fn ended(t: Turn, now: u64) -> Ticked
     let host = progress.host;
     let sent = progress.sent;
     let reply = progress.reply;
+    let holds = progress.holds;
     Ticked {
         progress: Progress {
             instance,
             host,
             sent,
             reply,
+            holds,
             draw: progress.draw,
             last: now,
         },

@@ -14,6 +14,8 @@ use Rattle.own.specs.declared.records.Service.{Service}
 use Rattle.own.specs.declared.records.Strings.{Strings}
 use Rattle.own.specs.declared.records.Setup.{Setup}
 use Rattle.writer.specs.own_packets.Own.{laidOver}
+use Rattle.responder.specs.Handed.{Arrival}
+use Rattle.responder.specs.address.Address.{addressOf}
 use Rattle.responder.specs.Calls.{startOf, receiveOf, receivedPacket, tickOf, tickedPacket}
 use Rattle.responder.specs.declared.Received.{Received}
 use Rattle.responder.specs.declared.Ticked.{Ticked}
@@ -25,7 +27,7 @@ use Rattle.console_text.specs.hex.Bytes.{bytesOf}
 use Rattle.console_text.specs.fields.Numbers.{fieldAt, numberAt, number16At}
 use Rattle.console_text.specs.fields.Forms.{isWord, bytesIn}
 use Rattle.console_responder.specs.Forms.{startWord, recvWord, tickWord, filledWith, labelTold, serviceTold, stringsTold, exactly, setupTold, isStart, isRecv, isTick, lentBy}
-use Rattle.console_responder.specs.Lines.{Responder, left, startedOr, begunOr, afterStart, arrived, tickAt, received, ticked, afterRecv, afterTick, responderAfter}
+use Rattle.console_responder.specs.Lines.{Responder, left, startedOr, begunOr, afterStart, lentOver, arrivalTold, tickAt, received, ticked, afterRecv, afterTick, responderAfter}
 
 -- the set-up that a line tells, field by field
 pub told-as : (line : List ℕ) (instance host : Label) (service : Service) (protocol domain : List ℕ) (port : ℕ) (txt : Strings) (a aaaa : List ℕ) (has : Bool)
@@ -49,12 +51,12 @@ told-as line instance host service protocol domain port txt a aaaa has pi ps pp 
 
 -- a call over the first bytes of the out buffer
 module _ (s : State) (out : List ℕ) (time n : ℕ) (h : n ≤ length out) (last : List ℕ) where
-  pub received-over : (port draw : ℕ) (p : List ℕ) (r : Received) → r ≡ receiveOf s (arrived time port draw p (length (take n out))) → last ≡ laidOver (receivedPacket s (arrived time port draw p (length (take n out)))) (take n out)
-      → (r .state ≡ received s out time port draw p n .state) × (last ++ drop n out ≡ received s out time port draw p n .out)
-  received-over port draw p r is w =
+  pub received-over : (a : ℕ → Arrival) → ((k : ℕ) → a k .room ≡ k) → (r : Received) → r ≡ receiveOf s (a (length (take n out))) → last ≡ laidOver (receivedPacket s (a (length (take n out)))) (take n out)
+      → (r .state ≡ received s out (a n) .state) × (last ++ drop n out ≡ received s out (a n) .out)
+  received-over a room r is w =
       let e : length (take n out) ≡ n = length-take-le n out h in (
-        ap (λ (x : Received). x .state) is ∙ ap (λ (k : ℕ). receiveOf s (arrived time port draw p k) .state) e,
-        ap (λ (l : List ℕ). l ++ drop n out) (w ∙ ap (λ (k : ℕ). laidOver (receivedPacket s (arrived time port draw p k)) (take n out)) e),
+        ap (λ (x : Received). x .state) is ∙ ap (λ (k : ℕ). receiveOf s (a k) .state) e,
+        ap (λ (l : List ℕ). l ++ drop n out) (w ∙ ap (λ (k : ℕ). laidOver (receivedPacket s (a k)) (take n out)) e) ∙ ap (λ (k : ℕ). lentOver k (receivedPacket s (a n)) out) (sym (room n)),
       )
 
   pub ticked-over : (r : Ticked) → r ≡ tickOf s (tickAt time (length (take n out))) → last ≡ laidOver (tickedPacket s (tickAt time (length (take n out)))) (take n out)
@@ -74,6 +76,20 @@ module _ (n : ℕ) (field : List ℕ) (k : ℕ) (e : k ≡ length (bytesOf field
   pub not-exact : (k ≡ n → ⊥) → replicate n 0 ≡ exactly n field
   unfolding exactly
   not-exact h = let m : length (bytesOf field) ≡ n → ⊥ = λ q. h (e ∙ q) in sym (simp (ne-eqb _ _ m))
+
+-- what a packet received is handed, field by field
+pub arrival-as : (line : List ℕ) (a : Arrival) → a .time ≡ numberAt line 1 → a .from ≡ addressOf (bytesIn 16 line 2) → a .port ≡ number16At line 3
+    → a .draw ≡ numberAt line 4 → a .hold ≡ numberAt line 5 → a .packet ≡ bytesIn 20000 line 6 → a .room ≡ lentBy line 7 → a ≡ arrivalTold line
+unfolding arrivalTold
+arrival-as line a time from port draw hold packet room = λ i. record {
+  time = time i;
+  from = from i;
+  port = port i;
+  draw = draw i;
+  hold = hold i;
+  packet = packet i;
+  room = room i;
+}
 
 -- a start
 module _ (line : List ℕ) (s : State) where
@@ -116,23 +132,18 @@ module _ (line : List ℕ) (s : State) (out : List ℕ) where
   unfolding afterRecv
   not-recv f = (simp f, simp f)
 
-  module _ (f : isRecv line ≡ true) (n : ℕ) (e : n ≡ lentBy line 5) where
+  module _ (f : isRecv line ≡ true) (n : ℕ) (e : n ≡ lentBy line 7) where
     pub recv-over : length out < n → Are s out (afterRecv line s out)
     unfolding afterRecv
-    recv-over h = let k = over n (lentBy line 5) e h in (simp (f, k), simp (f, k))
+    recv-over h = let k = over n (lentBy line 7) e h in (simp (f, k), simp (f, k))
 
-    pub is-recv : n ≤ length out → (time port draw : ℕ) (p : List ℕ) → time ≡ numberAt line 1 → port ≡ number16At line 2 → draw ≡ numberAt line 3 → p ≡ bytesIn 20000 line 4
-        → (state : State) (bytes : List ℕ) → Are state bytes (received s out time port draw p n) → Are state bytes (afterRecv line s out)
+    pub is-recv : n ≤ length out → (a : Arrival) → a ≡ arrivalTold line → (state : State) (bytes : List ℕ) → Are state bytes (received s out a) → Are state bytes (afterRecv line s out)
     unfolding afterRecv
-    is-recv h time port draw p t o d m state bytes is =
-        let k = within n (lentBy line 5) e h in
-        let u : afterRecv line s out ≡ received s out (numberAt line 1) (number16At line 2) (numberAt line 3) (bytesIn 20000 line 4) (lentBy line 5) = simp (f, k) in
-        let a : received s out time port draw p n ≡ afterRecv line s out =
-        ap (λ (x : ℕ). received s out x port draw p n) t ∙ ap (λ (x : ℕ). received s out (numberAt line 1) x draw p n) o
-        ∙ ap (λ (x : ℕ). received s out (numberAt line 1) (number16At line 2) x p n) d
-        ∙ ap (λ (x : List ℕ). received s out (numberAt line 1) (number16At line 2) (numberAt line 3) x n) m
-        ∙ ap (λ (x : ℕ). received s out (numberAt line 1) (number16At line 2) (numberAt line 3) (bytesIn 20000 line 4) x) e ∙ sym u in
-        (is .0 ∙ ap (λ (r : Responder). r .state) a, is .1 ∙ ap (λ (r : Responder). r .out) a)
+    is-recv h a t state bytes is =
+        let k = within n (lentBy line 7) e h in
+        let u : afterRecv line s out ≡ received s out (arrivalTold line) = simp (f, k) in
+        let v : received s out a ≡ afterRecv line s out = ap (received s out) t ∙ sym u in
+        (is .0 ∙ ap (λ (r : Responder). r .state) v, is .1 ∙ ap (λ (r : Responder). r .out) v)
 
   pub not-tick : isTick line ≡ false → Are s out (afterTick line s out)
   unfolding afterTick

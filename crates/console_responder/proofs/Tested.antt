@@ -12,7 +12,7 @@ use Rattle.console_text.specs.hex.Bytes.{bytesOf, isBytes}
 use Rattle.console_text.specs.lines.Fields.{fieldsOf}
 use Rattle.console_text.specs.fields.Numbers.{fieldAt, isNumberAt, numberAt}
 use Rattle.console_text.specs.fields.Forms.{argumentsOf, hasArguments, areBytesAt}
-use Rattle.console_responder.specs.Forms.{startWord, recvWord, tickWord, claimsWord, outWord, isResponderCall, isBytesOf, isAaaa, areNames, isStart, isNumberOrMissing, isRecv, isTick, lentBy}
+use Rattle.console_responder.specs.Forms.{startWord, recvWord, tickWord, claimsWord, holdsWord, outWord, isResponderCall, isBytesOf, isAaaa, isAddress, areNames, areNumbers, isStart, isNumberOrMissing, isRecv, isTick, lentBy}
 
 -- how many fields follow the first, against a bound
 module _ (line : List ℕ) (r n : ℕ) (e : r + 1 ≡ length (fieldsOf line)) where
@@ -57,6 +57,14 @@ module _ (field : List ℕ) (n : ℕ) where
   so-many b k e = ap (λ (m : ℕ). eqb m n) e ∙ sym (simp b)
 
 module _ (field : List ℕ) where
+  pub four-bytes : isBytesOf field 4 ≡ true → true ≡ isAddress field
+  unfolding isAddress
+  four-bytes h = simp h
+
+  pub or-sixteen : isBytesOf field 4 ≡ false → (r : Bool) → r ≡ isBytesOf field 16 → r ≡ isAddress field
+  unfolding isAddress
+  or-sixteen h r e = e ∙ sym (simp h)
+
   pub an-address : isBytesOf field 16 ≡ true → true ≡ isAaaa field
   unfolding isAaaa
   an-address h = simp h
@@ -83,9 +91,13 @@ module _ (word : List ℕ) where
   unfolding isResponderCall
   word-4 h0 h1 h2 h = simp (h0, h1, h2, h)
 
-  pub word-5 : sameBytes word startWord ≡ false → sameBytes word recvWord ≡ false → sameBytes word tickWord ≡ false → sameBytes word claimsWord ≡ false → (r : Bool) → r ≡ sameBytes word outWord → r ≡ isResponderCall word
+  pub word-5 : sameBytes word startWord ≡ false → sameBytes word recvWord ≡ false → sameBytes word tickWord ≡ false → sameBytes word claimsWord ≡ false → sameBytes word holdsWord ≡ true → true ≡ isResponderCall word
   unfolding isResponderCall
-  word-5 h0 h1 h2 h3 r e = e ∙ sym (simp (h0, h1, h2, h3))
+  word-5 h0 h1 h2 h3 h = simp (h0, h1, h2, h3, h)
+
+  pub word-6 : sameBytes word startWord ≡ false → sameBytes word recvWord ≡ false → sameBytes word tickWord ≡ false → sameBytes word claimsWord ≡ false → sameBytes word holdsWord ≡ false → (r : Bool) → r ≡ sameBytes word outWord → r ≡ isResponderCall word
+  unfolding isResponderCall
+  word-6 h0 h1 h2 h3 h4 r e = e ∙ sym (simp (h0, h1, h2, h3, h4))
 
 -- the fields of labels and strings
 module _ (line : List ℕ) where
@@ -147,35 +159,51 @@ module _ (line : List ℕ) where
   unfolding isStart
   start-8 h0 h1 h2 h3 h4 h5 h6 r e = e ∙ sym (simp (h0, h1, h2, h3, h4, h5, h6))
 
+-- the numbers of `recv`
+module _ (line : List ℕ) where
+  pub numbers-1 : isNumberAt line 1 ≡ false → false ≡ areNumbers line
+  unfolding areNumbers
+  numbers-1 h = simp h
+
+  pub numbers-2 : isNumberAt line 1 ≡ true → isNumberAt line 3 ≡ false → false ≡ areNumbers line
+  unfolding areNumbers
+  numbers-2 h0 h = simp (h0, h)
+
+  pub numbers-3 : isNumberAt line 1 ≡ true → isNumberAt line 3 ≡ true → isNumberAt line 4 ≡ false → false ≡ areNumbers line
+  unfolding areNumbers
+  numbers-3 h0 h1 h = simp (h0, h1, h)
+
+  pub numbers-4 : isNumberAt line 1 ≡ true → isNumberAt line 3 ≡ true → isNumberAt line 4 ≡ true → (r : Bool) → r ≡ isNumberAt line 5 → r ≡ areNumbers line
+  unfolding areNumbers
+  numbers-4 h0 h1 h2 r e = e ∙ sym (simp (h0, h1, h2))
+
 -- the form of `recv`
 module _ (line : List ℕ) where
-  pub recv-1 : ltb (argumentsOf line) 4 ≡ true → false ≡ isRecv line
+  pub recv-1 : ltb (argumentsOf line) 6 ≡ true → false ≡ isRecv line
   unfolding isRecv
   recv-1 h = simp h
 
-  pub recv-2 : ltb (argumentsOf line) 4 ≡ false → ltb 5 (argumentsOf line) ≡ true → false ≡ isRecv line
-  unfolding isRecv
-  recv-2 h0 h = simp (h0, h)
+  module _ (h0 : ltb (argumentsOf line) 6 ≡ false) where
+    pub recv-2 : ltb 7 (argumentsOf line) ≡ true → false ≡ isRecv line
+    unfolding isRecv
+    recv-2 h = simp (h0, h)
 
-  pub recv-3 : ltb (argumentsOf line) 4 ≡ false → ltb 5 (argumentsOf line) ≡ false → isNumberAt line 1 ≡ false → false ≡ isRecv line
-  unfolding isRecv
-  recv-3 h0 h1 h = simp (h0, h1, h)
+    module _ (h1 : ltb 7 (argumentsOf line) ≡ false) where
+      pub recv-3 : areNumbers line ≡ false → false ≡ isRecv line
+      unfolding isRecv
+      recv-3 h = simp (h0, h1, h)
 
-  pub recv-4 : ltb (argumentsOf line) 4 ≡ false → ltb 5 (argumentsOf line) ≡ false → isNumberAt line 1 ≡ true → isNumberAt line 2 ≡ false → false ≡ isRecv line
-  unfolding isRecv
-  recv-4 h0 h1 h2 h = simp (h0, h1, h2, h)
+      pub recv-4 : areNumbers line ≡ true → isAddress (fieldAt line 2) ≡ false → false ≡ isRecv line
+      unfolding isRecv
+      recv-4 h2 h = simp (h0, h1, h2, h)
 
-  pub recv-5 : ltb (argumentsOf line) 4 ≡ false → ltb 5 (argumentsOf line) ≡ false → isNumberAt line 1 ≡ true → isNumberAt line 2 ≡ true → isNumberAt line 3 ≡ false → false ≡ isRecv line
-  unfolding isRecv
-  recv-5 h0 h1 h2 h3 h = simp (h0, h1, h2, h3, h)
+      pub recv-5 : areNumbers line ≡ true → isAddress (fieldAt line 2) ≡ true → areBytesAt line 6 ≡ false → false ≡ isRecv line
+      unfolding isRecv
+      recv-5 h2 h3 h = simp (h0, h1, h2, h3, h)
 
-  pub recv-6 : ltb (argumentsOf line) 4 ≡ false → ltb 5 (argumentsOf line) ≡ false → isNumberAt line 1 ≡ true → isNumberAt line 2 ≡ true → isNumberAt line 3 ≡ true → areBytesAt line 4 ≡ false → false ≡ isRecv line
-  unfolding isRecv
-  recv-6 h0 h1 h2 h3 h4 h = simp (h0, h1, h2, h3, h4, h)
-
-  pub recv-7 : ltb (argumentsOf line) 4 ≡ false → ltb 5 (argumentsOf line) ≡ false → isNumberAt line 1 ≡ true → isNumberAt line 2 ≡ true → isNumberAt line 3 ≡ true → areBytesAt line 4 ≡ true → (r : Bool) → r ≡ isNumberOrMissing line 5 → r ≡ isRecv line
-  unfolding isRecv
-  recv-7 h0 h1 h2 h3 h4 h5 r e = e ∙ sym (simp (h0, h1, h2, h3, h4, h5))
+      pub recv-6 : areNumbers line ≡ true → isAddress (fieldAt line 2) ≡ true → areBytesAt line 6 ≡ true → (r : Bool) → r ≡ isNumberOrMissing line 7 → r ≡ isRecv line
+      unfolding isRecv
+      recv-6 h2 h3 h4 r e = e ∙ sym (simp (h0, h1, h2, h3, h4))
 
 -- the form of `tick`
 module _ (line : List ℕ) where

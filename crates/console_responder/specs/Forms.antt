@@ -1,5 +1,5 @@
 -- The forms of the calls on the responder, and what their lines tell: `start NOW DRAW INSTANCE SERVICE PROTOCOL HOST DOMAIN PORT TXT A AAAA`,
--- `recv NOW PORT DRAW PACKET` and `tick NOW`, both with OUT or without. Assumes nothing: these are definitions.
+-- `recv NOW FROM PORT DRAW HOLD PACKET` and `tick NOW`, both with OUT or without. Assumes nothing: these are definitions.
 use Prim.Native.Nat.{ℕ}
 use mathlib.Core.List.{List, [], _∷_}
 use mathlib.Core.Bool.{Bool, true, cond, not, _&&_, _||_}
@@ -15,7 +15,7 @@ use Rattle.console_text.specs.hex.Bytes.{bytesOf, isBytes}
 use Rattle.console_text.specs.fields.Numbers.{fieldAt, isNumberAt, numberAt, number16At}
 use Rattle.console_text.specs.fields.Forms.{argumentsOf, hasArguments, areBytesAt}
 
--- the words `start`, `recv`, `tick`, `claims` and `out`
+-- the words `start`, `recv`, `tick`, `claims`, `holds` and `out`
 abbrev pub startWord : List ℕ
 startWord = 115 ∷ (116 ∷ (97 ∷ (114 ∷ (116 ∷ []))))
 
@@ -28,13 +28,17 @@ tickWord = 116 ∷ (105 ∷ (99 ∷ (107 ∷ [])))
 abbrev pub claimsWord : List ℕ
 claimsWord = 99 ∷ (108 ∷ (97 ∷ (105 ∷ (109 ∷ (115 ∷ [])))))
 
+abbrev pub holdsWord : List ℕ
+holdsWord = 104 ∷ (111 ∷ (108 ∷ (100 ∷ (115 ∷ []))))
+
 abbrev pub outWord : List ℕ
 outWord = 111 ∷ (117 ∷ (116 ∷ []))
 
 -- a word is one of these calls
 unfoldable pub isResponderCall : List ℕ → Bool
 isResponderCall word =
-    sameBytes word startWord || (sameBytes word recvWord || (sameBytes word tickWord || (sameBytes word claimsWord || sameBytes word outWord)))
+    sameBytes word startWord || (sameBytes word recvWord || (sameBytes word tickWord || (sameBytes word claimsWord
+    || (sameBytes word holdsWord || sameBytes word outWord))))
 
 -- ---- a set-up
 
@@ -94,10 +98,18 @@ isStart line =
 unfoldable pub isNumberOrMissing : List ℕ → ℕ → Bool
 isNumberOrMissing line index = cond (ltb (argumentsOf line) index) true (isNumberAt line index)
 
+-- the address of a sender
+unfoldable pub isAddress : List ℕ → Bool
+isAddress field = isBytesOf field 4 || isBytesOf field 16
+
+-- the time, the port and the two draws are numbers
+unfoldable pub areNumbers : List ℕ → Bool
+areNumbers line = isNumberAt line 1 && (isNumberAt line 3 && (isNumberAt line 4 && isNumberAt line 5))
+
 unfoldable pub isRecv : List ℕ → Bool
 isRecv line =
-    not (ltb (argumentsOf line) 4) && (not (ltb 5 (argumentsOf line)) && (isNumberAt line 1 && (isNumberAt line 2 && (isNumberAt line 3
-    && (areBytesAt line 4 && isNumberOrMissing line 5)))))
+    not (ltb (argumentsOf line) 6) && (not (ltb 7 (argumentsOf line)) && (areNumbers line && (isAddress (fieldAt line 2)
+    && (areBytesAt line 6 && isNumberOrMissing line 7))))
 
 unfoldable pub isTick : List ℕ → Bool
 isTick line = not (ltb (argumentsOf line) 1) && (not (ltb 2 (argumentsOf line)) && (isNumberAt line 1 && isNumberOrMissing line 2))

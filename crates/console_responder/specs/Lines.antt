@@ -7,6 +7,7 @@ use lib.ListN.{length, take, drop}
 use lib.Dec.{leb}
 use Rattle.writer.specs.own_packets.Own.{laidOver}
 use Rattle.responder.specs.Handed.{Arrival, Tick}
+use Rattle.responder.specs.address.Address.{addressOf}
 use Rattle.responder.specs.Calls.{startOf, receiveOf, receivedPacket, tickOf, tickedPacket}
 use Rattle.responder.specs.declared.State.{State}
 use Rattle.responder.specs.declared.Answer.{Answer}
@@ -45,26 +46,32 @@ afterStart line s = cond (isStart line) (begunOr s (startOf (setupTold line) (nu
 abbrev pub lentOver : ℕ → List ℕ → List ℕ → List ℕ
 lentOver n packet out = laidOver packet (take n out) ++ drop n out
 
--- what a packet received, and a tick, are handed
-abbrev pub arrived : ℕ → ℕ → ℕ → List ℕ → ℕ → Arrival
-arrived time port draw p n = record { time = time; port = port; draw = draw; packet = p; room = n }
+-- What a packet received is handed, as a line tells it: a port that is too great for one is 0, which is no 5353 either; a packet has at most 20,000 bytes.
+unfoldable pub arrivalTold : List ℕ → Arrival
+arrivalTold line = record {
+  time = numberAt line 1;
+  from = addressOf (bytesIn 16 line 2);
+  port = number16At line 3;
+  draw = numberAt line 4;
+  hold = numberAt line 5;
+  packet = bytesIn 20000 line 6;
+  room = lentBy line 7;
+}
 
+-- what a tick is handed
 abbrev pub tickAt : ℕ → ℕ → Tick
 tickAt time n = record { time = time; room = n }
 
--- both over the first `n` bytes of the out buffer
-abbrev pub received : State → List ℕ → ℕ → ℕ → ℕ → List ℕ → ℕ → Responder
-received s out time port draw p n =
-    record { state = receiveOf s (arrived time port draw p n) .state; out = lentOver n (receivedPacket s (arrived time port draw p n)) out }
+-- both over the first bytes of the out buffer
+abbrev pub received : State → List ℕ → Arrival → Responder
+received s out a = record { state = receiveOf s a .state; out = lentOver (a .room) (receivedPacket s a) out }
 
 abbrev pub ticked : State → List ℕ → ℕ → ℕ → Responder
 ticked s out time n = record { state = tickOf s (tickAt time n) .state; out = lentOver n (tickedPacket s (tickAt time n)) out }
 
--- A port that is too great for one is 0, which is no 5353 either; a packet has at most 20,000 bytes. A line that would lend more than there is changes nothing.
+-- A line that would lend more than there is changes nothing.
 unfoldable pub afterRecv : List ℕ → State → List ℕ → Responder
-afterRecv line s out =
-    cond (isRecv line && leb (lentBy line 5) (length out))
-    (received s out (numberAt line 1) (number16At line 2) (numberAt line 3) (bytesIn 20000 line 4) (lentBy line 5)) (left s out)
+afterRecv line s out = cond (isRecv line && leb (lentBy line 7) (length out)) (received s out (arrivalTold line)) (left s out)
 
 unfoldable pub afterTick : List ℕ → State → List ℕ → Responder
 afterTick line s out = cond (isTick line && leb (lentBy line 2) (length out)) (ticked s out (numberAt line 1) (lentBy line 2)) (left s out)

@@ -1,4 +1,4 @@
-// The console's calls on the responder: `start`, `recv`, `tick`, `claims` and `out`. The responder's state goes by value, the out buffer is lent.
+// The console's calls on the responder: `start`, `recv`, `tick`, `claims`, `holds` and `out`. The responder's state goes by value, the out buffer is lent.
 // What both are after a line is promised; what is written no contract can say.
 mod sending;
 mod setup;
@@ -33,6 +33,9 @@ pub fn is_call(word: &[u8]) -> bool
     if wire::expansion::same_bytes(word, b"claims") {
         return true;
     }
+    if wire::expansion::same_bytes(word, b"holds") {
+        return true;
+    }
     wire::expansion::same_bytes(word, b"out")
 }
 
@@ -53,6 +56,10 @@ pub fn call(line: &[u8], held: State, lent: &mut [u8; 4096], text: &mut [u8; 409
     }
     if wire::expansion::same_bytes(word, b"claims") {
         showing::claims(line, held, text);
+        return held;
+    }
+    if wire::expansion::same_bytes(word, b"holds") {
+        showing::holds(line, held, text);
         return held;
     }
     if wire::expansion::same_bytes(word, b"out") {

@@ -1,5 +1,6 @@
-// The calls by which the responder goes on, each with the state after it: `recv NOW PORT DRAW PACKET` and `tick NOW`, both with OUT, the length of the
-// part of the out buffer that is lent, or without. What they send is shown.
+// The calls by which the responder goes on, each with the state after it: `recv NOW FROM PORT DRAW HOLD PACKET` and `tick NOW`, both with OUT, the length of
+// the part of the out buffer that is lent, or without. What they send is shown.
+use claims::holds::Address;
 use console_calls::output::bad_line;
 use console_calls::output::bytes;
 use console_calls::output::finish;
@@ -19,7 +20,10 @@ ghost use mathlib.Core.Path.{_≡_};
 ghost use mathlib.Core.List.{List};
 ghost use Prim.Native.Nat.{_≤_};
 ghost use lib.ListN.{length};
-ghost use Rattle.console_responder.specs.Forms.{isNumberOrMissing, isRecv, isTick, lentBy};
+ghost use Rattle.responder.specs.Handed.{Arrival};
+ghost use Rattle.responder.specs.address.Address.{addressOf};
+ghost use Rattle.console_text.specs.fields.Forms.{bytesIn};
+ghost use Rattle.console_responder.specs.Forms.{isNumberOrMissing, isAddress, areNumbers, isRecv, isTick, lentBy};
 ghost use Rattle.console_responder.specs.Lines.{Responder, received, ticked, afterRecv, afterTick};
 
 // The bytes of the out buffer that are lent where a line does not say how many.
@@ -78,17 +82,20 @@ fn shown(answer: Answer, more: bool, out: &[u8], text: &mut [u8; 4096]) {
 fn receive(
     held: State,
     time: u64,
-    from: u16,
+    from: Address,
+    port: u16,
     draw: u64,
+    hold: u64,
     packet: &[u8],
     out: &mut [u8],
     n: usize,
 ) -> Received
     requires { ⌜ n ≤ length (now out) ⌝ }
-    ensures { λ r. ⌜ (let after : Responder = received held (now (out .entry)) time from draw (now (packet .entry)) n in
+    ensures { λ r. ⌜ (let a : Arrival = record { time = time; from = from; port = port; draw = draw; hold = hold; packet = now (packet .entry); room = n } in
+        let after : Responder = received held (now (out .entry)) a in
         (r .state ≡ after .state) × (now (out .exit) ≡ after .out)) ⌝ }
 {
-    responder::receive(held, time, from, draw, packet, &mut out[..n])
+    responder::receive(held, time, from, port, draw, hold, packet, &mut out[..n])
 }
 
 // Ticks over the first bytes of the out buffer, `n` of them.
@@ -100,32 +107,64 @@ fn step(held: State, time: u64, out: &mut [u8], n: usize) -> Ticked
     responder::tick(held, time, &mut out[..n])
 }
 
-// Whether a line is of the form of `recv`.
-fn is_recv(line: &[u8]) -> bool
-    ensures { λ r. ⌜ r ≡ isRecv (now (line .entry)) ⌝ }
+// Whether a field is the address of a sender: 4 bytes of IPv4, or 16.
+fn is_address(field: &[u8]) -> bool
+    ensures { λ r. ⌜ r ≡ isAddress (now (field .entry)) ⌝ }
 {
-    if console_text::lines::arguments(line) < 4 {
-        return false;
+    if crate::setup::is_bytes_of(field, 4) {
+        return true;
     }
-    if 5 < console_text::lines::arguments(line) {
-        return false;
-    }
+    crate::setup::is_bytes_of(field, 16)
+}
+
+// The address that a line tells.
+fn address(line: &[u8]) -> Address
+    ensures { λ r. ⌜ r ≡ addressOf (bytesIn 16 (now (line .entry)) 2) ⌝ }
+{
+    let mut bytes = [0u8; 16];
+    let n = console_text::hex::fill(console_text::lines::field(line, 2), &mut bytes);
+    responder::address::address_of(console_text::lines::front(&bytes, n))
+}
+
+// Whether the fields of `recv` that are numbers are: the time, the port and the two draws.
+fn are_numbers(line: &[u8]) -> bool
+    ensures { λ r. ⌜ r ≡ areNumbers (now (line .entry)) ⌝ }
+{
     if !is_number(line, 1) {
-        return false;
-    }
-    if !is_number(line, 2) {
         return false;
     }
     if !is_number(line, 3) {
         return false;
     }
-    if !are_bytes(line, 4) {
+    if !is_number(line, 4) {
         return false;
     }
-    is_number_or_missing(line, 5)
+    is_number(line, 5)
 }
 
-// `recv NOW PORT DRAW PACKET` or `recv NOW PORT DRAW PACKET OUT`. A port that is too great is no 5353, as 0 is none.
+// Whether a line is of the form of `recv`.
+fn is_recv(line: &[u8]) -> bool
+    ensures { λ r. ⌜ r ≡ isRecv (now (line .entry)) ⌝ }
+{
+    if console_text::lines::arguments(line) < 6 {
+        return false;
+    }
+    if 7 < console_text::lines::arguments(line) {
+        return false;
+    }
+    if !are_numbers(line) {
+        return false;
+    }
+    if !is_address(console_text::lines::field(line, 2)) {
+        return false;
+    }
+    if !are_bytes(line, 6) {
+        return false;
+    }
+    is_number_or_missing(line, 7)
+}
+
+// `recv NOW FROM PORT DRAW HOLD PACKET`, with OUT or without. A port that is too great is no 5353, as 0 is none.
 pub fn recv(line: &[u8], held: State, out: &mut [u8], text: &mut [u8; 4096]) -> State
     ensures state { λ r. ⌜ r ≡ afterRecv (now (line .entry)) held (now (out .entry)) .state ⌝ }
     ensures out { λ _. ⌜ now (out .exit) ≡ afterRecv (now (line .entry)) held (now (out .entry)) .out ⌝ }
@@ -135,11 +174,13 @@ pub fn recv(line: &[u8], held: State, out: &mut [u8], text: &mut [u8; 4096]) -> 
         return held;
     }
     let time = number(line, 1);
-    let from = number_of_16(line, 2);
-    let draw = number(line, 3);
+    let from = address(line);
+    let port = number_of_16(line, 3);
+    let draw = number(line, 4);
+    let hold = number(line, 5);
     let mut packet = [0u8; 20000];
-    let k = console_text::hex::fill(console_text::lines::field(line, 4), &mut packet);
-    let n = lent(line, 5);
+    let k = console_text::hex::fill(console_text::lines::field(line, 6), &mut packet);
+    let n = lent(line, 7);
     if out.len() < n {
         bad_line(text);
         return held;
@@ -148,7 +189,9 @@ pub fn recv(line: &[u8], held: State, out: &mut [u8], text: &mut [u8; 4096]) -> 
         held,
         time,
         from,
+        port,
         draw,
+        hold,
         console_text::lines::front(&packet, k),
         out,
         n,

@@ -119,7 +119,7 @@ fn are_names(line: &[u8]) -> bool
 }
 
 // Whether a field is bytes, so many of them.
-fn is_bytes_of(field: &[u8], n: usize) -> bool
+pub fn is_bytes_of(field: &[u8], n: usize) -> bool
     ensures { λ r. ⌜ r ≡ isBytesOf (now (field .entry)) n ⌝ }
 {
     if !console_text::hex::is_bytes(field) {

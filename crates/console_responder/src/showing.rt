@@ -1,10 +1,15 @@
-// The calls that only show what is held: `claims`, the times and states of the responder, and `out AT LEN`, a part of the out buffer.
+// The calls that only show what is held: `claims`, the times and states of the responder; `holds`, its held queries; and `out AT LEN`, a part of the
+// out buffer.
 use claims::ClaimState;
 use claims::When;
+use claims::holds::Address;
+use claims::holds::Hold;
+use claims::holds::Holds;
 use console_calls::output::bad_line;
 use console_calls::output::bytes;
 use console_calls::output::finish;
 use console_calls::output::first;
+use console_calls::output::only;
 use console_calls::output::word;
 use console_text::fields::is_number;
 use console_text::fields::number;
@@ -66,6 +71,80 @@ pub fn claims(line: &[u8], held: State, text: &mut [u8; 4096]) {
     let used = word(text, used, b"host");
     let used = claim(text, used, host);
     let used = reply(text, used, due);
+    finish(text, used);
+}
+
+// The eight bytes of a number.
+fn number_bytes(n: u64) -> [u8; 8] {
+    [
+        (n / 72057594037927936 % 256) as u8,
+        (n / 281474976710656 % 256) as u8,
+        (n / 1099511627776 % 256) as u8,
+        (n / 4294967296 % 256) as u8,
+        (n / 16777216 % 256) as u8,
+        (n / 65536 % 256) as u8,
+        (n / 256 % 256) as u8,
+        (n % 256) as u8,
+    ]
+}
+
+// The sixteen bytes of an address.
+fn address_bytes(a: Address) -> [u8; 16] {
+    let high = number_bytes(a.high);
+    let low = number_bytes(a.low);
+    let mut all = [0u8; 16];
+    wire::buffer::put(&mut all, 0, &high);
+    wire::buffer::put(&mut all, 8, &low);
+    all
+}
+
+// Adds a held query: ` FROM DUE`; a free place adds nothing.
+fn hold(text: &mut [u8; 4096], used: usize, h: Hold) -> usize {
+    let from = h.from;
+    let due = h.due;
+    match due {
+        When::Never => used,
+        When::At(time) => {
+            let address = address_bytes(from);
+            let used = bytes(text, used, &address);
+            console_calls::output::number(text, used, time)
+        }
+    }
+}
+
+// Whether no query is held.
+fn none_held(holds: Holds) -> bool {
+    let first = holds.first;
+    let second = holds.second;
+    let third = holds.third;
+    let fourth = holds.fourth;
+    if claims::holds::is_taken(first) {
+        return false;
+    }
+    if claims::holds::is_taken(second) {
+        return false;
+    }
+    if claims::holds::is_taken(third) {
+        return false;
+    }
+    !claims::holds::is_taken(fourth)
+}
+
+// `holds`: `holds FROM DUE ..` in order of arrival, or `holds -`
+pub fn holds(line: &[u8], held: State, text: &mut [u8; 4096]) {
+    if console_text::lines::arguments(line) != 0 {
+        return bad_line(text);
+    }
+    let progress = held.progress;
+    let holds = progress.holds;
+    if none_held(holds) {
+        return only(text, b"holds -");
+    }
+    let used = first(text, b"holds");
+    let used = hold(text, used, holds.first);
+    let used = hold(text, used, holds.second);
+    let used = hold(text, used, holds.third);
+    let used = hold(text, used, holds.fourth);
     finish(text, used);
 }
 

@@ -2,6 +2,7 @@
 ghost use mathlib.Core.Path.{_≡_};
 ghost use lib.ListN.{length};
 ghost use Rattle.responder.specs.Handed.{Arrival, Tick};
+ghost use Rattle.responder.specs.address.Address.{addressOf};
 ghost use Rattle.capi_responder.specs.codec.Codec.{decode};
 ghost use Rattle.capi_responder.specs.Exported.{setupFor};
 ghost use Rattle.uniqueness.specs.Responder.{responder};
@@ -18,17 +19,20 @@ pub fn start(state: &mut [u8], setup: &[u8], time: u64, draw: u64) -> Called
 pub fn receive(
     state: &mut [u8],
     time: u64,
+    from: &[u8],
     port: u16,
     draw: u64,
+    hold: u64,
     packet: &[u8],
     out: &mut [u8],
 ) -> Called
     ensures { λ r. ⌜ (let x = decode (now (state .entry)) in
         let room = length (now (out .entry)) in
-        let a : Arrival = record { time = time; port = port; draw = draw; packet = now (packet .entry); room = room } in
+        let source = addressOf (now (from .entry)) in
+        let a : Arrival = record { time = time; from = source; port = port; draw = draw; hold = hold; packet = now (packet .entry); room = room } in
         Answers (responder .receive x a) x (now (out .entry)) (r .refusal) (r .unicast) (r .length) (decode (now (state .exit))) (now (out .exit))) ⌝ }
 {
-    capi_responder::kurgashel_receive(state, time, port, draw, packet, out)
+    capi_responder::kurgashel_receive(state, time, from, port, draw, hold, packet, out)
 }
 
 pub fn tick(state: &mut [u8], time: u64, out: &mut [u8]) -> Called

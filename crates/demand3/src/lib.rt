@@ -4,11 +4,14 @@
 pub mod exported;
 
 ghost use mathlib.Core.Path.{_≡_};
+ghost use mathlib.Core.List.{List};
+ghost use Prim.Native.Nat.{ℕ};
 ghost use lib.ListN.{length};
 ghost use Rattle.responder.specs.Handed.{Arrival, Tick};
 ghost use Rattle.responder.specs.Calls.{refusalOf, lengthOf, isUnicast};
 ghost use Rattle.uniqueness.specs.Responder.{responder};
 ghost use Rattle.demand3.specs.Seen.{begunAs, Answers};
+use claims::holds::Address;
 use own::records::Setup;
 use responder::Received;
 use responder::Started;
@@ -24,17 +27,20 @@ pub fn start(setup: Setup, time: u64, draw: u64) -> Started
 pub fn receive(
     state: State,
     time: u64,
+    from: Address,
     port: u16,
     draw: u64,
+    hold: u64,
     packet: &[u8],
     out: &mut [u8],
 ) -> Received
     ensures { λ r. ⌜ (let room = length (now (out .entry)) in
-        let a : Arrival = record { time = time; port = port; draw = draw; packet = now (packet .entry); room = room } in
+        let p : List ℕ = now (packet .entry) in
+        let a : Arrival = record { time = time; from = from; port = port; draw = draw; hold = hold; packet = p; room = room } in
         Answers (responder .receive state a) state (now (out .entry))
         (refusalOf (r .answer)) (isUnicast (r .answer)) (lengthOf (r .answer)) (r .state) (now (out .exit))) ⌝ }
 {
-    responder::receive(state, time, port, draw, packet, out)
+    responder::receive(state, time, from, port, draw, hold, packet, out)
 }
 
 pub fn tick(state: State, time: u64, out: &mut [u8]) -> Ticked

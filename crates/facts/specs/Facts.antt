@@ -1,6 +1,6 @@
 -- What a message says to a responder (specification, 'A claim's life' and 'Which answers go out'), read off the message's lists: names equal with letters
 -- folded, class by its low 15 bits, rdata equal with names expanded. Assumes nothing: these are definitions.
-use Prim.Native.Nat.{ℕ, _*_}
+use Prim.Native.Nat.{ℕ, _*_, _/_, _%_}
 use mathlib.Core.List.{List}
 use mathlib.Core.Bool.{Bool, true, false, cond, not, _&&_}
 use lib.Dec.{leb, eqb}
@@ -77,9 +77,14 @@ responseTo s c m = record { probe = false; later = false; conflict = inConflict 
 abbrev pub queryTo : Setup → Claim → Message → Heard
 queryTo s c m = record { probe = isProbe (claimName s c) m; later = theirsLater s c m; conflict = false }
 
+-- "the TC bit is set": more known answers follow in later packets (RFC 6762, section 7.2)
+abbrev pub isTruncated : ℕ → Bool
+isTruncated flags = eqb (flags / 512 % 2) 1
+
 unfoldable pub responseFacts : Setup → Message → Facts
 responseFacts s m = record {
   response = true;
+  truncated = false;
   asked = noRecord;
   known = noRecord;
   instance = responseTo s Instance m;
@@ -89,6 +94,7 @@ responseFacts s m = record {
 unfoldable pub queryFacts : Setup → Message → Facts
 queryFacts s m = record {
   response = false;
+  truncated = isTruncated (m .flags);
   asked = each (λ o. isAsked s o m);
   known = each (λ o. isKnown s o m);
   instance = queryTo s Instance m;

@@ -16,7 +16,8 @@ ghost use Rattle.facts.specs.Questions.{takesIn, asksBy};
 ghost use Rattle.facts.specs.Found.{QuestionFound, RecordFound};
 ghost use Rattle.facts.specs.tiebreak.Later.{isLater};
 ghost use Rattle.facts.specs.Types.{canConflict, someType, mayConflict};
-ghost use Rattle.facts.specs.Facts.{typeAsks, asksOwn, isAsked, isKnown, suppresses, conflicts, conflicted, theirsLater, responseTo, queryTo, factsOf};
+ghost use Rattle.facts.specs.Facts.{typeAsks, asksOwn, isAsked, isKnown, suppresses, conflicts, conflicted, theirsLater, responseTo, queryTo};
+ghost use Rattle.facts.specs.Facts.{isTruncated, factsOf};
 use claims::answers::Facts;
 use claims::answers::Heard;
 use claims::records::Claim;
@@ -422,6 +423,13 @@ fn query_to(p: &[u8], l: wire::message::Layout, setup: Setup, claim: Claim) -> H
     }
 }
 
+// Whether the TC bit of a header's flags is set: more known answers follow.
+fn is_truncated(flags: u16) -> bool
+    ensures { λ r. ⌜ r ≡ isTruncated flags ⌝ }
+{
+    flags / 512 % 2 == 1
+}
+
 // What the message that a layout shows says to a responder of this set-up.
 pub fn facts(p: &[u8], l: wire::message::Layout, setup: Setup) -> Facts
     ensures { λ r. ⌜ r ≡ factsOf setup (messageIn (now (p .entry)) l) ⌝ }
@@ -430,6 +438,7 @@ pub fn facts(p: &[u8], l: wire::message::Layout, setup: Setup) -> Facts
         if !may_conflict(p, l) {
             return Facts {
                 response: true,
+                truncated: false,
                 asked: claims::records::no_record(),
                 known: claims::records::no_record(),
                 instance: Heard {
@@ -446,6 +455,7 @@ pub fn facts(p: &[u8], l: wire::message::Layout, setup: Setup) -> Facts
         }
         return Facts {
             response: true,
+            truncated: false,
             asked: claims::records::no_record(),
             known: claims::records::no_record(),
             instance: response_to(p, l, setup, Claim::Instance),
@@ -454,6 +464,7 @@ pub fn facts(p: &[u8], l: wire::message::Layout, setup: Setup) -> Facts
     }
     Facts {
         response: false,
+        truncated: is_truncated(l.flags),
         asked: asked_for(p, l, setup),
         known: known_in(p, l, setup),
         instance: query_to(p, l, setup, Claim::Instance),

@@ -15,6 +15,8 @@ use Rattle.claims.specs.declared.ClaimState.the-variants.{Held}
 use Rattle.claims.specs.declared.When.the-variants.{Never}
 use Rattle.claims.specs.declared.Progress.{Progress}
 use Rattle.writer.specs.own_packets.Packets.{packetOf}
+use Rattle.claims.specs.holds.Holds.{noHolds}
+use Rattle.claims.specs.declared.holds.Address.{Address}
 use Rattle.responder.specs.Handed.{Arrival}
 use Rattle.responder.specs.declared.State.{State}
 use Rattle.cache.specs.declared.entries.Entry.{Entry}
@@ -52,6 +54,7 @@ holding = record {
   host = Held;
   sent = neverSent;
   reply = Never;
+  holds = noHolds;
   draw = 0;
   last = 0;
 }
@@ -71,8 +74,20 @@ asking o ttl = record {
 abbrev pub holder : State
 holder = record { setup = example; progress = holding }
 
+-- an address of the link, fe80::1
+abbrev pub somewhere : Address
+somewhere = record { high = 0xfe80000000000000; low = 1 }
+
 abbrev pub asked : Own → ℕ → Arrival
-asked o ttl = record { time = 0; port = 5353; draw = 20; packet = packetOf false (asking o ttl); room = 1452 }
+asked o ttl = record {
+  time = 0;
+  from = somewhere;
+  port = 5353;
+  draw = 20;
+  hold = 400;
+  packet = packetOf false (asking o ttl);
+  room = 1452;
+}
 
 -- "dock.local" as it stands in a packet
 abbrev pub hostName : List ℕ

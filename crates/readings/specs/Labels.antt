@@ -11,7 +11,7 @@ use Rattle.wire.specs.message.Layout.{listFrom, andThen, messageAt}
 use Rattle.own.specs.utf8.Utf8.{within, starts, following, mayStand, behind, shownFrom, isShown}
 use Rattle.own.specs.records.Setups.{labelFits, instanceFits, isLetter, isNameByte, allNameBytes, someLetter, hyphensApart, serviceRule, serviceFits, protocolFits, domainFits, txtFits, validSetup}
 use Rattle.own.specs.declared.records.Setup.{Setup}
-use Rattle.claims.specs.Refusals.{multicastsKept, kept, wrongTime}
+use Rattle.claims.specs.Refusals.{multicastsKept, holdsKept, kept, wrongTime}
 use Rattle.claims.specs.records.Sets.{everyOf}
 use Rattle.claims.specs.declared.ClaimState.the-variants.{Held}
 use Rattle.claims.specs.declared.When.the-variants.{Never}
@@ -142,5 +142,5 @@ Labels =
     × (receiveRefusal (holding feed) (from 5353 20 [] 1452) ≡ 4)
 
 pub labels : Labels
-unfolding example allShown anyShown within starts following mayStand behind shownFrom isShown tickRefusal receiveRefusal startRefusal wrongState wrongTime kept multicastsKept validSetup labelFits instanceFits isLetter isNameByte allNameBytes someLetter hyphensApart serviceRule serviceFits protocolFits domainFits txtFits stringsFill sameBytes messageAt andThen listFrom everyOf
+unfolding example allShown anyShown within starts following mayStand behind shownFrom isShown tickRefusal receiveRefusal startRefusal wrongState wrongTime kept multicastsKept holdsKept validSetup labelFits instanceFits isLetter isNameByte allNameBytes someLetter hyphensApart serviceRule serviceFits protocolFits domainFits txtFits stringsFill sameBytes messageAt andThen listFrom everyOf
 labels = (refl, refl, refl, refl, refl, refl, refl, refl, refl, refl, refl, refl, refl, refl, refl, refl, refl, refl, refl, refl)

@@ -22,13 +22,15 @@ use Rattle.facts.specs.tiebreak.Later.{numberOf, compareNumbers, inTurn, compar
 use Rattle.wire.specs.Lists.{some}
 use Rattle.facts.specs.probe.Probe.{isProbe}
 use Rattle.facts.specs.tiebreak.Lists.{ownRecord, listUnder}
-use Rattle.claims.specs.records.Sets.{picked, everyOf, atOnce, recordsOf}
+use Rattle.claims.specs.records.Sets.{picked, someOf, everyOf, atOnce, recordsOf}
 use Rattle.claims.specs.declared.records.Claim.the-variants.{Host}
 use Rattle.claims.specs.declared.records.Own.the-variants.{Ptr, A}
 use Rattle.claims.specs.declared.When.the-variants.{Never, At}
-use Rattle.claims.specs.Refusals.{multicastsKept, kept, wrongTime}
+use Rattle.claims.specs.Refusals.{multicastsKept, holdsKept, kept, wrongTime}
 use Rattle.claims.specs.Time.{afterMs, markedAll}
 use Rattle.claims.specs.answers.Answers as answers
+use Rattle.claims.specs.answers.Held as holds
+use Rattle.claims.specs.holds.Holds as queries
 use Rattle.responder.specs.Refusals.{wrongState, receiveRefusal}
 use Rattle.responder.specs.Calls.{packetFor, receivedPacket, receiveOf}
 use Rattle.facts.specs.Facts.{isAsked, isKnown, theirsLater, queryFacts, factsOf}
@@ -71,5 +73,5 @@ Starred =
     × (responsePacket example (recordsOf Host true) ≡ announcement)
 
 pub starred : Starred
-unfolding example asking cached announced tie sortBy insertBy compareRecords inTurn compareNumbers some isProbe listUnder isAsked isKnown theirsLater queryFacts factsOf holding sameName sameBytes hasRecord ownLabels ownName srvRdata ownRdata serviceLabels instanceLabels hostLabels rule1 each flushed liveOf isOf soon lookupOf refusalOf badKey stringsFill inTxt firstWith stringsFrom hasKey keyOf valueOf givenBy messageAt andThen listFrom questionAt questionRead recordAt recordRead nameAt fromRun readFrom pieceAt rdataAt rdataIn responsePacket responseRecords picked responseOf styles.ownRecord receiveOf receivedPacket packetFor receiveRefusal wrongState wrongTime kept multicastsKept everyOf validSetup labelFits instanceFits utf8.isShown utf8.shownFrom utf8.mayStand utf8.behind utf8.starts utf8.following utf8.within isLetter isNameByte allNameBytes someLetter hyphensApart serviceRule serviceFits protocolFits domainFits txtFits answers.receiveOf answers.wantedOf answers.heardOf atOnce markedAll afterMs packetOf putName dataBytes dataPlaces putFields nameBytes namePlaces starts cutFrom placeOf standsAt formIn formFor recordsOf
+unfolding example asking cached announced tie sortBy insertBy compareRecords inTurn compareNumbers some isProbe listUnder isAsked isKnown theirsLater queryFacts factsOf holding sameName sameBytes hasRecord ownLabels ownName srvRdata ownRdata serviceLabels instanceLabels hostLabels rule1 each flushed liveOf isOf soon lookupOf refusalOf badKey stringsFill inTxt firstWith stringsFrom hasKey keyOf valueOf givenBy messageAt andThen listFrom questionAt questionRead recordAt recordRead nameAt fromRun readFrom pieceAt rdataAt rdataIn responsePacket responseRecords picked responseOf styles.ownRecord receiveOf receivedPacket packetFor receiveRefusal wrongState wrongTime kept multicastsKept holdsKept everyOf someOf validSetup labelFits instanceFits utf8.isShown utf8.shownFrom utf8.mayStand utf8.behind utf8.starts utf8.following utf8.within isLetter isNameByte allNameBytes someLetter hyphensApart serviceRule serviceFits protocolFits domainFits txtFits answers.asksOf answers.wantedOf answers.joined answers.judgedOf holds.toHold holds.heldBack holds.receiveOf queries.someFrom queries.someFree queries.union queries.knowing queries.knowingAll queries.queued answers.heardOf atOnce markedAll afterMs packetOf putName dataBytes dataPlaces putFields nameBytes namePlaces starts cutFrom placeOf standsAt formIn formFor recordsOf
 starred = (refl, refl, refl, refl, refl, refl, refl, refl, refl, refl, refl, refl)

@@ -9,9 +9,9 @@ use Rattle.wire.specs.expansion.Equal.{sameBytes}
 use Rattle.wire.specs.message.Layout.{listFrom, andThen, messageAt}
 use Rattle.own.specs.utf8.Utf8 as utf8
 use Rattle.own.specs.records.Setups.{labelFits, instanceFits, isLetter, isNameByte, allNameBytes, someLetter, hyphensApart, serviceRule, serviceFits, protocolFits, domainFits, txtFits, validSetup}
-use Rattle.claims.specs.Refusals.{multicastsKept, kept, wrongTime}
+use Rattle.claims.specs.Refusals.{multicastsKept, holdsKept, kept, wrongTime}
 use Rattle.claims.specs.records.Own.{has}
-use Rattle.claims.specs.records.Sets.{noRecord, only, everyOf, atOnce}
+use Rattle.claims.specs.records.Sets.{noRecord, only, someOf, everyOf, atOnce}
 use Rattle.claims.specs.Time.{neverSent, markedAll}
 use Rattle.claims.specs.declared.records.Own.the-variants.{A}
 use Rattle.claims.specs.declared.ClaimState.{ClaimState}
@@ -21,11 +21,16 @@ use Rattle.claims.specs.declared.When.the-variants.{Never, At}
 use Rattle.claims.specs.declared.Multicasts.{Multicasts}
 use Rattle.claims.specs.declared.Progress.{Progress}
 use Rattle.claims.specs.declared.answers.Facts.{Facts}
-use Rattle.claims.specs.answers.Answers.{wantedOf, receiveOf}
+use Rattle.claims.specs.answers.Answers.{asksOf, wantedOf, joined, judgedOf}
+use Rattle.claims.specs.answers.Held.{toHold, heldBack, receiveOf}
+use Rattle.claims.specs.declared.answers.Coming.{Coming}
+use Rattle.claims.specs.holds.Holds.{noHolds, withHold, someFrom, someFree, union, knowing, knowingAll, queued}
+use Rattle.claims.specs.declared.holds.Holds.{Holds}
+use Rattle.claims.specs.declared.holds.Place.the-variants.{Second}
 use Rattle.responder.specs.declared.State.{State}
 use Rattle.responder.specs.Handed.{Arrival, Tick}
 use Rattle.responder.specs.Refusals.{wrongState, startRefusal, receiveRefusal, tickRefusal}
-use Rattle.readings.specs.Examples.{example}
+use Rattle.readings.specs.Examples.{example, somewhere}
 
 -- 2^62
 abbrev pub latest : ℕ
@@ -36,16 +41,24 @@ abbrev pub lastA : When → Multicasts
 lastA Never = neverSent
 lastA (At time) = markedAll (only A) neverSent time
 
--- The specification's example with a host claim, a last multicast of A, a PTR reply, a start draw and a last time
-abbrev pub lived : ClaimState → When → When → ℕ → ℕ → Progress
-lived host a reply draw last = record {
+-- The specification's example with a host claim, a last multicast of A, a PTR reply, held queries, a start draw and a last time
+abbrev pub livedWith : ClaimState → When → When → Holds → ℕ → ℕ → Progress
+livedWith host a reply holds draw last = record {
   instance = Held;
   host = host;
   sent = lastA a;
   reply = reply;
+  holds = holds;
   draw = draw;
   last = last;
 }
+
+abbrev pub lived : ClaimState → When → When → ℕ → ℕ → Progress
+lived host a reply draw last = livedWith host a reply noHolds draw last
+
+-- with a query from an address held at the second place, which asks for A
+abbrev pub held : When → Holds
+held due = withHold Second (record { from = somewhere; due = due; asked = only A; known = noRecord }) noHolds
 
 abbrev pub handed : ClaimState → When → When → ℕ → ℕ → State
 handed host a reply draw last = record { setup = example; progress = lived host a reply draw last }
@@ -54,6 +67,7 @@ handed host a reply draw last = record { setup = example; progress = lived host 
 abbrev pub asksA : Bool → Facts
 asksA probe = record {
   response = false;
+  truncated = false;
   asked = only A;
   known = noRecord;
   instance = record { probe = false; later = false; conflict = false };
@@ -72,8 +86,15 @@ bareResponse = 0 ∷ (0 ∷ (0x84 ∷ (0 ∷ (0 ∷ (0 ∷ (0 ∷ (0 ∷ (0 ∷ 
 abbrev pub tickAt : ℕ → ℕ → Tick
 tickAt time room = record { time = time; room = room }
 
+abbrev pub fromWith : ℕ → ℕ → ℕ → List ℕ → ℕ → Arrival
+fromWith port draw hold packet room = record { time = 0; from = somewhere; port = port; draw = draw; hold = hold; packet = packet; room = room }
+
 abbrev pub from : ℕ → ℕ → List ℕ → ℕ → Arrival
-from port draw packet room = record { time = 0; port = port; draw = draw; packet = packet; room = room }
+from port draw packet room = fromWith port draw 400 packet room
+
+-- what comes with a packet at a time
+abbrev pub coming : ℕ → Coming
+coming now = record { now = now; from = somewhere; draw = 20; hold = 400 }
 
 abbrev pub HandedIn : Type 0
 HandedIn =
@@ -84,6 +105,14 @@ HandedIn =
     × (tickRefusal (handed Held (At 4611686018427389905) Never 0 0) (tickAt 0 1452) ≡ 1)
     × (receiveRefusal (handed Held Never (At 4611686018427389904) 0 0) (from 5353 20 bare 1452) ≡ 0)
     × (receiveRefusal (handed Held Never (At 4611686018427389905) 0 0) (from 5353 20 bare 1452) ≡ 1)
+    × (tickRefusal (record { setup = example; progress = livedWith Held Never Never (held (At 4611686018427389904)) 0 0 }) (tickAt 0 1452) ≡ 0)
+    × (tickRefusal (record { setup = example; progress = livedWith Held Never Never (held (At 4611686018427389905)) 0 0 }) (tickAt 0 1452) ≡ 1)
+    -- "for 400 to 500 ms (a new draw, refusal 2 outside)": both draws are tested
+    × (receiveRefusal (handed Held Never Never 0 0) (fromWith 5353 20 399 bare 1452) ≡ 2)
+    × (receiveRefusal (handed Held Never Never 0 0) (fromWith 5353 20 400 bare 1452) ≡ 0)
+    × (receiveRefusal (handed Held Never Never 0 0) (fromWith 5353 120 500 bare 1452) ≡ 0)
+    × (receiveRefusal (handed Held Never Never 0 0) (fromWith 5353 120 501 bare 1452) ≡ 2)
+    × (receiveRefusal (handed Held Never Never 0 0) (fromWith 5353 19 400 bare 1452) ≡ 2)
     -- "a kept start draw is above 250", after 1, 2 and 3
     × (tickRefusal (handed Held Never Never 250 0) (tickAt 0 1452) ≡ 0)
     × (tickRefusal (handed Held Never Never 251 0) (tickAt 0 1452) ≡ 7)
@@ -104,13 +133,13 @@ HandedIn =
     × (tickRefusal (handed Held Never Never 0 latest) (tickAt 4611686018427387905 1452) ≡ 1)
     × (tickRefusal (handed Held Never Never 0 latest) (tickAt 4611686018427387903 1452) ≡ 1)
     -- "A kept time ahead of now counts as 0 ms ago": A multicast at 5,000 is not sent at 4,000, nor to a probe
-    × (has A (receiveOf (lived Held (At 5000) Never 0 0) 4000 20 (asksA false) false .answers) ≡ false)
-    × (has A (receiveOf (lived Held (At 5000) Never 0 0) 4000 20 (asksA true) false .answers) ≡ false)
-    × (has A (receiveOf (lived Held (At 5000) Never 0 0) 5249 20 (asksA true) false .answers) ≡ false)
-    × (has A (receiveOf (lived Held (At 5000) Never 0 0) 5250 20 (asksA true) false .answers) ≡ true)
-    × (has A (receiveOf (lived Held (At 5000) Never 0 0) 5999 20 (asksA false) false .answers) ≡ false)
-    × (has A (receiveOf (lived Held (At 5000) Never 0 0) 6000 20 (asksA false) false .answers) ≡ true)
+    × (has A (receiveOf (lived Held (At 5000) Never 0 0) (coming 4000) (asksA false) false .answers) ≡ false)
+    × (has A (receiveOf (lived Held (At 5000) Never 0 0) (coming 4000) (asksA true) false .answers) ≡ false)
+    × (has A (receiveOf (lived Held (At 5000) Never 0 0) (coming 5249) (asksA true) false .answers) ≡ false)
+    × (has A (receiveOf (lived Held (At 5000) Never 0 0) (coming 5250) (asksA true) false .answers) ≡ true)
+    × (has A (receiveOf (lived Held (At 5000) Never 0 0) (coming 5999) (asksA false) false .answers) ≡ false)
+    × (has A (receiveOf (lived Held (At 5000) Never 0 0) (coming 6000) (asksA false) false .answers) ≡ true)
 
 pub handed-in : HandedIn
-unfolding example tickRefusal receiveRefusal startRefusal wrongState wrongTime kept multicastsKept validSetup labelFits instanceFits utf8.isShown utf8.shownFrom utf8.mayStand utf8.behind utf8.starts utf8.following utf8.within isLetter isNameByte allNameBytes someLetter hyphensApart serviceRule serviceFits protocolFits domainFits txtFits stringsFill sameBytes messageAt andThen listFrom receiveOf wantedOf only markedAll atOnce everyOf
-handed-in = (refl, refl, refl, refl, refl, refl, refl, refl, refl, refl, refl, refl, refl, refl, refl, refl, refl, refl, refl, refl, refl, refl, refl, refl, refl, refl, refl, refl)
+unfolding example tickRefusal receiveRefusal startRefusal wrongState wrongTime kept multicastsKept holdsKept validSetup labelFits instanceFits utf8.isShown utf8.shownFrom utf8.mayStand utf8.behind utf8.starts utf8.following utf8.within isLetter isNameByte allNameBytes someLetter hyphensApart serviceRule serviceFits protocolFits domainFits txtFits stringsFill sameBytes messageAt andThen listFrom receiveOf toHold heldBack judgedOf joined asksOf someFrom someFree someOf union knowing knowingAll queued wantedOf only markedAll atOnce everyOf
+handed-in = (refl, refl, refl, refl, refl, refl, refl, refl, refl, refl, refl, refl, refl, refl, refl, refl, refl, refl, refl, refl, refl, refl, refl, refl, refl, refl, refl, refl, refl, refl, refl, refl, refl, refl, refl)

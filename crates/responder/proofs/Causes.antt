@@ -9,7 +9,7 @@ use Rattle.claims.specs.declared.records.Claim.{Claim}
 use Rattle.claims.specs.declared.records.Claim.the-variants.{Instance, Host}
 use Rattle.claims.specs.declared.records.Own.{Own}
 use Rattle.claims.specs.answers.Answers as answers
-use Rattle.claims.specs.answers.Answers.{heardFor, wantedOf}
+use Rattle.claims.specs.answers.Answers.{asksOf, gapOf, gapFor, wantedOf}
 use Rattle.claims.proofs.records.Sets.{has-each}
 use Rattle.facts.specs.probe.Probe.{isProbe}
 use Rattle.facts.specs.Facts.{factsOf, responseFacts, queryFacts, isAsked, isKnown, claimName}
@@ -19,54 +19,55 @@ use Rattle.responder.specs.declared.State.{State}
 module _ (s : State) (time : ℕ) (m : Message) where
   -- the rules of the claims, on the facts of the message
   abbrev pub factsDue : Own → Bool
-  factsDue o = answers.isDue (s .progress) (factsOf (s .setup) m) (s .setup .hasaaaa) o
+  factsDue o = answers.isDue (s .progress) (asksOf (factsOf (s .setup) m)) (s .setup .hasaaaa) o
 
   abbrev factsOmit : Own → Bool
-  factsOmit o = answers.isOmitted (s .progress) (factsOf (s .setup) m) time o
+  factsOmit o = answers.isOmitted (s .progress) (asksOf (factsOf (s .setup) m)) time o
 
   module _ (query : isResponse (m .flags) ≡ false) where
-    response-is : factsOf (s .setup) m .response ≡ false
-    unfolding factsOf queryFacts
-    response-is = simp query
-
-    asked-is : (o : Own) → has o (factsOf (s .setup) m .asked) ≡ isAsked (s .setup) o m
-    unfolding factsOf queryFacts
+    asked-is : (o : Own) → has o (asksOf (factsOf (s .setup) m) .asked) ≡ isAsked (s .setup) o m
+    unfolding factsOf queryFacts asksOf
     asked-is o = rw query (has-each (λ p. isAsked (s .setup) p m) o)
 
-    known-is : (o : Own) → has o (factsOf (s .setup) m .known) ≡ isKnown (s .setup) o m
-    unfolding factsOf queryFacts
+    known-is : (o : Own) → has o (asksOf (factsOf (s .setup) m) .known) ≡ isKnown (s .setup) o m
+    unfolding factsOf queryFacts asksOf
     known-is o = rw query (has-each (λ p. isKnown (s .setup) p m) o)
 
-    probe-is : (k : Claim) → heardFor k (factsOf (s .setup) m) .probe ≡ isProbe (claimName (s .setup) k) m
-    unfolding factsOf queryFacts
-    probe-is Instance = simp query
-    probe-is Host = simp query
+    gap-is : (k : Claim) → gapFor k (asksOf (factsOf (s .setup) m)) ≡ gapOf (isProbe (claimName (s .setup) k) m)
+    unfolding factsOf queryFacts asksOf
+    gap-is Instance = simp query
+    gap-is Host = simp query
 
     pub due-is : (o : Own) → factsDue o ≡ isDue s m o
     unfolding isDue hasRecord
-    due-is o = simp (response-is, asked-is o, query)
+    due-is o = simp (asked-is o, query)
 
     omit-is : (o : Own) → factsOmit o ≡ hasCause s time m o
     unfolding hasCause
-    omit-is o = simp (known-is o, probe-is (claimFor o))
+    omit-is o = simp (known-is o, gap-is (claimFor o))
 
     query-wants : (o : Own) → (factsDue o && not (factsOmit o)) ≡ isWanted s time m o
     query-wants o = simp (due-is o, omit-is o)
 
   -- nothing is due for a response
   module _ (response : isResponse (m .flags) ≡ true) where
-    said-response : factsOf (s .setup) m .response ≡ true
-    unfolding factsOf responseFacts
-    said-response = simp response
+    none-asked : (o : Own) → has o (asksOf (factsOf (s .setup) m) .asked) ≡ false
+    unfolding factsOf responseFacts asksOf
+    none-asked o = rw response (has-each (λ p. false) o)
+
+    not-due : (held there : Bool) → (held && (there && false)) ≡ false
+    not-due true true = refl
+    not-due true false = refl
+    not-due false there = refl
 
     response-wants : (o : Own) → (factsDue o && not (factsOmit o)) ≡ isWanted s time m o
     unfolding isDue
-    response-wants o = simp (said-response, response)
+    response-wants o = rw (none-asked o) (simp (not-due, response))
 
   -- A record is wanted exactly where it is due and no cause of the specification holds.
-  pub wanted-exactly : (o : Own) → has o (wantedOf (s .progress) (factsOf (s .setup) m) time (s .setup .hasaaaa)) ≡ isWanted s time m o
+  pub wanted-exactly : (o : Own) → has o (wantedOf (s .progress) (asksOf (factsOf (s .setup) m)) time (s .setup .hasaaaa)) ≡ isWanted s time m o
   unfolding wantedOf
-  wanted-exactly o = has-each (answers.isWanted (s .progress) (factsOf (s .setup) m) time (s .setup .hasaaaa)) o ∙ go (isResponse (m .flags)) refl
+  wanted-exactly o = has-each (answers.isWanted (s .progress) (asksOf (factsOf (s .setup) m)) time (s .setup .hasaaaa)) o ∙ go (isResponse (m .flags)) refl
     where
       go : (b : Bool) → isResponse (m .flags) ≡ b → (factsDue o && not (factsOmit o)) ≡ isWanted s time m o
       go true e = response-wants e o

@@ -15,15 +15,16 @@ use Rattle.own.specs.records.Setups.{validSetup, labelHeld}
 use Rattle.own.specs.utf8.Grammar.{Octets, NoControl}
 use Rattle.own.proofs.records.Valid.{valid, shown-label}
 use Rattle.claims.specs.Claims as claims
-use Rattle.claims.specs.Refusals.{lateStart, wrongTime, wrongStartDraw, wrongReplyDraw, kept}
+use Rattle.claims.specs.Refusals.{lateStart, wrongTime, wrongStartDraw, wrongReplyDraw, wrongHoldDraw, wrongDraws, kept}
 use Rattle.claims.specs.declared.Progress.{Progress}
 use Rattle.claims.specs.declared.answers.Facts.{Facts}
 use Rattle.claims.specs.answers.Answers as answers
+use Rattle.claims.specs.answers.Held as held
 use Rattle.claims.proofs.Keeping.{start-kept}
 use Rattle.claims.proofs.steps.Ticks.{tick-kept, tick-draw}
 use Rattle.claims.proofs.answers.Receives.{receive-kept, receive-draw, plain-kept, plain-draw}
 use Rattle.facts.specs.Facts.{factsOf}
-use Rattle.responder.specs.Handed.{Arrival, Tick}
+use Rattle.responder.specs.Handed.{Arrival, comingOf, Tick}
 use Rattle.responder.specs.Refusals.{smallBuffer, wrongState, startRefusal, receiveRefusal, tickRefusal}
 use Rattle.responder.specs.Calls.{startOf, fromMdns, heardOf, receiveOf, tickOf}
 use Rattle.responder.specs.Runs.{Call, received, ticked, refusalOfCall, stateAfter, run}
@@ -69,7 +70,7 @@ never-7 false false false false false false e = omega (arith, e)
 pub sound-never-7 : (s : State) (c : Call) → Sound s → refusalOfCall s c ≡ 7 → ⊥
 unfolding receiveRefusal tickRefusal
 sound-never-7 s (received a) h e =
-    never-7 (wrongTime (s .progress) (a .time)) (wrongReplyDraw (a .draw)) (smallBuffer (a .room)) (wrongLength (a .packet))
+    never-7 (wrongTime (s .progress) (a .time)) (wrongDraws (a .draw) (a .hold)) (smallBuffer (a .room)) (wrongLength (a .packet))
     (wrongHeader (a .packet) || wrongPort (a .port) (a .packet)) (isMalformed (a .packet)) (rw (h .right) at e)
 sound-never-7 s (ticked t) h e = never-7 (wrongTime (s .progress) (t .time)) false (smallBuffer (t .room)) false false false (rw (h .right) at e)
 
@@ -93,6 +94,19 @@ small-draw s h = ltb-false 250 (s .progress .draw) (neither (not (validSetup (s 
 
 small-reply : (draw : ℕ) → wrongReplyDraw draw ≡ false → draw ≤ 120
 small-reply draw h = ltb-false 120 draw (neither (ltb draw 20) (ltb 120 draw) .0 h .1)
+
+small-hold : (hold : ℕ) → wrongHoldDraw hold ≡ false → hold ≤ 500
+small-hold hold h = ltb-false 500 hold (neither (ltb hold 400) (ltb 500 hold) .0 h .1)
+
+-- both draws of an accepted packet
+pub small-draws : (draw hold : ℕ) → wrongDraws draw hold ≡ false → (draw ≤ 120) × (hold ≤ 500)
+small-draws draw hold h =
+    let n = neither (wrongReplyDraw draw) (wrongHoldDraw hold) .0 h in
+    (small-reply draw (n .0), small-hold hold (n .1))
+
+pub least-hold : (draw hold : ℕ) → wrongDraws draw hold ≡ false → 400 ≤ hold
+least-hold draw hold h =
+    ltb-false hold 400 (neither (ltb hold 400) (ltb 500 hold) .0 (neither (wrongReplyDraw draw) (wrongHoldDraw hold) .0 h .1) .0)
 
 -- a state whose set-up and start draw are those of another
 same-right : (s : State) (progress : Progress) → progress .draw ≡ s .progress .draw → wrongState s ≡ false
@@ -119,7 +133,7 @@ module _ (most : ℕ) (l : 4611686018427388904 ≤ most) where
   heard-within :
       (s : State) (a : Arrival) (x : Reads)
       → a .time ≤ 4611686018427387904
-      → a .draw ≤ 120
+      → (a .draw ≤ 120) × (a .hold ≤ 500)
       → kept most (s .progress) ≡ true
       → wrongState s ≡ false
       → Within most (record { setup = s .setup; progress = heardOf s a x .progress })
@@ -135,12 +149,12 @@ module _ (most : ℕ) (l : 4611686018427388904 ≤ most) where
           (b : Bool)
           → Within most (record {
             setup = s .setup;
-            progress = cond b (answers.receiveOf (s .progress) (a .time) (a .draw) f aaaa) (answers.plainOf (s .progress) (a .time) f aaaa) .progress;
+            progress = cond b (held.receiveOf (s .progress) (comingOf a) f aaaa) (answers.plainOf (s .progress) (a .time) f aaaa) .progress;
           })
       go true =
           record {
-            times = receive-kept (a .time) (a .draw) f aaaa most n d l (s .progress) (small-draw s w) k;
-            right = same-right s _ (receive-draw (a .time) (a .draw) f aaaa (s .progress)) w;
+            times = receive-kept (comingOf a) f aaaa most n (d .0) (d .1) l (s .progress) (small-draw s w) k;
+            right = same-right s _ (receive-draw (comingOf a) f aaaa (s .progress)) w;
           }
       go false =
           record {
@@ -153,7 +167,7 @@ module _ (most : ℕ) (l : 4611686018427388904 ≤ most) where
   unfolding receiveOf
   receive-within s a h k =
       let p : ReceiveAccepted s a = receive-accepted s a h in
-      rw h (heard-within s a (messageAt (a .packet)) (in-time (s .progress) (a .time) (p .time) .0) (small-reply (a .draw) (p .drawn)) k (p .right))
+      rw h (heard-within s a (messageAt (a .packet)) (in-time (s .progress) (a .time) (p .time) .0) (small-draws (a .draw) (a .hold) (p .drawn)) k (p .right))
 
   pub tick-within : (s : State) (t : Tick) → tickRefusal s t ≡ 0 → kept most (s .progress) ≡ true → Within most (tickOf s t .state)
   unfolding tickOf

@@ -13,7 +13,7 @@ use Rattle.wire.specs.message.Layout.{wrongLength, wrongHeader}
 use Rattle.wire.specs.message.Refusals.{wrongPort, isMalformed, messageRefusal}
 use Rattle.own.specs.declared.records.Setup.{Setup}
 use Rattle.own.specs.records.Setups.{validSetup, labelFits, instanceFits}
-use Rattle.claims.specs.Refusals.{lateStart, wrongTime, wrongStartDraw, wrongReplyDraw}
+use Rattle.claims.specs.Refusals.{lateStart, wrongTime, wrongStartDraw, wrongDraws}
 use Rattle.writer.specs.own_packets.Own.{unlessRefused}
 use Rattle.responder.specs.Handed.{Arrival, Tick}
 use Rattle.responder.specs.Refusals.{smallBuffer, wrongState, startRefusal, receiveRefusal, tickRefusal}
@@ -36,7 +36,7 @@ pub record StartAccepted (setup : Setup) (now draw : ℕ) : Type 0 where
 
 pub record ReceiveAccepted (s : State) (a : Arrival) : Type 0 where
   pub time : wrongTime (s .progress) (a .time) ≡ false
-  pub drawn : wrongReplyDraw (a .draw) ≡ false
+  pub drawn : wrongDraws (a .draw) (a .hold) ≡ false
   pub buffer : smallBuffer (a .room) ≡ false
   pub message : messageRefusal (a .port) (a .packet) ≡ 0
   pub right : wrongState s ≡ false
@@ -65,10 +65,10 @@ ordered t d b n w = cond t 1 (cond d 2 (cond b 3 (cond (eqb n 0) (cond w 7 0) n)
 
 pub in-order : (s : State) (a : Arrival)
     → receiveRefusal s a
-    ≡ ordered (wrongTime (s .progress) (a .time)) (wrongReplyDraw (a .draw)) (smallBuffer (a .room)) (messageRefusal (a .port) (a .packet)) (wrongState s)
+    ≡ ordered (wrongTime (s .progress) (a .time)) (wrongDraws (a .draw) (a .hold)) (smallBuffer (a .room)) (messageRefusal (a .port) (a .packet)) (wrongState s)
 unfolding receiveRefusal messageRefusal
 in-order s a =
-    ap (λ (n : ℕ). cond (wrongTime (s .progress) (a .time)) 1 (cond (wrongReplyDraw (a .draw)) 2 (cond (smallBuffer (a .room)) 3 n)))
+    ap (λ (n : ℕ). cond (wrongTime (s .progress) (a .time)) 1 (cond (wrongDraws (a .draw) (a .hold)) 2 (cond (smallBuffer (a .room)) 3 n)))
     (go (wrongLength (a .packet)) (wrongHeader (a .packet) || wrongPort (a .port) (a .packet)) (isMalformed (a .packet)) (cond (wrongState s) 7 0))
   where
     go : (l h m : Bool) (n : ℕ)
@@ -81,7 +81,7 @@ in-order s a =
 pub receive-accepted : (s : State) (a : Arrival) → receiveRefusal s a ≡ 0 → ReceiveAccepted s a
 receive-accepted s a h = go _ _ _ _ _ refl refl refl refl refl (sym (in-order s a) ∙ h)
   where
-    go : (t d b : Bool) (n : ℕ) (w : Bool) → wrongTime (s .progress) (a .time) ≡ t → wrongReplyDraw (a .draw) ≡ d → smallBuffer (a .room) ≡ b
+    go : (t d b : Bool) (n : ℕ) (w : Bool) → wrongTime (s .progress) (a .time) ≡ t → wrongDraws (a .draw) (a .hold) ≡ d → smallBuffer (a .room) ≡ b
         → messageRefusal (a .port) (a .packet) ≡ n → wrongState s ≡ w → ordered t d b n w ≡ 0 → ReceiveAccepted s a
     go true d b n w i j k l m e = absurd (omega (arith, e))
     go false true b n w i j k l m e = absurd (omega (arith, e))

@@ -15,7 +15,7 @@ use Rattle.wire.specs.declared.message.MessageRead.the-variants.{Read, Refused}
 use Rattle.wire.proofs.message.Refused.{accepted-from, refusing, reading, was-read, was-refused, taken-from, refused-from}
 use Rattle.own.specs.declared.records.Setup.{Setup}
 use Rattle.own.specs.records.Setups.{validSetup}
-use Rattle.claims.specs.Refusals.{lateStart, wrongTime, wrongStartDraw, wrongReplyDraw}
+use Rattle.claims.specs.Refusals.{lateStart, wrongTime, wrongStartDraw, wrongDraws}
 use Rattle.writer.specs.own_packets.Own.{refusal}
 use Rattle.responder.specs.Handed.{Arrival, Tick}
 use Rattle.responder.specs.Refusals.{smallBuffer, wrongState, startRefusal, receiveRefusal, tickRefusal, admitted}
@@ -102,10 +102,10 @@ module _ (s : State) (a : Arrival) where
   receive-1 t = refuses 1 (in-order s a ∙ simp t) (λ e. omega arith)
 
   module _ (t : wrongTime (s .progress) (a .time) ≡ false) where
-    pub receive-2 : wrongReplyDraw (a .draw) ≡ true → Refused 2 ≡ readOf (admitted s a)
+    pub receive-2 : wrongDraws (a .draw) (a .hold) ≡ true → Refused 2 ≡ readOf (admitted s a)
     receive-2 d = refuses 2 (in-order s a ∙ simp (t, d)) (λ e. omega arith)
 
-    module _ (d : wrongReplyDraw (a .draw) ≡ false) where
+    module _ (d : wrongDraws (a .draw) (a .hold) ≡ false) where
       pub receive-3 : a .room < 1452 → Refused 3 ≡ readOf (admitted s a)
       receive-3 r = refuses 3 (in-order s a ∙ simp (t, d, lt-ltb (a .room) 1452 r)) (λ e. omega arith)
 

@@ -1,8 +1,9 @@
--- Of every run of calls: a lost claim stays lost, and two probes of one claim are at least 250 ms apart. Assumes nothing.
+-- Of every run of calls: a lost claim stays lost, two probes of one claim are at least 250 ms apart, and no two held queries are of one address. Assumes nothing.
 use Prim.Native.Nat.{ℕ, _+_, _≤_}
 use mathlib.Core.Path.{_≡_, refl, sym, ap, _∙_}
 use mathlib.Core.Bool.{Bool, true, false, cond, not, _&&_, _||_}
 use mathlib.Core.List.{List, [], _∷_}
+use lib.ListN.{length}
 use native.Mathlib.Omega.{arith}
 use lib.Dec.{eqb, ltb}
 use borrow.Author.Tests.{ltb-false, eqb-true}
@@ -20,14 +21,17 @@ use Rattle.claims.specs.declared.records.Claim.the-variants.{Instance, Host}
 use Rattle.claims.specs.declared.Progress.{Progress}
 use Rattle.claims.specs.steps.Tick.{probesFor}
 use Rattle.claims.specs.answers.Answers as answers
+use Rattle.claims.specs.answers.Held as held
 use Rattle.claims.specs.declared.answers.Facts.{Facts}
 use Rattle.claims.proofs.Times.{after-exact}
 use Rattle.claims.proofs.Clear.{Clear, clear-later}
-use Rattle.claims.proofs.steps.Ticks.{tick-last, tick-lost}
+use Rattle.claims.specs.holds.Holds.{heldOf, oncePerAddress}
+use Rattle.claims.proofs.holds.Lists.{at-most-four, once-none}
+use Rattle.claims.proofs.steps.Ticks.{tick-last, tick-lost, tick-once}
 use Rattle.claims.proofs.steps.Spacing.{tick-paced, clearFrom, Paced}
-use Rattle.claims.proofs.answers.Receives.{receive-last, receive-lost, receive-clear, plain-claim, plain-last}
+use Rattle.claims.proofs.answers.Receives.{receive-last, receive-lost, receive-clear, receive-once, plain-claim, plain-last, plain-holds, begun-holds}
 use Rattle.facts.specs.Facts.{factsOf}
-use Rattle.responder.specs.Handed.{Arrival, Tick}
+use Rattle.responder.specs.Handed.{Arrival, comingOf, Tick}
 use Rattle.responder.specs.Refusals.{wrongState, startRefusal, receiveRefusal, tickRefusal}
 use Rattle.responder.specs.Calls.{startOf, fromMdns, heardOf, receiveOf, walkedOf, tickOf}
 use Rattle.responder.specs.Runs.{Call, received, ticked, refusalOfCall, stateAfter, run, timeOf, sendsProbe, probeTimes, Spaced, none, next}
@@ -88,14 +92,56 @@ run-lost k s cs q = run-keeps (λ x. claimOf k (x .progress) ≡ Lost) keep s cs
         aaaa = x .setup .hasaaaa
 
         go : (b : Bool)
-            → claimOf k (cond b (answers.receiveOf (x .progress) (a .time) (a .draw) f aaaa) (answers.plainOf (x .progress) (a .time) f aaaa) .progress) ≡ Lost
-        go true = receive-lost (a .time) (a .draw) f aaaa k (x .progress) e
+            → claimOf k (cond b (held.receiveOf (x .progress) (comingOf a) f aaaa) (answers.plainOf (x .progress) (a .time) f aaaa) .progress) ≡ Lost
+        go true = receive-lost (comingOf a) f aaaa k (x .progress) e
         go false = plain-claim (a .time) f aaaa k (x .progress) ∙ e
     heard x a (refused n) e = e
 
     keep : (x : State) (c : Call) → refusalOfCall x c ≡ 0 → claimOf k (x .progress) ≡ Lost → claimOf k (stateAfter x c .progress) ≡ Lost
     keep x (received a) h e = rw (received-progress x a h) (heard x a (messageAt (a .packet)) e)
     keep x (ticked t) h e = rw (ticked-progress x t h) (tick-lost (t .time) (x .setup .hasaaaa) k (x .progress) e)
+
+-- ---- the held queries
+
+-- "by source address": no two are of one address
+abbrev pub OncePerAddress : State → Type 0
+OncePerAddress s = oncePerAddress (heldOf (s .progress .holds)) ≡ true
+
+pub run-once : (s : State) (cs : List Call) → OncePerAddress s → OncePerAddress (run s cs)
+run-once s cs q = run-keeps OncePerAddress keep s cs q
+  where
+    heard : (x : State) (a : Arrival) (m : Reads) → OncePerAddress x → oncePerAddress (heldOf (heardOf x a m .progress .holds)) ≡ true
+    heard x a (read l m) e = go (fromMdns a)
+      where
+        f : Facts
+        f = factsOf (x .setup) m
+
+        aaaa : Bool
+        aaaa = x .setup .hasaaaa
+
+        go : (b : Bool)
+            → oncePerAddress (heldOf (cond b (held.receiveOf (x .progress) (comingOf a) f aaaa) (answers.plainOf (x .progress) (a .time) f aaaa) .progress .holds))
+            ≡ true
+        go true = receive-once (comingOf a) f aaaa (x .progress) e
+        go false = rw (plain-holds (a .time) f aaaa (x .progress)) e
+    heard x a (refused n) e = e
+
+    keep : (x : State) (c : Call) → refusalOfCall x c ≡ 0 → OncePerAddress x → OncePerAddress (stateAfter x c)
+    keep x (received a) h e = rw (received-progress x a h) (heard x a (messageAt (a .packet)) e)
+    keep x (ticked t) h e = rw (ticked-progress x t h) (tick-once (t .time) (x .setup .hasaaaa) (x .progress) e)
+
+-- Whatever calls follow a start, at most four queries are held, and no two of one address.
+pub few-held :
+    (setup : Setup) (time draw : ℕ) (cs : List Call) → startRefusal setup time draw ≡ 0
+    → (length (heldOf (run (startOf setup time draw .state) cs .progress .holds)) ≤ 4) × OncePerAddress (run (startOf setup time draw .state) cs)
+few-held setup time draw cs h = (
+  at-most-four _,
+  run-once (startOf setup time draw .state) cs
+      (rw (started-progress setup time draw h) (begun-once time draw)),
+)
+  where
+    begun-once : (t d : ℕ) → oncePerAddress (heldOf (claims.begunAt t d .holds)) ≡ true
+    begun-once t d = rw (begun-holds t d) once-none
 
 -- ---- two probes of one claim
 
@@ -131,10 +177,10 @@ module _ (k : Claim) where
       soon = omega (arith, q .1, t .1)
 
       go : (b : Bool)
-          → Ready from (cond b (answers.receiveOf (s .progress) (a .time) (a .draw) f aaaa) (answers.plainOf (s .progress) (a .time) f aaaa) .progress)
+          → Ready from (cond b (held.receiveOf (s .progress) (comingOf a) f aaaa) (answers.plainOf (s .progress) (a .time) f aaaa) .progress)
       go true =
-          let e = receive-last (a .time) (a .draw) f aaaa (s .progress) in (
-            rw e (receive-clear (a .time) (a .draw) f aaaa from (t .0) (omega (arith, soon)) k (s .progress) (small-draw s (p .right)) clear),
+          let e = receive-last (comingOf a) f aaaa (s .progress) in (
+            rw e (receive-clear (comingOf a) f aaaa from (t .0) (omega (arith, soon)) k (s .progress) (small-draw s (p .right)) clear),
             rw e soon,
           )
       go false = let e = plain-last (a .time) f aaaa (s .progress) in (rw (e, plain-claim (a .time) f aaaa k (s .progress)) clear, rw e soon)

@@ -18,9 +18,10 @@ use Rattle.claims.specs.declared.steps.Ticked as walked
 use Rattle.claims.specs.declared.answers.Facts.{Facts}
 use Rattle.claims.specs.declared.answers.Received as heard
 use Rattle.claims.specs.answers.Answers as answers
+use Rattle.claims.specs.answers.Held as held
 use Rattle.facts.specs.Facts.{factsOf}
 use Rattle.writer.specs.own_packets.Own.{laidOver}
-use Rattle.responder.specs.Handed.{Arrival, Tick}
+use Rattle.responder.specs.Handed.{Arrival, comingOf, Tick}
 use Rattle.responder.specs.Refusals.{startRefusal, receiveRefusal, tickRefusal}
 use Rattle.responder.specs.Calls.{refusalOf, lengthOf, unicast, blank, startOf, packetFor, fromMdns, heardOf, plainFor, broughtOut, receivedPacket, receiveOf, Receives}
 use Rattle.responder.specs.Calls.{walkedOf, tickedPacket, tickOf, Ticks}
@@ -71,7 +72,7 @@ module _ (s : State) (a : Arrival) (out : List ℕ) where
 
   -- what the message says is what was read of it
   heard-is : {l : Layout} {m : Message} (f : Facts) (h : heard.Received) → fromMdns a ≡ true → messageAt (a .packet) ≡ read l m → f ≡ factsOf (s .setup) m
-      → h ≡ answers.receiveOf (s .progress) (a .time) (a .draw) f (s .setup .hasaaaa) → heardOf s a (messageAt (a .packet)) ≡ h
+      → h ≡ held.receiveOf (s .progress) (comingOf a) f (s .setup .hasaaaa) → heardOf s a (messageAt (a .packet)) ≡ h
   heard-is f h from was is e = simp (was, from, e, is)
 
   asked-is : {l : Layout} {m : Message} (f : Facts) (h : heard.Received) → fromMdns a ≡ false → messageAt (a .packet) ≡ read l m → f ≡ factsOf (s .setup) m
@@ -84,7 +85,7 @@ module _ (s : State) (a : Arrival) (out : List ℕ) where
       → receiveRefusal s a ≡ 0
       → messageAt (a .packet) ≡ read l m
       → f ≡ factsOf (s .setup) m
-      → h ≡ answers.receiveOf (s .progress) (a .time) (a .draw) f (s .setup .hasaaaa)
+      → h ≡ held.receiveOf (s .progress) (comingOf a) f (s .setup .hasaaaa)
       → Sends (s .setup) (Response (h .answers)) out r o
       → Receives s a out (record { answer = r; state = record { setup = s .setup; progress = h .progress } }) o
   unfolding receiveOf receivedPacket

@@ -21,12 +21,14 @@ use Rattle.claims.specs.declared.steps.Output.{Output}
 use Rattle.claims.specs.declared.steps.Output.the-variants.{Nothing, Probe, Response}
 use Rattle.claims.specs.declared.steps.Ticked as walked
 use Rattle.claims.specs.answers.Answers as answers
+use Rattle.claims.specs.answers.Held as held
+use Rattle.claims.specs.holds.Holds.{noHolds}
 use Rattle.claims.specs.declared.answers.Received as heard
 use Rattle.facts.specs.Facts.{factsOf}
 use Rattle.writer.specs.own_packets.Own.{responsePacket, probePacket, plainPacket, unlessRefused, laidOver}
 use Rattle.writer.specs.declared.own_packets.Written.{Written}
 use Rattle.writer.specs.declared.own_packets.Written.the-variants as written
-use Rattle.responder.specs.Handed.{Arrival, Tick}
+use Rattle.responder.specs.Handed.{Arrival, comingOf, Tick}
 use Rattle.responder.specs.Refusals.{startRefusal, receiveRefusal, tickRefusal}
 use Rattle.responder.specs.declared.State.{State}
 use Rattle.responder.specs.declared.Answer.{Answer}
@@ -85,7 +87,7 @@ answerFor to (written.Refused n) = Refused n
 
 -- ---- a start
 
--- The state of a refused start, which the specification leaves free: every label and string is empty, both claims are lost, nothing was multicast.
+-- The state of a refused start, which the specification leaves free: every label and string is empty, both claims are lost, nothing was multicast, no query is held.
 unfoldable pub blank : State
 blank = record {
   setup = record {
@@ -105,6 +107,7 @@ blank = record {
     host = Lost;
     sent = neverSent;
     reply = Never;
+    holds = noHolds;
     draw = 0;
     last = 0;
   };
@@ -144,7 +147,7 @@ fromMdns a = eqb (a .port) 5353
 -- What a message does to a state: the progress after it, and the records that go out at once. A message that is refused says nothing.
 abbrev pub heardOf : State → Arrival → Reads → heard.Received
 heardOf s a (read l m) =
-    cond (fromMdns a) (answers.receiveOf (s .progress) (a .time) (a .draw) (factsOf (s .setup) m) (s .setup .hasaaaa))
+    cond (fromMdns a) (held.receiveOf (s .progress) (comingOf a) (factsOf (s .setup) m) (s .setup .hasaaaa))
     (answers.plainOf (s .progress) (a .time) (factsOf (s .setup) m) (s .setup .hasaaaa))
 heardOf s a (refused n) = record { progress = s .progress; answers = noRecord }
 

@@ -1,14 +1,22 @@
 -- What a call is handed, the state apart (specification, 'Refusal numbers'). Assumes nothing: these are definitions.
 use Prim.Native.Nat.{ℕ}
 use mathlib.Core.List.{List}
+use Rattle.claims.specs.declared.holds.Address.{Address}
+use Rattle.claims.specs.declared.answers.Coming.{Coming}
 
--- a packet received: the time, the port that it came from, the draw for a PTR reply, its bytes, and the length of the out buffer
+-- a packet received: the time, the address and port that it came from, the draws for a PTR reply and for a hold, its bytes, and the length of the out buffer
 pub record Arrival : Type 0 where
   pub time : ℕ
+  pub from : Address
   pub port : ℕ
   pub draw : ℕ
+  pub hold : ℕ
   pub packet : List ℕ
   pub room : ℕ
+
+-- what the claims' rules are told of it, beside what the message says
+abbrev pub comingOf : Arrival → Coming
+comingOf a = record { now = a .time; from = a .from; draw = a .draw; hold = a .hold }
 
 -- a tick: the time, and the length of the out buffer
 pub record Tick : Type 0 where

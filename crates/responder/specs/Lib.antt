@@ -3,3 +3,4 @@ pub mod Refusals
 pub mod Calls
 pub mod Causes
 pub mod Runs
+pub mod address

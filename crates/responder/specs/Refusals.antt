@@ -10,7 +10,7 @@ use Rattle.wire.specs.message.Refusals.{messageTests, orRefused}
 use Rattle.own.specs.declared.records.Setup.{Setup}
 use Rattle.own.specs.records.Setups.{validSetup}
 pub use Rattle.writer.specs.own_packets.Own.{smallBuffer}
-use Rattle.claims.specs.Refusals.{lateStart, wrongTime, wrongStartDraw, wrongReplyDraw}
+use Rattle.claims.specs.Refusals.{lateStart, wrongTime, wrongStartDraw, wrongDraws}
 use Rattle.responder.specs.Handed.{Arrival, Tick}
 use Rattle.responder.specs.declared.State.{State}
 
@@ -25,7 +25,7 @@ startRefusal setup time draw =
 unfoldable pub receiveRefusal : State → Arrival → ℕ
 receiveRefusal s a =
     firstRefusal
-    ((TIME, wrongTime (s .progress) (a .time)) ∷ ((DRAW, wrongReplyDraw (a .draw)) ∷ ((BUFFER, smallBuffer (a .room)) ∷
+    ((TIME, wrongTime (s .progress) (a .time)) ∷ ((DRAW, wrongDraws (a .draw) (a .hold)) ∷ ((BUFFER, smallBuffer (a .room)) ∷
     (messageTests (a .port) (a .packet) ++ ((SETUP, wrongState s) ∷ [])))))
 
 unfoldable pub tickRefusal : State → Tick → ℕ

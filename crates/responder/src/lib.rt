@@ -1,6 +1,10 @@
 // The responder (specification, 'Refusal numbers', 'A claim's life', 'Which answers go out'): start, packet received and tick, each on a state by value.
 // A call tests its refusals in the specification's order, has the parts below read, judge and write, and answers with the state after it.
+pub mod address;
+
 ghost use mathlib.Core.Path.{_≡_};
+ghost use mathlib.Core.List.{List};
+ghost use Prim.Native.Nat.{ℕ};
 ghost use lib.ListN.{length};
 ghost use Rattle.wire.specs.message.Message.{Message};
 ghost use Rattle.wire.specs.message.Layout.{read, messageAt, readOf};
@@ -12,6 +16,8 @@ ghost use Rattle.responder.specs.Calls.{refusalOf, multicast, unicast, b
 use claims::ClaimState;
 use claims::Progress;
 use claims::When;
+use claims::answers::Coming;
+use claims::holds::Address;
 use claims::records::Set;
 use claims::steps::Output;
 use own::records::Label;
@@ -91,6 +97,7 @@ pub fn blank_state() -> State
             host: ClaimState::Lost,
             sent: claims::never_sent(),
             reply: When::Never,
+            holds: claims::holds::no_holds(),
             draw: 0,
             last: 0,
         },
@@ -219,15 +226,25 @@ fn reply(setup: Setup, set: Set, packet: &[u8], l: Layout, out: &mut [u8]) -> An
 }
 
 // Where the sections of a packet received lie, or the refusal of the call.
-fn admit(state: State, time: u64, port: u16, draw: u64, packet: &[u8], room: usize) -> MessageRead
-    ensures { λ r. ⌜ (let a : Arrival = record { time = time; port = port; draw = draw; packet = now (packet .entry); room = room } in
+fn admit(
+    state: State,
+    time: u64,
+    from: Address,
+    port: u16,
+    draw: u64,
+    hold: u64,
+    packet: &[u8],
+    room: usize,
+) -> MessageRead
+    ensures { λ r. ⌜ (let p : List ℕ = now (packet .entry) in
+        let a : Arrival = record { time = time; from = from; port = port; draw = draw; hold = hold; packet = p; room = room } in
         r ≡ readOf (admitted state a)) ⌝ }
 {
     let progress = state.progress;
     if claims::refusal_tests::time_refused(progress, time) {
         return MessageRead::Refused(wire::refusals::TIME);
     }
-    if claims::refusal_tests::reply_draw_refused(draw) {
+    if claims::refusal_tests::draws_refused(draw, hold) {
         return MessageRead::Refused(wire::refusals::DRAW);
     }
     if room < LEAST_OUT {
@@ -244,21 +261,24 @@ fn admit(state: State, time: u64, port: u16, draw: u64, packet: &[u8], room: usi
     }
 }
 
-// Takes a packet that came from `port`, with the draw for a PTR reply, and writes the answers that go out at once: to all, or to a plain resolver, which
-// asks from another port than 5353.
+// Takes a packet that came from an address and port, with the draws for a PTR reply and for a hold, and writes the answers that go out at once: to all, or to a
+// plain resolver, which asks from another port than 5353.
 pub fn receive(
     state: State,
     time: u64,
+    from: Address,
     port: u16,
     draw: u64,
+    hold: u64,
     packet: &[u8],
     out: &mut [u8],
 ) -> Received
     ensures { λ r. ⌜ (let room = length (now (out .entry)) in
-        let a : Arrival = record { time = time; port = port; draw = draw; packet = now (packet .entry); room = room } in
+        let p : List ℕ = now (packet .entry) in
+        let a : Arrival = record { time = time; from = from; port = port; draw = draw; hold = hold; packet = p; room = room } in
         Receives state a (now (out .entry)) r (now (out .exit))) ⌝ }
 {
-    match admit(state, time, port, draw, packet, out.len()) {
+    match admit(state, time, from, port, draw, hold, packet, out.len()) {
         MessageRead::Read(l) => {
             let setup = state.setup;
             let facts = facts::facts(packet, l, setup);
@@ -274,7 +294,13 @@ pub fn receive(
                     },
                 };
             }
-            let heard = claims::answers::receive(state.progress, time, draw, facts, setup.hasaaaa);
+            let coming = Coming {
+                now: time,
+                from,
+                draw,
+                hold,
+            };
+            let heard = claims::answers::receive(state.progress, coming, facts, setup.hasaaaa);
             let set = heard.answers;
             let after = heard.progress;
             Received {

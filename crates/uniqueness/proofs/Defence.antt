@@ -20,7 +20,9 @@ use Rattle.claims.proofs.Times.{recently-after}
 use Rattle.claims.specs.declared.When.{When}
 use Rattle.claims.specs.declared.When.the-variants.{Never, At}
 use Rattle.wire.specs.Lists.{some as someOf}
-use Rattle.claims.specs.answers.Answers.{heardFor, wantedOf, gapOf}
+use Rattle.claims.specs.answers.Answers.{heardFor, asksOf, wantedOf, gapFor, gapOf, judgedOf}
+use Rattle.claims.specs.declared.answers.Received as received
+use Rattle.claims.proofs.answers.Asking.{query-asks, asks-gap, asks-known, probe-judged, judged-is}
 use Rattle.claims.specs.declared.answers.Heard.{Heard}
 use Rattle.claims.specs.declared.answers.Facts.{Facts}
 use Rattle.claims.proofs.answers.Causes.{IsDue, Cause, left-out-for-a-cause, at-once}
@@ -29,7 +31,7 @@ use Rattle.writer.specs.own_packets.Own.{probeOf}
 use Rattle.responder.specs.declared.State.{State}
 use Rattle.link.specs.Responder.{Claim}
 use Rattle.link.specs.Laws as law
-use Rattle.responder.specs.Handed.{Arrival}
+use Rattle.responder.specs.Handed.{Arrival, comingOf}
 use Rattle.uniqueness.specs.Responder.{ownClaim, rdata, name, responder}
 use Rattle.uniqueness.specs.Rules.{told, claimAt, timeOf, timeIn, rules}
 use Rattle.uniqueness.proofs.Lists.{never}
@@ -85,7 +87,7 @@ module _ (x : State) (ok : validSetup (x .setup) ≡ true) (arrival : Arrival) (
       → rdata (x .setup) k type ≡ some d
       → rules .stage x k ≡ law.held
       → law.Multicasts responder rules (x .setup) x (law.hears arrival m) k type ⊎ ((u : ℕ) × (rules .multicast x k type ≡ some u) × (now < u + 250))
-  defends n e h = go (has r (wantedOf (x .progress) f now (x .setup .hasaaaa))) refl
+  defends n e h = go (has r (wantedOf (x .progress) (asksOf f) now (x .setup .hasaaaa))) refl
     where
       w : Has (x .setup) k type d
       w = has-data (x .setup) k type d e
@@ -102,13 +104,17 @@ module _ (x : State) (ok : validSetup (x .setup) ≡ true) (arrival : Arrival) (
       held-then : heldNow (claimOf (claimFor (w .own)) (x .progress)) ≡ true
       held-then = subst (λ (j : own.Claim). heldNow (claimOf j (x .progress)) ≡ true) (sym claim) (held-stage (claimAt x k) h)
 
-      is-due : IsDue (x .progress) now f (x .setup .hasaaaa) (w .own)
+      is-query : f .response ≡ false
+      is-query = ap (λ (g : Facts). g .response) facts ∙ query-heard (ownClaim k) (x .setup) m .0
+
+      is-due : IsDue (x .progress) now (asksOf f) (x .setup .hasaaaa) (w .own)
       is-due =
           record {
-            query = ap (λ (g : Facts). g .response) facts ∙ query-heard (ownClaim k) (x .setup) m .0;
             held = held-then;
             there = sym (is-present (x .setup) (w .own)) ∙ w .there;
-            asked = ap (λ (g : Facts). has (w .own) (g .asked)) facts ∙ asked-of (w .own) (x .setup) m ∙ asks-all t (x .setup) k type (w .own) o n;
+            asked =
+                query-asks f (w .own) is-query
+                ∙ (ap (λ (g : Facts). has (w .own) (g .asked)) facts ∙ asked-of (w .own) (x .setup) m ∙ asks-all t (x .setup) k type (w .own) o n);
           }
 
       unknown : has (w .own) (f .known) ≡ false
@@ -119,16 +125,24 @@ module _ (x : State) (ok : validSetup (x .setup) ≡ true) (arrival : Arrival) (
           ap (λ (j : own.Claim). heardFor j f .probe) claim ∙ ap (λ (g : Facts). heardFor (ownClaim k) g .probe) facts
           ∙ ap (λ (g : Heard). g .probe) (query-heard (ownClaim k) (x .setup) m .1) ∙ is-probe t (x .setup) k n
 
-      recent : Cause (x .progress) now f (x .setup .hasaaaa) (w .own) → recently (sentOf (w .own) (x .progress .sent)) now 250 ≡ true
-      recent (inl known) = never (sym unknown ∙ known)
-      recent (inr late) = subst (λ (b : Bool). recently (sentOf (w .own) (x .progress .sent)) now (gapOf b) ≡ true) probe late
+      recent : Cause (x .progress) now (asksOf f) (x .setup .hasaaaa) (w .own) → recently (sentOf (w .own) (x .progress .sent)) now 250 ≡ true
+      recent (inl known) = never (sym unknown ∙ sym (asks-known f (w .own)) ∙ known)
+      recent (inr late) =
+          subst (λ (gap : ℕ). recently (sentOf (w .own) (x .progress .sent)) now gap ≡ true) (asks-gap f (claimFor (w .own)) ∙ ap gapOf probe) late
 
-      go : (b : Bool) → has (w .own) (wantedOf (x .progress) f now (x .setup .hasaaaa)) ≡ b
+      -- a probe is judged at once
+      judged : told x arrival m ≡ judgedOf (x .progress) (comingOf arrival) f (x .setup .hasaaaa)
+      judged =
+          judged-is f (x .progress) (comingOf arrival) (x .setup .hasaaaa)
+          (probe-judged f (x .progress .holds) (comingOf arrival) (claimFor (w .own)) probe)
+
+      go : (b : Bool) → has (w .own) (wantedOf (x .progress) (asksOf f) now (x .setup .hasaaaa)) ≡ b
           → law.Multicasts responder rules (x .setup) x (law.hears arrival m) k type ⊎ ((u : ℕ) × (rules .multicast x k type ≡ some u) × (now < u + 250))
       go true g =
           inl
           (multicast x ok (law.hears arrival m) (told x arrival m .answers) refl k type (w .own) (w .is)
-          (at-once (x .progress) now f (x .setup .hasaaaa) (arrival .draw) (w .own) (own-at-once k type (w .own) o) ∙ g) (w .there))
+          (ap (λ (r : received.Received). has (w .own) (r .answers)) judged
+          ∙ (at-once (x .progress) (comingOf arrival) f (x .setup .hasaaaa) (w .own) (own-at-once k type (w .own) o) ∙ g)) (w .there))
       go false g =
-          let l = lately (sentOf (w .own) (x .progress .sent)) now 250 (recent (left-out-for-a-cause (x .progress) now f (x .setup .hasaaaa) (w .own) is-due g)) in
+          let l = lately (sentOf (w .own) (x .progress .sent)) now 250 (recent (left-out-for-a-cause (x .progress) now (asksOf f) (x .setup .hasaaaa) (w .own) is-due g)) in
           inr (l .0, ap (timeIn (x .progress .sent)) (w .is) ∙ l .1, l .2)

@@ -28,7 +28,7 @@ use Rattle.claims.specs.records.Sets.{only}
 use Rattle.claims.specs.declared.records.Own.the-variants.{Ptr}
 use Rattle.claims.specs.declared.ClaimState.{ClaimState}
 use Rattle.claims.specs.declared.ClaimState.the-variants.{Waiting, Probing1, Probing2, Probing3, Deferred, Announced, Held, Lost}
-use Rattle.claims.specs.Refusals.{multicastsKept, kept, wrongTime}
+use Rattle.claims.specs.Refusals.{multicastsKept, holdsKept, kept, wrongTime}
 use Rattle.claims.specs.steps.Steps.{moreDue, actionOf, unsentOf}
 use Rattle.claims.specs.steps.Tick as steps
 use Rattle.facts.specs.tiebreak.Later.{compareNumbers, inTurn, compareRecords, insertBy, sortBy, tie}
@@ -36,6 +36,8 @@ use Rattle.wire.specs.Lists.{some as someOf}
 use Rattle.facts.specs.probe.Probe.{isProbe}
 use Rattle.facts.specs.tiebreak.Lists.{listUnder}
 use Rattle.claims.specs.answers.Answers as answers
+use Rattle.claims.specs.answers.Held as held
+use Rattle.claims.specs.holds.Holds as queries
 use Rattle.facts.specs.Facts.{isAsked, isKnown, conflicted, theirsLater, responseFacts, queryFacts, factsOf}
 use Rattle.writer.specs.Fit.{formFor}
 use Rattle.writer.specs.Items.{putName, dataBytes, dataPlaces, putFields}
@@ -53,7 +55,8 @@ use Rattle.link.specs.Demand3.{Unopposed, holdingTime}
 use Rattle.link.specs.Witness.{every, someBelow, allOf, sameBytes as samePackets, ordered, atOneRate, owed, taken, allDelivered, allOnTime, meets}
 use Rattle.link.proofs.Witness.{met, below}
 use Rattle.uniqueness.specs.Responder.{sends, start, tick, receive, dueTimes, due, responds, conflicts, defeats, responder}
-use Rattle.uniqueness.specs.Example.{setupOf, one, other, alone, contest, rivals, ptrQuery, plainQuery, three}
+use Rattle.uniqueness.specs.Example as example
+use Rattle.uniqueness.specs.Example.{setupOf, one, other, alone, contest, rivals, ptrQuery, truncatedQuery, plainQuery, three}
 
 -- the claim is lost; the instance claim of a state is
 abbrev pub isLost : ClaimState → Bool
@@ -85,7 +88,7 @@ Asked es d s n =
     × (ltb (timeAt responder es d + holdingTime) (timeAt responder es n) ≡ true)
     × (runs responder es d n ≡ true)
 
--- everything that the checker computes of the lists: of the first three, and of the last
+-- everything that the checker computes of the lists: of the first two, of the third, and of the last
 abbrev Seen : Type 0
 Seen =
     (meets responder alone ≡ true)
@@ -97,7 +100,10 @@ Seen =
     × (holds responder contest 9 other instance (length contest) ≡ false)
     × (isAnd lostBy (after responder contest 9 (length contest)) ≡ true)
     × (holds responder contest 9 other host (length contest) ≡ true)
-    × (meets responder rivals ≡ true)
+
+abbrev SeenRivals : Type 0
+SeenRivals =
+    (meets responder rivals ≡ true)
     × Asked rivals 1 other 38
     × Holds rivals 1 other instance 38
     × Holds rivals 1 other host 38
@@ -123,12 +129,15 @@ SeenThree =
     × (runs responder three 30 (length three) ≡ true)
 
 seen : Seen
-unfolding setupOf alone contest rivals three ptrQuery plainQuery plainPacket plainRecords answers.plainOf answers.dueOf sets.withData labelsFill holds writes hears anyOf respondsFor conflictsWith defeatsOf responds conflicts defeats meets ordered atOneRate owed taken allDelivered allOnTime every someBelow allOf samePackets entry clockOf ownerOf setupIn reply returned called after isAccepted parcelsOf heardIn start tick receive dueTimes due blank startOf packetFor receivedPacket receiveOf tickedPacket tickOf wrongState startRefusal receiveRefusal tickRefusal ownRecord responseRecords probeRecords responseOf probeOf responsePacket probePacket putName dataBytes dataPlaces putFields packetOf isAsked isKnown conflicted theirsLater responseFacts queryFacts factsOf answers.heardOf answers.wantedOf answers.receiveOf listUnder someOf isProbe compareNumbers inTurn compareRecords insertBy sortBy tie steps.sends steps.actionTurn steps.claimTurn steps.ptrReply steps.replyTurn steps.stepTurn steps.walked steps.endedOf steps.tickOf moreDue actionOf unsentOf sets.someOf sets.everyOf sets.picked sets.only sets.anyOf sets.atOnce sets.recordsOf multicastsKept kept wrongTime claims.begunAt afterMs markedAll hasRecord ownLabels ownName srvRdata ownRdata labelFits instanceFits utf8.isShown utf8.shownFrom utf8.mayStand utf8.behind utf8.starts utf8.following utf8.within isLetter isNameByte allNameBytes someLetter hyphensApart serviceRule serviceFits protocolFits domainFits txtFits validSetup serviceLabels instanceLabels hostLabels standsAt placeOf cutFrom nameBytes starts namePlaces questionRead recordRead questionAt recordAt listFrom messageAt andThen sameBytes stringsFill nameAt fromRun readFrom pieceAt sameName rdataAt rdataIn formFor formIn
-seen =
-    (refl, (refl, refl, refl, refl, refl), (refl, refl, refl), (refl, refl, refl), refl, refl, refl, refl, refl, refl, (refl, refl, refl, refl, refl), (refl, refl, refl), (refl, refl, refl), refl, refl, refl, refl, refl, refl)
+unfolding setupOf alone contest rivals three ptrQuery plainQuery plainPacket plainRecords answers.plainOf answers.dueTo sets.withData labelsFill holds writes hears anyOf respondsFor conflictsWith defeatsOf responds conflicts defeats meets ordered atOneRate owed taken allDelivered allOnTime every someBelow allOf samePackets entry clockOf ownerOf setupIn reply returned called after isAccepted parcelsOf heardIn start tick receive dueTimes due blank startOf packetFor receivedPacket receiveOf tickedPacket tickOf wrongState startRefusal receiveRefusal tickRefusal ownRecord responseRecords probeRecords responseOf probeOf responsePacket probePacket putName dataBytes dataPlaces putFields packetOf isAsked isKnown conflicted theirsLater responseFacts queryFacts factsOf answers.heardOf answers.asksOf answers.wantedOf answers.joined answers.judgedOf held.toHold held.heldBack held.receiveOf queries.someFrom queries.someFree queries.union queries.knowing queries.knowingAll queries.queued listUnder someOf isProbe compareNumbers inTurn compareRecords insertBy sortBy tie steps.sends steps.actionTurn steps.claimTurn steps.ptrReply steps.replyTurn steps.holdAnswers steps.holdTurn steps.stepTurn steps.walked steps.endedOf steps.tickOf moreDue actionOf unsentOf sets.someOf sets.everyOf sets.picked sets.only sets.anyOf sets.atOnce sets.recordsOf multicastsKept holdsKept kept wrongTime claims.begunAt afterMs markedAll hasRecord ownLabels ownName srvRdata ownRdata labelFits instanceFits utf8.isShown utf8.shownFrom utf8.mayStand utf8.behind utf8.starts utf8.following utf8.within isLetter isNameByte allNameBytes someLetter hyphensApart serviceRule serviceFits protocolFits domainFits txtFits validSetup serviceLabels instanceLabels hostLabels standsAt placeOf cutFrom nameBytes starts namePlaces questionRead recordRead questionAt recordAt listFrom messageAt andThen sameBytes stringsFill nameAt fromRun readFrom pieceAt sameName rdataAt rdataIn formFor formIn
+seen = (refl, (refl, refl, refl, refl, refl), (refl, refl, refl), (refl, refl, refl), refl, refl, refl, refl, refl)
+
+seen-rivals : SeenRivals
+unfolding setupOf alone contest rivals three ptrQuery plainQuery plainPacket plainRecords answers.plainOf answers.dueTo sets.withData labelsFill holds writes hears anyOf respondsFor conflictsWith defeatsOf responds conflicts defeats meets ordered atOneRate owed taken allDelivered allOnTime every someBelow allOf samePackets entry clockOf ownerOf setupIn reply returned called after isAccepted parcelsOf heardIn start tick receive dueTimes due blank startOf packetFor receivedPacket receiveOf tickedPacket tickOf wrongState startRefusal receiveRefusal tickRefusal ownRecord responseRecords probeRecords responseOf probeOf responsePacket probePacket putName dataBytes dataPlaces putFields packetOf isAsked isKnown conflicted theirsLater responseFacts queryFacts factsOf answers.heardOf answers.asksOf answers.wantedOf answers.joined answers.judgedOf held.toHold held.heldBack held.receiveOf queries.someFrom queries.someFree queries.union queries.knowing queries.knowingAll queries.queued listUnder someOf isProbe compareNumbers inTurn compareRecords insertBy sortBy tie steps.sends steps.actionTurn steps.claimTurn steps.ptrReply steps.replyTurn steps.holdAnswers steps.holdTurn steps.stepTurn steps.walked steps.endedOf steps.tickOf moreDue actionOf unsentOf sets.someOf sets.everyOf sets.picked sets.only sets.anyOf sets.atOnce sets.recordsOf multicastsKept holdsKept kept wrongTime claims.begunAt afterMs markedAll hasRecord ownLabels ownName srvRdata ownRdata labelFits instanceFits utf8.isShown utf8.shownFrom utf8.mayStand utf8.behind utf8.starts utf8.following utf8.within isLetter isNameByte allNameBytes someLetter hyphensApart serviceRule serviceFits protocolFits domainFits txtFits validSetup serviceLabels instanceLabels hostLabels standsAt placeOf cutFrom nameBytes starts namePlaces questionRead recordRead questionAt recordAt listFrom messageAt andThen sameBytes stringsFill nameAt fromRun readFrom pieceAt sameName rdataAt rdataIn formFor formIn
+seen-rivals = (refl, (refl, refl, refl, refl, refl), (refl, refl, refl), (refl, refl, refl), refl, refl, refl, refl, refl, refl)
 
 seen-three : SeenThree
-unfolding setupOf alone contest rivals three ptrQuery plainQuery plainPacket plainRecords answers.plainOf answers.dueOf sets.withData labelsFill holds writes hears anyOf respondsFor conflictsWith defeatsOf responds conflicts defeats meets ordered atOneRate owed taken allDelivered allOnTime every someBelow allOf samePackets entry clockOf ownerOf setupIn reply returned called after isAccepted parcelsOf heardIn start tick receive dueTimes due blank startOf packetFor receivedPacket receiveOf tickedPacket tickOf wrongState startRefusal receiveRefusal tickRefusal ownRecord responseRecords probeRecords responseOf probeOf responsePacket probePacket putName dataBytes dataPlaces putFields packetOf isAsked isKnown conflicted theirsLater responseFacts queryFacts factsOf answers.heardOf answers.wantedOf answers.receiveOf listUnder someOf isProbe compareNumbers inTurn compareRecords insertBy sortBy tie steps.sends steps.actionTurn steps.claimTurn steps.ptrReply steps.replyTurn steps.stepTurn steps.walked steps.endedOf steps.tickOf moreDue actionOf unsentOf sets.someOf sets.everyOf sets.picked sets.only sets.anyOf sets.atOnce sets.recordsOf multicastsKept kept wrongTime claims.begunAt afterMs markedAll hasRecord ownLabels ownName srvRdata ownRdata labelFits instanceFits utf8.isShown utf8.shownFrom utf8.mayStand utf8.behind utf8.starts utf8.following utf8.within isLetter isNameByte allNameBytes someLetter hyphensApart serviceRule serviceFits protocolFits domainFits txtFits validSetup serviceLabels instanceLabels hostLabels standsAt placeOf cutFrom nameBytes starts namePlaces questionRead recordRead questionAt recordAt listFrom messageAt andThen sameBytes stringsFill nameAt fromRun readFrom pieceAt sameName rdataAt rdataIn formFor formIn
+unfolding setupOf alone contest rivals three ptrQuery plainQuery plainPacket plainRecords answers.plainOf answers.dueTo sets.withData labelsFill holds writes hears anyOf respondsFor conflictsWith defeatsOf responds conflicts defeats meets ordered atOneRate owed taken allDelivered allOnTime every someBelow allOf samePackets entry clockOf ownerOf setupIn reply returned called after isAccepted parcelsOf heardIn start tick receive dueTimes due blank startOf packetFor receivedPacket receiveOf tickedPacket tickOf wrongState startRefusal receiveRefusal tickRefusal ownRecord responseRecords probeRecords responseOf probeOf responsePacket probePacket putName dataBytes dataPlaces putFields packetOf isAsked isKnown conflicted theirsLater responseFacts queryFacts factsOf answers.heardOf answers.asksOf answers.wantedOf answers.joined answers.judgedOf held.toHold held.heldBack held.receiveOf queries.someFrom queries.someFree queries.union queries.knowing queries.knowingAll queries.queued listUnder someOf isProbe compareNumbers inTurn compareRecords insertBy sortBy tie steps.sends steps.actionTurn steps.claimTurn steps.ptrReply steps.replyTurn steps.holdAnswers steps.holdTurn steps.stepTurn steps.walked steps.endedOf steps.tickOf moreDue actionOf unsentOf sets.someOf sets.everyOf sets.picked sets.only sets.anyOf sets.atOnce sets.recordsOf multicastsKept holdsKept kept wrongTime claims.begunAt afterMs markedAll hasRecord ownLabels ownName srvRdata ownRdata labelFits instanceFits utf8.isShown utf8.shownFrom utf8.mayStand utf8.behind utf8.starts utf8.following utf8.within isLetter isNameByte allNameBytes someLetter hyphensApart serviceRule serviceFits protocolFits domainFits txtFits validSetup serviceLabels instanceLabels hostLabels standsAt placeOf cutFrom nameBytes starts namePlaces questionRead recordRead questionAt recordAt listFrom messageAt andThen sameBytes stringsFill nameAt fromRun readFrom pieceAt sameName rdataAt rdataIn formFor formIn
 seen-three = (refl, refl, refl, refl, refl, refl, refl, refl, refl, refl, refl)
 
 not-true : (b : Bool) → not b ≡ true → b ≡ false
@@ -180,27 +189,27 @@ second-holds-host = seen .8
 -- ---- two at once, refused calls, a power cut and a new start
 
 pub rivals-premises : Premises responder rivals
-rivals-premises = met responder rivals (seen .9)
+rivals-premises = met responder rivals (seen-rivals .0)
 
 -- the 1,200 ms are asked of the second, which is never contradicted, and it holds both names then
 pub winner-unopposed : (k : Claim) → Unopposed responder rivals 1 other k 38
-winner-unopposed instance = unopposed rivals 1 other instance 38 (seen .10) (seen .11)
-winner-unopposed host = unopposed rivals 1 other host 38 (seen .10) (seen .12)
+winner-unopposed instance = unopposed rivals 1 other instance 38 (seen-rivals .1) (seen-rivals .2)
+winner-unopposed host = unopposed rivals 1 other host 38 (seen-rivals .1) (seen-rivals .3)
 
 pub winner-holds : (k : Claim) → holds responder rivals 1 other k 38 ≡ true
-winner-holds instance = seen .11 .2
-winner-holds host = seen .12 .2
+winner-holds instance = seen-rivals .2 .2
+winner-holds host = seen-rivals .3 .2
 
 -- the first holds its host name up to its cut, and has lost the instance name; started anew, it has lost it again
 pub cut-ends : (holds responder rivals 0 one host 29 ≡ true) × (holds responder rivals 0 one host 30 ≡ false)
-cut-ends = (seen .13, seen .14)
+cut-ends = (seen-rivals .4, seen-rivals .5)
 
 pub loser-lost : (isAnd lostBy (after responder rivals 0 29) ≡ true) × (isAnd lostBy (after responder rivals 30 (length rivals)) ≡ true)
-loser-lost = (seen .15, seen .16)
+loser-lost = (seen-rivals .6, seen-rivals .7)
 
 -- the two refused calls
 pub refused-calls : (acceptedAt responder rivals 10 ≡ false) × (acceptedAt responder rivals 35 ≡ false)
-refused-calls = (seen .17, seen .18)
+refused-calls = (seen-rivals .8, seen-rivals .9)
 
 -- ---- three responders, and a stranger
 
@@ -219,18 +228,18 @@ pub hears-itself : (acceptedAt responder three 3 ≡ true) × (acceptedAt respon
 hears-itself = (seen-three .4, seen-three .5, seen-three .6)
 
 -- the question for its service is answered by the tick that comes 20 ms later: both are this packet
-abbrev ptrPacket : List ℕ
+abbrev pub ptrPacket : List ℕ
 ptrPacket =
     0x00 ∷ 0x00 ∷ 0x84 ∷ 0x00 ∷ 0x00 ∷ 0x00 ∷ 0x00 ∷ 0x01 ∷ 0x00 ∷ 0x00 ∷ 0x00 ∷ 0x00
     ∷ 0x02 ∷ 0x5f ∷ 0x78 ∷ 0x04 ∷ 0x5f ∷ 0x75 ∷ 0x64 ∷ 0x70 ∷ 0x05 ∷ 0x6c ∷ 0x6f ∷ 0x63 ∷ 0x61 ∷ 0x6c ∷ 0x00
     ∷ 0x00 ∷ 0x0c ∷ 0x00 ∷ 0x01 ∷ 0x00 ∷ 0x00 ∷ 0x11 ∷ 0x94 ∷ 0x00 ∷ 0x04 ∷ 0x01 ∷ 0x41 ∷ 0xc0 ∷ 0x0c ∷ []
 
 ptr-sent : sentAt responder three 14 ≡ sends multicast ptrPacket
-unfolding setupOf alone contest rivals three ptrQuery plainQuery plainPacket plainRecords answers.plainOf answers.dueOf sets.withData labelsFill holds writes hears anyOf respondsFor conflictsWith defeatsOf responds conflicts defeats meets ordered atOneRate owed taken allDelivered allOnTime every someBelow allOf samePackets entry clockOf ownerOf setupIn reply returned called after isAccepted parcelsOf heardIn start tick receive dueTimes due blank startOf packetFor receivedPacket receiveOf tickedPacket tickOf wrongState startRefusal receiveRefusal tickRefusal ownRecord responseRecords probeRecords responseOf probeOf responsePacket probePacket putName dataBytes dataPlaces putFields packetOf isAsked isKnown conflicted theirsLater responseFacts queryFacts factsOf answers.heardOf answers.wantedOf answers.receiveOf listUnder someOf isProbe compareNumbers inTurn compareRecords insertBy sortBy tie steps.sends steps.actionTurn steps.claimTurn steps.ptrReply steps.replyTurn steps.stepTurn steps.walked steps.endedOf steps.tickOf moreDue actionOf unsentOf sets.someOf sets.everyOf sets.picked sets.only sets.anyOf sets.atOnce sets.recordsOf multicastsKept kept wrongTime claims.begunAt afterMs markedAll hasRecord ownLabels ownName srvRdata ownRdata labelFits instanceFits utf8.isShown utf8.shownFrom utf8.mayStand utf8.behind utf8.starts utf8.following utf8.within isLetter isNameByte allNameBytes someLetter hyphensApart serviceRule serviceFits protocolFits domainFits txtFits validSetup serviceLabels instanceLabels hostLabels standsAt placeOf cutFrom nameBytes starts namePlaces questionRead recordRead questionAt recordAt listFrom messageAt andThen sameBytes stringsFill nameAt fromRun readFrom pieceAt sameName rdataAt rdataIn formFor formIn
+unfolding setupOf alone contest rivals three ptrQuery plainQuery plainPacket plainRecords answers.plainOf answers.dueTo sets.withData labelsFill holds writes hears anyOf respondsFor conflictsWith defeatsOf responds conflicts defeats meets ordered atOneRate owed taken allDelivered allOnTime every someBelow allOf samePackets entry clockOf ownerOf setupIn reply returned called after isAccepted parcelsOf heardIn start tick receive dueTimes due blank startOf packetFor receivedPacket receiveOf tickedPacket tickOf wrongState startRefusal receiveRefusal tickRefusal ownRecord responseRecords probeRecords responseOf probeOf responsePacket probePacket putName dataBytes dataPlaces putFields packetOf isAsked isKnown conflicted theirsLater responseFacts queryFacts factsOf answers.heardOf answers.asksOf answers.wantedOf answers.joined answers.judgedOf held.toHold held.heldBack held.receiveOf queries.someFrom queries.someFree queries.union queries.knowing queries.knowingAll queries.queued listUnder someOf isProbe compareNumbers inTurn compareRecords insertBy sortBy tie steps.sends steps.actionTurn steps.claimTurn steps.ptrReply steps.replyTurn steps.holdAnswers steps.holdTurn steps.stepTurn steps.walked steps.endedOf steps.tickOf moreDue actionOf unsentOf sets.someOf sets.everyOf sets.picked sets.only sets.anyOf sets.atOnce sets.recordsOf multicastsKept holdsKept kept wrongTime claims.begunAt afterMs markedAll hasRecord ownLabels ownName srvRdata ownRdata labelFits instanceFits utf8.isShown utf8.shownFrom utf8.mayStand utf8.behind utf8.starts utf8.following utf8.within isLetter isNameByte allNameBytes someLetter hyphensApart serviceRule serviceFits protocolFits domainFits txtFits validSetup serviceLabels instanceLabels hostLabels standsAt placeOf cutFrom nameBytes starts namePlaces questionRead recordRead questionAt recordAt listFrom messageAt andThen sameBytes stringsFill nameAt fromRun readFrom pieceAt sameName rdataAt rdataIn formFor formIn
 ptr-sent = refl
 
 ptr-written : responsePacket other (only Ptr) ≡ ptrPacket
-unfolding setupOf alone contest rivals three ptrQuery plainQuery plainPacket plainRecords answers.plainOf answers.dueOf sets.withData labelsFill holds writes hears anyOf respondsFor conflictsWith defeatsOf responds conflicts defeats meets ordered atOneRate owed taken allDelivered allOnTime every someBelow allOf samePackets entry clockOf ownerOf setupIn reply returned called after isAccepted parcelsOf heardIn start tick receive dueTimes due blank startOf packetFor receivedPacket receiveOf tickedPacket tickOf wrongState startRefusal receiveRefusal tickRefusal ownRecord responseRecords probeRecords responseOf probeOf responsePacket probePacket putName dataBytes dataPlaces putFields packetOf isAsked isKnown conflicted theirsLater responseFacts queryFacts factsOf answers.heardOf answers.wantedOf answers.receiveOf listUnder someOf isProbe compareNumbers inTurn compareRecords insertBy sortBy tie steps.sends steps.actionTurn steps.claimTurn steps.ptrReply steps.replyTurn steps.stepTurn steps.walked steps.endedOf steps.tickOf moreDue actionOf unsentOf sets.someOf sets.everyOf sets.picked sets.only sets.anyOf sets.atOnce sets.recordsOf multicastsKept kept wrongTime claims.begunAt afterMs markedAll hasRecord ownLabels ownName srvRdata ownRdata labelFits instanceFits utf8.isShown utf8.shownFrom utf8.mayStand utf8.behind utf8.starts utf8.following utf8.within isLetter isNameByte allNameBytes someLetter hyphensApart serviceRule serviceFits protocolFits domainFits txtFits validSetup serviceLabels instanceLabels hostLabels standsAt placeOf cutFrom nameBytes starts namePlaces questionRead recordRead questionAt recordAt listFrom messageAt andThen sameBytes stringsFill nameAt fromRun readFrom pieceAt sameName rdataAt rdataIn formFor formIn
+unfolding setupOf alone contest rivals three ptrQuery plainQuery plainPacket plainRecords answers.plainOf answers.dueTo sets.withData labelsFill holds writes hears anyOf respondsFor conflictsWith defeatsOf responds conflicts defeats meets ordered atOneRate owed taken allDelivered allOnTime every someBelow allOf samePackets entry clockOf ownerOf setupIn reply returned called after isAccepted parcelsOf heardIn start tick receive dueTimes due blank startOf packetFor receivedPacket receiveOf tickedPacket tickOf wrongState startRefusal receiveRefusal tickRefusal ownRecord responseRecords probeRecords responseOf probeOf responsePacket probePacket putName dataBytes dataPlaces putFields packetOf isAsked isKnown conflicted theirsLater responseFacts queryFacts factsOf answers.heardOf answers.asksOf answers.wantedOf answers.joined answers.judgedOf held.toHold held.heldBack held.receiveOf queries.someFrom queries.someFree queries.union queries.knowing queries.knowingAll queries.queued listUnder someOf isProbe compareNumbers inTurn compareRecords insertBy sortBy tie steps.sends steps.actionTurn steps.claimTurn steps.ptrReply steps.replyTurn steps.holdAnswers steps.holdTurn steps.stepTurn steps.walked steps.endedOf steps.tickOf moreDue actionOf unsentOf sets.someOf sets.everyOf sets.picked sets.only sets.anyOf sets.atOnce sets.recordsOf multicastsKept holdsKept kept wrongTime claims.begunAt afterMs markedAll hasRecord ownLabels ownName srvRdata ownRdata labelFits instanceFits utf8.isShown utf8.shownFrom utf8.mayStand utf8.behind utf8.starts utf8.following utf8.within isLetter isNameByte allNameBytes someLetter hyphensApart serviceRule serviceFits protocolFits domainFits txtFits validSetup serviceLabels instanceLabels hostLabels standsAt placeOf cutFrom nameBytes starts namePlaces questionRead recordRead questionAt recordAt listFrom messageAt andThen sameBytes stringsFill nameAt fromRun readFrom pieceAt sameName rdataAt rdataIn formFor formIn
 ptr-written = refl
 
 pub answers-question : sentAt responder three 14 ≡ sends multicast (responsePacket other (only Ptr))
@@ -244,8 +253,26 @@ plainReply =
     ∷ 0xc0 ∷ 0x0c ∷ 0x00 ∷ 0x01 ∷ 0x00 ∷ 0x01 ∷ 0x00 ∷ 0x00 ∷ 0x00 ∷ 0x0a ∷ 0x00 ∷ 0x04 ∷ 0x0a ∷ 0x00 ∷ 0x00 ∷ 0x07 ∷ []
 
 pub serves-resolver : sentAt responder contest 25 ≡ sends unicast plainReply
-unfolding setupOf alone contest rivals three ptrQuery plainQuery plainPacket plainRecords answers.plainOf answers.dueOf sets.withData labelsFill holds writes hears anyOf respondsFor conflictsWith defeatsOf responds conflicts defeats meets ordered atOneRate owed taken allDelivered allOnTime every someBelow allOf samePackets entry clockOf ownerOf setupIn reply returned called after isAccepted parcelsOf heardIn start tick receive dueTimes due blank startOf packetFor receivedPacket receiveOf tickedPacket tickOf wrongState startRefusal receiveRefusal tickRefusal ownRecord responseRecords probeRecords responseOf probeOf responsePacket probePacket putName dataBytes dataPlaces putFields packetOf isAsked isKnown conflicted theirsLater responseFacts queryFacts factsOf answers.heardOf answers.wantedOf answers.receiveOf listUnder someOf isProbe compareNumbers inTurn compareRecords insertBy sortBy tie steps.sends steps.actionTurn steps.claimTurn steps.ptrReply steps.replyTurn steps.stepTurn steps.walked steps.endedOf steps.tickOf moreDue actionOf unsentOf sets.someOf sets.everyOf sets.picked sets.only sets.anyOf sets.atOnce sets.recordsOf multicastsKept kept wrongTime claims.begunAt afterMs markedAll hasRecord ownLabels ownName srvRdata ownRdata labelFits instanceFits utf8.isShown utf8.shownFrom utf8.mayStand utf8.behind utf8.starts utf8.following utf8.within isLetter isNameByte allNameBytes someLetter hyphensApart serviceRule serviceFits protocolFits domainFits txtFits validSetup serviceLabels instanceLabels hostLabels standsAt placeOf cutFrom nameBytes starts namePlaces questionRead recordRead questionAt recordAt listFrom messageAt andThen sameBytes stringsFill nameAt fromRun readFrom pieceAt sameName rdataAt rdataIn formFor formIn
+unfolding setupOf alone contest rivals three ptrQuery plainQuery plainPacket plainRecords answers.plainOf answers.dueTo sets.withData labelsFill holds writes hears anyOf respondsFor conflictsWith defeatsOf responds conflicts defeats meets ordered atOneRate owed taken allDelivered allOnTime every someBelow allOf samePackets entry clockOf ownerOf setupIn reply returned called after isAccepted parcelsOf heardIn start tick receive dueTimes due blank startOf packetFor receivedPacket receiveOf tickedPacket tickOf wrongState startRefusal receiveRefusal tickRefusal ownRecord responseRecords probeRecords responseOf probeOf responsePacket probePacket putName dataBytes dataPlaces putFields packetOf isAsked isKnown conflicted theirsLater responseFacts queryFacts factsOf answers.heardOf answers.asksOf answers.wantedOf answers.joined answers.judgedOf held.toHold held.heldBack held.receiveOf queries.someFrom queries.someFree queries.union queries.knowing queries.knowingAll queries.queued listUnder someOf isProbe compareNumbers inTurn compareRecords insertBy sortBy tie steps.sends steps.actionTurn steps.claimTurn steps.ptrReply steps.replyTurn steps.holdAnswers steps.holdTurn steps.stepTurn steps.walked steps.endedOf steps.tickOf moreDue actionOf unsentOf sets.someOf sets.everyOf sets.picked sets.only sets.anyOf sets.atOnce sets.recordsOf multicastsKept holdsKept kept wrongTime claims.begunAt afterMs markedAll hasRecord ownLabels ownName srvRdata ownRdata labelFits instanceFits utf8.isShown utf8.shownFrom utf8.mayStand utf8.behind utf8.starts utf8.following utf8.within isLetter isNameByte allNameBytes someLetter hyphensApart serviceRule serviceFits protocolFits domainFits txtFits validSetup serviceLabels instanceLabels hostLabels standsAt placeOf cutFrom nameBytes starts namePlaces questionRead recordRead questionAt recordAt listFrom messageAt andThen sameBytes stringsFill nameAt fromRun readFrom pieceAt sameName rdataAt rdataIn formFor formIn
 serves-resolver = refl
+
+-- a truncated query is held, and answered when it is due; the premises are met, the step of a held query among them
+abbrev SeenHeld : Type 0
+SeenHeld =
+    (meets responder example.held ≡ true)
+    × (sentAt responder example.held 11 ≡ [])
+    × (sentAt responder example.held 12 ≡ sends multicast ptrPacket)
+    × (acceptedAt responder example.held 11 ≡ true)
+
+seen-held : SeenHeld
+unfolding setupOf alone contest rivals three ptrQuery truncatedQuery example.held plainQuery plainPacket plainRecords answers.plainOf answers.dueTo sets.withData labelsFill holds writes hears anyOf respondsFor conflictsWith defeatsOf responds conflicts defeats meets ordered atOneRate owed taken allDelivered allOnTime every someBelow allOf samePackets entry clockOf ownerOf setupIn reply returned called after isAccepted parcelsOf heardIn start tick receive dueTimes due blank startOf packetFor receivedPacket receiveOf tickedPacket tickOf wrongState startRefusal receiveRefusal tickRefusal ownRecord responseRecords probeRecords responseOf probeOf responsePacket probePacket putName dataBytes dataPlaces putFields packetOf isAsked isKnown conflicted theirsLater responseFacts queryFacts factsOf answers.heardOf answers.asksOf answers.wantedOf answers.joined answers.judgedOf held.toHold held.heldBack held.receiveOf queries.someFrom queries.someFree queries.union queries.knowing queries.knowingAll queries.queued listUnder someOf isProbe compareNumbers inTurn compareRecords insertBy sortBy tie steps.sends steps.actionTurn steps.claimTurn steps.ptrReply steps.replyTurn steps.holdAnswers steps.holdTurn steps.stepTurn steps.walked steps.endedOf steps.tickOf moreDue actionOf unsentOf sets.someOf sets.everyOf sets.picked sets.only sets.anyOf sets.atOnce sets.recordsOf multicastsKept holdsKept kept wrongTime claims.begunAt afterMs markedAll hasRecord ownLabels ownName srvRdata ownRdata labelFits instanceFits utf8.isShown utf8.shownFrom utf8.mayStand utf8.behind utf8.starts utf8.following utf8.within isLetter isNameByte allNameBytes someLetter hyphensApart serviceRule serviceFits protocolFits domainFits txtFits validSetup serviceLabels instanceLabels hostLabels standsAt placeOf cutFrom nameBytes starts namePlaces questionRead recordRead questionAt recordAt listFrom messageAt andThen sameBytes stringsFill nameAt fromRun readFrom pieceAt sameName rdataAt rdataIn formFor formIn
+seen-held = (refl, refl, refl, refl)
+
+pub held-premises : Premises responder example.held
+held-premises = met responder example.held (seen-held .0)
+
+pub answers-held : (sentAt responder example.held 11 ≡ []) × (sentAt responder example.held 12 ≡ sends multicast ptrPacket)
+answers-held = (seen-held .1, seen-held .2)
 
 -- the second, which wanted the name meanwhile, has lost it
 pub second-loses : isAnd lostBy (after responder three 16 (length three)) ≡ true

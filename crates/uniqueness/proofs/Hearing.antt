@@ -20,7 +20,7 @@ use Rattle.facts.specs.Facts.{inConflict, theirsLater, responseTo, queryTo, res
 use Rattle.responder.specs.declared.State.{State}
 use Rattle.link.specs.Responder.{Claim}
 use Rattle.link.specs.Laws.{Unclaimed, probing}
-use Rattle.responder.specs.Handed.{Arrival}
+use Rattle.responder.specs.Handed.{Arrival, comingOf}
 use Rattle.uniqueness.specs.Responder.{ownClaim, name, conflicts, defeats}
 use Rattle.uniqueness.specs.Rules.{with, told, stageOf, claimAt}
 use Rattle.uniqueness.proofs.Lists.{clash, never, and-left, and-right}
@@ -61,7 +61,7 @@ module _ (x : State) (a : Arrival) (m : Message) (k : Claim) where
   later = afterMs (a .time) 1000
 
   heard-is : after ≡ heardOf (claimAt x k) (f .response) (heardFor (ownClaim k) f) again later
-  heard-is = receive-claim (a .time) (a .draw) f (x .setup .hasaaaa) (ownClaim k) (x .progress)
+  heard-is = receive-claim (comingOf a) f (x .setup .hasaaaa) (ownClaim k) (x .progress)
 
   by-response : isResponse (m .flags) ≡ true → after ≡ cond (inConflict (x .setup) (ownClaim k) m) (afterConflict (claimAt x k) again) (claimAt x k)
   unfolding heardOf

@@ -21,7 +21,7 @@ use Rattle.claims.specs.declared.steps.Output.{Output}
 use Rattle.claims.specs.declared.steps.Output.the-variants.{Probe, Response}
 use Rattle.claims.proofs.answers.Receives.{plain-claim}
 use Rattle.facts.specs.Facts.{factsOf}
-use Rattle.claims.proofs.steps.Moves.{Move, stays, probes, announces, repeats, tick-move}
+use Rattle.claims.proofs.steps.Moves.{Move, stays, probes, announces, repeats, answers, tick-move}
 use Rattle.writer.specs.own_packets.Own.{responseOf, probeOf}
 use Rattle.responder.specs.Calls.{walkedOf}
 use Rattle.responder.specs.declared.State.{State}
@@ -114,6 +114,7 @@ module _ (x : State) (ok : validSetup (x .setup) ≡ true) (k : Claim) where
 
     ticked : Move (ownClaim k) aaaa′ now (claimAt x k) after output → Moved (law.ticks tick)
     ticked (stays e n) = law.stays (ap stageOf e)
+    ticked (answers set e h o) = law.stays (ap stageOf e)
     ticked (probes d t o) = probed (claimAt x k) refl d t o
     ticked (announces d t o) = announced (claimAt x k) refl d t o
     ticked (repeats d t o) = let h = repeat-held (claimAt x k) after now t in law.stays (h .1 ∙ sym (h .0))

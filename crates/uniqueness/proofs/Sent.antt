@@ -23,13 +23,15 @@ use Rattle.claims.specs.steps.Tick.{concerns}
 use Rattle.claims.specs.declared.steps.Output.{Output}
 use Rattle.claims.specs.declared.steps.Output.the-variants.{Nothing, Probe, Response}
 use Rattle.claims.proofs.steps.Ticks.{sentBy, tick-sent}
-use Rattle.claims.proofs.steps.Moves.{Move, stays, probes, announces, repeats, tick-move}
-use Rattle.claims.specs.answers.Answers.{receiveOf, isDue, dueOf, plainOf}
+use Rattle.claims.proofs.steps.Moves.{Move, stays, probes, announces, repeats, answers, tick-move}
+use Rattle.claims.specs.answers.Answers.{asksOf, isDue, dueTo, plainOf}
+use Rattle.claims.specs.declared.answers.Asks.{Asks}
 use Rattle.claims.specs.declared.answers.Facts.{Facts}
 use Rattle.claims.specs.records.Own.{carriesData, claimFor, present}
 use Rattle.claims.proofs.records.Sets.{has-each}
-use Rattle.claims.proofs.answers.Causes.{IsDue, only-due, at-once}
-use Rattle.claims.proofs.answers.Receives.{plain-claim}
+use Rattle.claims.proofs.answers.Causes.{IsDue, only-due}
+use Rattle.claims.proofs.answers.Receives.{receive-sent, answered-wanted, plain-claim}
+use Rattle.claims.proofs.answers.Asking.{asks-query}
 use Rattle.facts.specs.Facts.{factsOf}
 use Rattle.writer.specs.own_packets.Own.{responseRecords, responseOf, probeOf, plainRecords, plainReplyOf}
 use Rattle.responder.specs.Calls.{walkedOf}
@@ -37,11 +39,11 @@ use Rattle.responder.specs.declared.State.{State}
 use Rattle.link.specs.Responder.{Claim}
 use Rattle.link.specs.Premises.{Among}
 use Rattle.link.specs.Laws as law
-use Rattle.responder.specs.Handed.{Arrival, Tick}
+use Rattle.responder.specs.Handed.{Arrival, comingOf, Tick}
 use Rattle.uniqueness.specs.Responder.{ownClaim, claimRecord, rdata, name, responds, responder}
 use Rattle.uniqueness.specs.Rules.{messagesFor, repliesFor, toAsker, told, served, progressOf, outputOf, stageOf, claimAt, timeOf as sentTime, timeIn, rules}
 use Rattle.uniqueness.proofs.Lists.{clash, never, and-left, and-right, in-map, out-map}
-use Rattle.uniqueness.proofs.Owned.{Has, has-data, own-claim, own-at-once}
+use Rattle.uniqueness.proofs.Owned.{Has, has-data, own-claim}
 use Rattle.uniqueness.proofs.Messages.{only-one, goes-out, carries, name-said, plain-said}
 use Rattle.uniqueness.proofs.Hearing.{Hears, same, yields, defers, heard}
 use Rattle.uniqueness.proofs.Facts.{stage-held, announce-held, repeat-held, marks, OneOf, one-of, facts-response, is-response, query-flag, unless-out}
@@ -53,11 +55,11 @@ module _ (x : State) (ok : validSetup (x .setup) ≡ true) where
   abbrev timeOf : law.Step responder → ℕ
   timeOf c = law.timeOf responder c
 
-  sent-is : (c : law.Step responder) → progressOf x c .sent ≡ sentBy (outputOf x c) (x .progress .sent) (timeOf c)
-  unfolding receiveOf plainOf
-  sent-is (law.ticks t) = tick-sent (t .time) aaaa′ (x .progress)
-  sent-is (law.hears arrival m) = refl
-  sent-is (law.serves arrival m) = refl
+  sent-is : (c : law.Step responder) (r : Own) → sentOf r (progressOf x c .sent) ≡ sentOf r (sentBy (outputOf x c) (x .progress .sent) (timeOf c))
+  unfolding plainOf
+  sent-is (law.ticks t) r = ap (sentOf r) (tick-sent (t .time) aaaa′ (x .progress))
+  sent-is (law.hears arrival m) r = receive-sent (comingOf arrival) (factsOf (x .setup) m) aaaa′ (x .progress) r
+  sent-is (law.serves arrival m) r = refl
 
   pub in-out :
       (c : law.Step responder) (o : Output) (m : Message) → outputOf x c ≡ o → Among m (messagesFor (x .setup) o)
@@ -97,10 +99,10 @@ module _ (x : State) (ok : validSetup (x .setup) ≡ true) where
   kept-as c k type r i e = inl (noted-as c k type r i (sentOf r (x .progress .sent)) e ∙ sym (ap (timeIn (x .progress .sent)) i))
 
   noted-by : (c : law.Step responder) (k : Claim) (type : ℕ) (r : Own) → claimRecord k type ≡ some r → hasRecord (x .setup) r ≡ true
-      → (o : Output) → outputOf x c ≡ o → progressOf x c .sent ≡ sentBy o (x .progress .sent) (timeOf c) → Noted c k type
-  noted-by c k type r i t Nothing e s = kept-as c k type r i (ap (sentOf r) s)
-  noted-by c k type r i t (Probe j) e s = kept-as c k type r i (ap (sentOf r) s)
-  noted-by c k type r i t (Response set) e s = go (has r set) refl (ap (sentOf r) s ∙ marks r set (x .progress .sent) (timeOf c))
+      → (o : Output) → outputOf x c ≡ o → sentOf r (progressOf x c .sent) ≡ sentOf r (sentBy o (x .progress .sent) (timeOf c)) → Noted c k type
+  noted-by c k type r i t Nothing e s = kept-as c k type r i s
+  noted-by c k type r i t (Probe j) e s = kept-as c k type r i s
+  noted-by c k type r i t (Response set) e s = go (has r set) refl (s ∙ marks r set (x .progress .sent) (timeOf c))
     where
       go : (b : Bool) → has r set ≡ b → sentOf r (progressOf x c .sent) ≡ marked (has r set) (sentOf r (x .progress .sent)) (timeOf c) → Noted c k type
       go true h g = inr (noted-as c k type r i _ (g ∙ ap (λ (b : Bool). marked b (sentOf r (x .progress .sent)) (timeOf c)) h), multicast c set e k type r i h t)
@@ -109,7 +111,7 @@ module _ (x : State) (ok : validSetup (x .setup) ≡ true) where
   pub noted : (c : law.Step responder) (k : Claim) (type : ℕ) (d : List ℕ) → rdata (x .setup) k type ≡ some d → Noted c k type
   noted c k type d e =
       let h : Has (x .setup) k type d = has-data (x .setup) k type d e in
-      noted-by c k type (h .own) (h .is) (h .there) (outputOf x c) refl (sent-is c)
+      noted-by c k type (h .own) (h .is) (h .there) (outputOf x c) refl (sent-is c (h .own))
 
   -- ---- what is said
 
@@ -127,6 +129,7 @@ module _ (x : State) (ok : validSetup (x .setup) ≡ true) where
       go (probes d w f) = let z : Response set ≡ Probe (ownClaim k) = sym e ∙ f in clash (cc)
       go (announces d w f) = announce-held (claimAt x k) after (t .time) w
       go (repeats d w f) = repeat-held (claimAt x k) after (t .time) w .1
+      go (answers other f h g) = ap stageOf f ∙ stage-held (claimAt x k) h
 
   hear-said : (arrival : Arrival) (m : Message) (k : Claim) → under (ownClaim k) (told x arrival m .answers) ≡ true → HeldThen (law.hears arrival m) k
   hear-said arrival m k u = go (heard x arrival m k)
@@ -137,16 +140,15 @@ module _ (x : State) (ok : validSetup (x .setup) ≡ true) where
       one : OneOf k (told x arrival m .answers)
       one = one-of k (told x arrival m .answers) u
 
-      is-due : IsDue (x .progress) (arrival .time) f aaaa′ (one .own)
+      is-due : IsDue (x .progress) (arrival .time) (asksOf f) aaaa′ (one .own)
       is-due =
-          only-due (x .progress) (arrival .time) f aaaa′ (one .own)
-          (sym (at-once (x .progress) (arrival .time) f aaaa′ (arrival .draw) (one .own) (own-at-once k (one .type) (one .own) (one .is))) ∙ one .there)
+          only-due (x .progress) (arrival .time) (asksOf f) aaaa′ (one .own) (answered-wanted (comingOf arrival) f aaaa′ (x .progress) (one .own) (one .there))
 
       was-held : heldNow (claimAt x k) ≡ true
       was-held = subst (λ (j : own.Claim). heldNow (claimOf j (x .progress)) ≡ true) (own-claim k (one .type) (one .own) (one .is)) (is-due .held)
 
       is-query : isResponse (m .flags) ≡ false
-      is-query = sym (facts-response (x .setup) m) ∙ is-due .query
+      is-query = sym (facts-response (x .setup) m) ∙ asks-query f (one .own) (is-due .asked)
 
       go : Hears x arrival m k → HeldThen (law.hears arrival m) k
       go (same e g) = e ∙ stage-held (claimAt x k) was-held
@@ -180,22 +182,20 @@ module _ (x : State) (ok : validSetup (x .setup) ≡ true) where
       (unless-out (responseRecords (x .setup) set) (responseOf (x .setup) set) m h) s))
 
   -- a plain reply is sent of held claims alone
-  due-held : (progress : Progress) (f : Facts) (o : Own) → isDue progress f aaaa′ o ≡ true → heldNow (claimOf (claimFor o) progress) ≡ true
-  due-held progress f o h =
-      and-left (heldNow (claimOf (claimFor o) progress)) (present o aaaa′ && has o (f .asked))
-      (and-right (not (f .response)) (heldNow (claimOf (claimFor o) progress) && (present o aaaa′ && has o (f .asked))) h)
+  due-held : (progress : Progress) (q : Asks) (o : Own) → isDue progress q aaaa′ o ≡ true → heldNow (claimOf (claimFor o) progress) ≡ true
+  due-held progress q o h = and-left (heldNow (claimOf (claimFor o) progress)) (present o aaaa′ && has o (q .asked)) h
 
   serve-held : (arrival : Arrival) (m : Message) (k : Claim) → under (ownClaim k) (withData (served x arrival m .answers)) ≡ true → HeldThen (law.serves arrival m) k
-  unfolding withData plainOf dueOf
+  unfolding withData plainOf dueTo
   serve-held arrival m k u =
       let f : Facts = factsOf (x .setup) m in
       let one : OneOf k (withData (served x arrival m .answers)) = one-of k (withData (served x arrival m .answers)) u in
       let o : Own = one .own in
       let there : (carriesData o && has o (served x arrival m .answers)) ≡ true = sym (has-each (λ p. carriesData p && has p (served x arrival m .answers)) o) ∙ one .there in
-      let due : isDue (x .progress) f aaaa′ o ≡ true =
-      sym (has-each (isDue (x .progress) f aaaa′) o) ∙ and-right (carriesData o) (has o (served x arrival m .answers)) there in
+      let due : isDue (x .progress) (asksOf f) aaaa′ o ≡ true =
+      sym (has-each (isDue (x .progress) (asksOf f) aaaa′) o) ∙ and-right (carriesData o) (has o (served x arrival m .answers)) there in
       let was-held : heldNow (claimAt x k) ≡ true =
-      subst (λ (j : own.Claim). heldNow (claimOf j (x .progress)) ≡ true) (own-claim k (one .type) o (one .is)) (due-held (x .progress) f o due) in
+      subst (λ (j : own.Claim). heldNow (claimOf j (x .progress)) ≡ true) (own-claim k (one .type) o (one .is)) (due-held (x .progress) (asksOf f) o due) in
       ap stageOf (plain-claim (arrival .time) f aaaa′ (ownClaim k) (x .progress)) ∙ stage-held (claimAt x k) was-held
 
   serve-said : (arrival : Arrival) (b : Message) (k : Claim) (qs : List Question) (m : Message)

@@ -1,10 +1,10 @@
 -- The premise about due steps can be met: a sound state (any that an accepted call returns) is ticked at any time from its last one to 2^62, and after
--- three ticks in one millisecond nothing is due then. Assumes nothing.
+-- as many ticks in one millisecond as a tick walks steps, seven, nothing is due then. Assumes nothing.
 use mathlib.Core.Path.{_≡_, refl, ap, subst, _∙_}
 use mathlib.Core.Logic.{_⊎_, inl, inr}
 use mathlib.Core.Bool.{false}
 use mathlib.Core.List.{List, [], _∷_}
-use Prim.Native.Nat.{ℕ, _≤_, _<_}
+use Prim.Native.Nat.{ℕ, zero, suc, _≤_, _<_}
 use native.Mathlib.Omega.{arith}
 use borrow.Author.Tests.{le-ltb, leb-false}
 use mathlib.Mathlib.Data.Bool.Basic.{or-eq-false-eq-eq-false-and-eq-false as neither}
@@ -17,7 +17,7 @@ use Rattle.claims.specs.Refusals.{wrongTime}
 use Rattle.claims.specs.steps.Steps.{steps, stepDue, moreDue}
 use Rattle.claims.specs.declared.steps.Step.{Step}
 use Rattle.claims.proofs.steps.Ticks.{tick-last}
-use Rattle.claims.proofs.steps.Settles.{three-ticks}
+use Rattle.claims.proofs.steps.Settles.{ticks, all-ticks}
 use Rattle.responder.specs.Refusals.{tickRefusal}
 use Rattle.responder.specs.Calls.{multicast, answerOf, walkedOf, tickedPacket, tickOf}
 use Rattle.responder.specs.Runs.{ticked}
@@ -35,6 +35,11 @@ use Rattle.uniqueness.proofs.Calls.{ticked-state}
 -- a tick that is accepted, from x to y
 abbrev pub Ticks : State → Tick → State → Type 0
 Ticks x t y = (ps : List Parcel) × (tick x t ≡ link.accepted y ps)
+
+-- so many ticks that are accepted, one after the other
+pub data InTicks (t : Tick) (x : State) : ℕ → State → Type 0 where
+  nothing : InTicks t x 0 x
+  onward : {n : ℕ} {y z : State} → InTicks t x n y → Ticks y t z → InTicks t x (suc n) z
 
 module _ (t : Tick) (time : t .time ≤ lastTime) (long : 1452 ≤ t .room) where
   abbrev now : ℕ
@@ -90,20 +95,28 @@ module _ (t : Tick) (time : t .time ≤ lastTime) (long : 1452 ≤ t .room) wher
   unfolding due moreDue
   later x m u h = none-due steps (x .progress) m u h
 
-  -- Three ticks are accepted, and after them every due time is later.
-  pub settles :
-      (x : State)
-      → Sound x
-      → x .progress .last ≤ now
-      → (y : State) × (z : State) × (w : State) × Ticks x t y × Ticks y t z × Ticks z t w × ((u : ℕ) → Among u (due w) → now < u)
-  settles x s l =
-      let s₁ = sound-next x s l in
-      let s₂ = sound-next (next x) s₁ (last-next x) in (
-        next x,
-        next (next x),
-        next (next (next x)),
-        accepts x s l,
-        accepts (next x) s₁ (last-next x),
-        accepts (next (next x)) s₂ (last-next (next x)),
-        later (next (next (next x))) (three-ticks (x .setup .hasaaaa) now time (x .progress)),
-      )
+  -- after so many ticks
+  abbrev nexts : ℕ → State → State
+  nexts zero x = x
+  nexts (suc n) x = next (nexts n x)
+
+  nexts-is : (n : ℕ) (x : State) → nexts n x ≡ with x (ticks (x .setup .hasaaaa) now time n (x .progress))
+  nexts-is zero x = refl
+  nexts-is (suc n) x = ap next (nexts-is n x)
+
+  all-sound : (n : ℕ) (x : State) → Sound x → x .progress .last ≤ now → Sound (nexts n x) × (nexts n x .progress .last ≤ now)
+  all-sound zero x s l = (s, l)
+  all-sound (suc n) x s l = let r = all-sound n x s l in (sound-next (nexts n x) (r .0) (r .1), last-next (nexts n x))
+
+  all-accepted : (n : ℕ) (x : State) → Sound x → x .progress .last ≤ now → InTicks t x n (nexts n x)
+  all-accepted zero x s l = nothing
+  all-accepted (suc n) x s l = let r = all-sound n x s l in onward (all-accepted n x s l) (accepts (nexts n x) (r .0) (r .1))
+
+  -- Seven ticks are accepted, and after them every due time is later.
+  pub settles : (x : State) → Sound x → x .progress .last ≤ now → (y : State) × InTicks t x 7 y × ((u : ℕ) → Among u (due y) → now < u)
+  settles x s l = (
+    nexts 7 x,
+    all-accepted 7 x s l,
+    later (nexts 7 x)
+        (ap (λ (y : State). moreDue (y .progress) now) (nexts-is 7 x) ∙ all-ticks (x .setup .hasaaaa) now time (x .progress)),
+  )

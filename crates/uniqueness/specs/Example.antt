@@ -1,6 +1,6 @@
--- Four lists on which the theorem says something: a responder alone, as late as the premises allow; two that want one instance name with different SRV
+-- Five lists on which the theorem says something: a responder alone, as late as the premises allow; two that want one instance name with different SRV
 -- data, one after the other; two at once, with refused calls, a power cut and a new start; and three, of which one answers a question for its service,
--- gives its name up to a stranger and takes it again. Assumes nothing: these are definitions.
+-- gives its name up to a stranger and takes it again; and one that holds a truncated query. Assumes nothing: these are definitions.
 use mathlib.Core.Bool.{false}
 use mathlib.Core.List.{List, [], _∷_}
 use lib.ListN.{replicate}
@@ -10,6 +10,7 @@ use Rattle.claims.specs.records.Sets.{only, atOnce, recordsOf}
 use Rattle.claims.specs.declared.records.Claim.the-variants.{Instance, Host}
 use Rattle.claims.specs.declared.records.Own.the-variants.{Ptr}
 use Rattle.claims.specs.declared.records.Set.{Set}
+use Rattle.claims.specs.declared.holds.Address.{Address}
 use Rattle.writer.specs.own_packets.Own.{responsePacket, probePacket}
 use Rattle.link.specs.Entries.{Call, starts, ticks, receives, cut, Entry}
 use Rattle.uniqueness.specs.Responder.{responder}
@@ -55,12 +56,16 @@ at t c = record { time = t; call = c }
 abbrev pub tickAt : ℕ → ℕ → ℕ → Entry responder
 tickAt d ahead t = at t (ticks d (record { time = t + ahead; room = 1452 }))
 
+-- an address of the link, fe80::1
+abbrev pub somewhere : Address
+somewhere = record { high = 0xfe80000000000000; low = 1 }
+
 abbrev pub hearAt : ℕ → ℕ → ℕ → List ℕ → Entry responder
-hearAt d ahead t p = at t (receives d (record { time = t + ahead; port = 5353; draw = 20; packet = p; room = 1452 }))
+hearAt d ahead t p = at t (receives d (record { time = t + ahead; from = somewhere; port = 5353; draw = 20; hold = 400; packet = p; room = 1452 }))
 
 -- a query that comes from a plain resolver, and one for the address of "h"
 abbrev pub askAt : ℕ → ℕ → ℕ → List ℕ → Entry responder
-askAt d ahead t p = at t (receives d (record { time = t + ahead; port = 1024; draw = 20; packet = p; room = 1452 }))
+askAt d ahead t p = at t (receives d (record { time = t + ahead; from = somewhere; port = 1024; draw = 20; hold = 400; packet = p; room = 1452 }))
 
 unfoldable pub plainQuery : List ℕ
 plainQuery =
@@ -168,12 +173,37 @@ ptrQuery =
     0 ∷ 0 ∷ 0 ∷ 0 ∷ 0 ∷ 1 ∷ 0 ∷ 0 ∷ 0 ∷ 0 ∷ 0 ∷ 0
     ∷ 2 ∷ 0x5f ∷ 0x78 ∷ 4 ∷ 0x5f ∷ 0x75 ∷ 0x64 ∷ 0x70 ∷ 5 ∷ 0x6c ∷ 0x6f ∷ 0x63 ∷ 0x61 ∷ 0x6c ∷ 0 ∷ 0 ∷ 12 ∷ 0 ∷ 1 ∷ []
 
+-- the same with the TC bit: more known answers follow
+unfoldable pub truncatedQuery : List ℕ
+truncatedQuery =
+    0 ∷ 0 ∷ 2 ∷ 0 ∷ 0 ∷ 1 ∷ 0 ∷ 0 ∷ 0 ∷ 0 ∷ 0 ∷ 0
+    ∷ 2 ∷ 0x5f ∷ 0x78 ∷ 4 ∷ 0x5f ∷ 0x75 ∷ 0x64 ∷ 0x70 ∷ 5 ∷ 0x6c ∷ 0x6f ∷ 0x63 ∷ 0x61 ∷ 0x6c ∷ 0 ∷ 0 ∷ 12 ∷ 0 ∷ 1 ∷ []
+
+-- A responder that holds its names holds a truncated query for its service, and answers it 400 ms later.
+unfoldable pub held : List (Entry responder)
+held =
+    at 0 (starts one 0 0)
+    ∷ tickAt 0 0 0
+    ∷ tickAt 0 0 0
+    ∷ tickAt 0 0 250
+    ∷ tickAt 0 0 250
+    ∷ tickAt 0 0 500
+    ∷ tickAt 0 0 500
+    ∷ tickAt 0 0 750
+    ∷ tickAt 0 0 750
+    ∷ tickAt 0 0 1750
+    ∷ tickAt 0 0 1750
+    ∷ hearAt 0 0 2400 truncatedQuery
+    ∷ tickAt 0 0 2800
+    ∷ tickAt 0 0 2801
+    ∷ []
+
 -- the clock of a responder that is so far behind the link's time
 abbrev pub tickBehind : ℕ → ℕ → ℕ → Entry responder
 tickBehind d behind t = at t (ticks d (record { time = t - behind; room = 1452 }))
 
 abbrev pub hearBehind : ℕ → ℕ → ℕ → List ℕ → Entry responder
-hearBehind d behind t p = at t (receives d (record { time = t - behind; port = 5353; draw = 20; packet = p; room = 1452 }))
+hearBehind d behind t p = at t (receives d (record { time = t - behind; from = somewhere; port = 5353; draw = 20; hold = 400; packet = p; room = 1452 }))
 
 -- The first holds its names, hears its own packets and answers a question for its service. A stranger's response with other data makes it give up the
 -- instance name; it probes again, against a second responder that wants the name, and holds it again: the second hears its probe, whose records are later,

@@ -83,7 +83,7 @@ unfoldable pub dueTimes : List Step → Progress → List ℕ
 dueTimes [] progress = []
 dueTimes (s ∷ ss) progress = listed (stepDue s progress) ++ dueTimes ss progress
 
--- the due steps: "instance, host, then PTR reply"
+-- the due steps: "instance, host, then PTR reply", then the held queries
 unfoldable pub due : State → List ℕ
 due x = dueTimes steps (x .progress)
 

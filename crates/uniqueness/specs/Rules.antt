@@ -21,6 +21,7 @@ use Rattle.claims.specs.declared.Progress.{Progress}
 use Rattle.claims.specs.declared.steps.Output.{Output}
 use Rattle.claims.specs.declared.steps.Output.the-variants.{Nothing, Probe, Response}
 use Rattle.claims.specs.answers.Answers as answers
+use Rattle.claims.specs.answers.Held as holding
 use Rattle.claims.specs.declared.answers.Received as heard
 use Rattle.facts.specs.Facts.{factsOf}
 use Rattle.writer.specs.own_packets.Styles.{responseStyle, ownRecord}
@@ -31,7 +32,7 @@ use Rattle.link.specs.Responder.{Claim, asker}
 use Rattle.link.specs.Laws as law
 use Rattle.link.specs.Laws.{Rules, Sent, toAll, Stage, waiting, probing, held, apart}
 use Rattle.link.specs.Premises.{Among}
-use Rattle.responder.specs.Handed.{Arrival}
+use Rattle.responder.specs.Handed.{Arrival, comingOf}
 use Rattle.uniqueness.specs.Responder.{ownClaim, claimRecord, responder}
 
 -- the messages of an output, at most one; none where it has no record
@@ -59,7 +60,7 @@ with x progress = record { setup = x .setup; progress = progress }
 
 -- what a message does to a state
 abbrev pub told : State → Arrival → Message → heard.Received
-told x a m = answers.receiveOf (x .progress) (a .time) (a .draw) (factsOf (x .setup) m) (x .setup .hasaaaa)
+told x a m = holding.receiveOf (x .progress) (comingOf a) (factsOf (x .setup) m) (x .setup .hasaaaa)
 
 -- what a query from a plain resolver does to it
 abbrev pub served : State → Arrival → Message → heard.Received

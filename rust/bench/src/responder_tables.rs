@@ -2,7 +2,7 @@
 
 use std::hint::black_box;
 
-use bench::responders::{on_bytes, proved, query, reference, Calls, LONG, WIDE};
+use bench::responders::{on_bytes, proved, query, reference, truncated, Calls, LONG, WIDE};
 use bench::{packets, rows, timing};
 
 /// Both responders, each of which holds its names.
@@ -40,7 +40,7 @@ pub fn responders() {
         "proved",
         "ordinary",
     ]);
-    let (query, full) = (query(), packets::full());
+    let (query, truncated, full) = (query(), truncated(), packets::full());
     call(
         "receive: a query that is answered at once",
         "booth",
@@ -59,6 +59,12 @@ pub fn responders() {
         false,
         |responder| responder.receive(10, &full),
     );
+    call(
+        "receive and tick: a query with TC is held, then answered",
+        "booth",
+        true,
+        |responder| responder.receive(500, &truncated) + responder.tick(500),
+    );
     for (name, instance) in [
         ("tick: nothing due", "booth"),
         ("tick: nothing due, a label of 63 bytes", LONG),
@@ -71,7 +77,7 @@ pub fn responders() {
             |responder| responder.tick(10),
         );
         tick_on_bytes(
-            &format!("{name}; ordinary reads and tests the same 685 bytes"),
+            &format!("{name}; ordinary reads and tests the same 841 bytes"),
             instance,
         );
     }

@@ -1,23 +1,33 @@
 //! The proved responder and the reference program's, each holding its names, and the calls that are timed on both.
 
-use kurgashel::{Responder, Setup, OUT_BYTES, PORT};
-use reference::responder::Responder as ReferenceResponder;
+use std::net::Ipv4Addr;
+
+use kurgashel::{Arrival, Draws, OutBuffers, Responder, Setup, OUT_BYTES, PORT};
+use reference::responder::{Arrival as ReferenceArrival, Responder as ReferenceResponder};
 use reference::setup::Setup as ReferenceSetup;
 
 use crate::state_bytes::{self, STATE_BYTES};
 
 /// A responder with its clock and its out buffer.
 pub trait Calls {
-    /// Takes a packet `gap` ms after the last call, and tells the length of what is sent.
+    /// Takes a packet of the asker's `gap` ms after the last call, and tells the length of what is sent to all.
     fn receive(&mut self, gap: u64, packet: &[u8]) -> usize;
     /// Ticks `gap` ms after the last call, and tells the length of what is sent.
     fn tick(&mut self, gap: u64) -> usize;
 }
 
+/// Where every packet comes from.
+const ASKER: Ipv4Addr = Ipv4Addr::new(10, 0, 0, 9);
+const DRAWS: Draws = Draws {
+    reply: 20,
+    hold: 400,
+};
+
 pub struct Proved {
     responder: Responder,
     now: u64,
     out: [u8; OUT_BYTES],
+    to_sender: [u8; OUT_BYTES],
 }
 
 pub struct Reference {
@@ -56,8 +66,18 @@ pub fn on_bytes(instance: &str) -> OnBytes {
 impl Calls for Proved {
     fn receive(&mut self, gap: u64, packet: &[u8]) -> usize {
         self.now += gap;
+        let arrival = Arrival {
+            now: self.now,
+            from: (ASKER, PORT).into(),
+            draws: DRAWS,
+            packet,
+        };
+        let out = OutBuffers {
+            to_all: &mut self.out,
+            to_sender: &mut self.to_sender,
+        };
         self.responder
-            .receive(self.now, PORT, 20, packet, &mut self.out)
+            .receive(arrival, out)
             .expect("accepted")
             .to_all
     }
@@ -74,8 +94,16 @@ impl Calls for Proved {
 impl Calls for Reference {
     fn receive(&mut self, gap: u64, packet: &[u8]) -> usize {
         self.now += gap;
+        let arrival = ReferenceArrival {
+            now: self.now,
+            from: ASKER.to_ipv6_mapped().octets(),
+            port: PORT.into(),
+            draw: DRAWS.reply,
+            hold_draw: DRAWS.hold,
+            packet,
+        };
         self.responder
-            .receive(self.now, PORT.into(), 20, packet, &mut self.out)
+            .receive(arrival, &mut self.out)
             .expect("accepted")
             .multicast
             .unwrap_or(0)
@@ -118,6 +146,7 @@ pub fn proved(instance: &str) -> Proved {
         responder,
         now: 0,
         out: [0; OUT_BYTES],
+        to_sender: [0; OUT_BYTES],
     })
 }
 
@@ -149,4 +178,11 @@ pub fn query() -> Vec<u8> {
         &[0, 1, 0, 1],
     ]
     .concat()
+}
+
+/// The same with TC, so that it is held for its known answers.
+pub fn truncated() -> Vec<u8> {
+    let mut query = query();
+    query[2] = 2;
+    query
 }

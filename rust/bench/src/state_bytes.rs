@@ -1,12 +1,13 @@
-//! An ordinary tick on a state that is handed in as 685 bytes, as the proved one's is: it reads what changes from the bytes, makes the tests of refusals 1, 3
+//! An ordinary tick on a state that is handed in as 841 bytes, as the proved one's is: it reads what changes from the bytes, makes the tests of refusals 1, 3
 //! and 7 on them, the set-up's rules in place, and writes what changes back. Only where a step is due is the set-up copied, for `reference::responder`.
 
 use reference::refusal::Refusal;
+use reference::responder::holds::{Address, Hold, MOST_HOLDS};
 use reference::responder::{Claim, ProbesSent, Responder, Sent, LEAST_OUT};
 use reference::setup::{Setup, KINDS};
 use reference::{txt, MOST_TIME};
 
-pub const STATE_BYTES: usize = 685;
+pub const STATE_BYTES: usize = 841;
 const SETUP_BYTES: usize = 579;
 const MOST_KEPT_TIME: u64 = MOST_TIME + 2000;
 const MOST_START_DRAW: u64 = 250;
@@ -16,7 +17,11 @@ const CASE: usize = 9;
 const HOST_CLAIM: usize = CASE;
 const MULTICASTS: usize = 2 * CASE;
 const REPLY: usize = MULTICASTS + KINDS * CASE;
-const DRAW: usize = REPLY + CASE;
+const HOLDS: usize = REPLY + CASE;
+/// A held query: the address that it came from, when it is due, and of each record whether it is asked for and whether it is known.
+const HOLD: usize = ADDRESS + CASE + 2 * KINDS;
+const ADDRESS: usize = 16;
+const DRAW: usize = HOLDS + MOST_HOLDS * HOLD;
 const LAST: usize = DRAW + 8;
 
 /// What changes.
@@ -25,8 +30,18 @@ struct Progress {
     host: Claim,
     multicast: [Option<u64>; KINDS],
     reply: Option<u64>,
+    holds: [Place; MOST_HOLDS],
     draw: u64,
     last: u64,
+}
+
+/// The place of a held query, free where none is due.
+#[derive(Clone, Copy, Default)]
+struct Place {
+    from: Address,
+    due: Option<u64>,
+    asked: [bool; KINDS],
+    known: [bool; KINDS],
 }
 
 /// Ticks on the state's bytes.
@@ -61,6 +76,7 @@ impl Progress {
             host: claim_at(b, HOST_CLAIM),
             multicast: std::array::from_fn(|kind| time_at(b, MULTICASTS + kind * CASE)),
             reply: time_at(b, REPLY),
+            holds: std::array::from_fn(|place| Place::read(&b[HOLDS + place * HOLD..][..HOLD])),
             draw: number_at(b, DRAW),
             last: number_at(b, LAST),
         }
@@ -73,6 +89,9 @@ impl Progress {
             put_case(b, MULTICASTS + kind * CASE, time.is_some() as u8, time);
         }
         put_case(b, REPLY, self.reply.is_some() as u8, self.reply);
+        for (place, bytes) in self.holds.iter().zip(b[HOLDS..DRAW].chunks_exact_mut(HOLD)) {
+            place.write(bytes);
+        }
         b[DRAW..LAST].copy_from_slice(&self.draw.to_be_bytes());
         b[LAST..].copy_from_slice(&self.last.to_be_bytes());
     }
@@ -87,6 +106,7 @@ impl Progress {
             || too_late(self.host.due())
             || too_late(self.reply)
             || self.multicast.into_iter().any(too_late)
+            || self.holds.iter().any(|place| too_late(place.due))
         {
             return Err(Refusal::Time);
         }
@@ -95,7 +115,10 @@ impl Progress {
 
     fn is_due(&self, now: u64) -> bool {
         let due = |time: Option<u64>| time.is_some_and(|time| time <= now);
-        due(self.instance.due()) || due(self.host.due()) || due(self.reply)
+        due(self.instance.due())
+            || due(self.host.due())
+            || due(self.reply)
+            || self.holds.iter().any(|place| due(place.due))
     }
 
     /// Takes the steps that are due.
@@ -108,13 +131,63 @@ impl Progress {
             host: self.host,
             reply: self.reply,
             multicast: self.multicast,
+            holds: self.holds.iter().filter_map(Place::hold).collect(),
         };
+        let held = responder.holds.len();
         let sent = responder.tick(now, out)?;
+        self.free(held - responder.holds.len(), now);
         self.last = responder.last;
         (self.instance, self.host) = (responder.instance, responder.host);
         (self.reply, self.multicast) = (responder.reply, responder.multicast);
         Ok(sent)
     }
+
+    /// Frees so many places: of those that are due, the first.
+    fn free(&mut self, count: usize, now: u64) {
+        let due = |place: &&mut Place| place.due.is_some_and(|due| due <= now);
+        for place in self.holds.iter_mut().filter(due).take(count) {
+            *place = Place::default();
+        }
+    }
+}
+
+impl Place {
+    fn read(b: &[u8]) -> Place {
+        Place {
+            from: b[..ADDRESS].try_into().expect("sixteen bytes"),
+            due: time_at(b, ADDRESS),
+            asked: flags_at(b, ADDRESS + CASE),
+            known: flags_at(b, ADDRESS + CASE + KINDS),
+        }
+    }
+
+    fn write(&self, b: &mut [u8]) {
+        b[..ADDRESS].copy_from_slice(&self.from);
+        put_case(b, ADDRESS, self.due.is_some() as u8, self.due);
+        put_flags(b, ADDRESS + CASE, self.asked);
+        put_flags(b, ADDRESS + CASE + KINDS, self.known);
+    }
+
+    /// The query that is held there, if one is.
+    fn hold(&self) -> Option<Hold> {
+        let &Place {
+            from, asked, known, ..
+        } = self;
+        self.due.map(|due| Hold {
+            from,
+            due,
+            asked,
+            known,
+        })
+    }
+}
+
+fn flags_at(b: &[u8], at: usize) -> [bool; KINDS] {
+    std::array::from_fn(|kind| b[at + kind] % 2 == 1)
+}
+
+fn put_flags(b: &mut [u8], at: usize, flags: [bool; KINDS]) {
+    b[at..at + KINDS].copy_from_slice(&flags.map(u8::from));
 }
 
 fn number_at(b: &[u8], at: usize) -> u64 {

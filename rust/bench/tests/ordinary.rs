@@ -4,7 +4,8 @@ use bench::captured;
 use bench::ordinary_cache::OrdinaryCache;
 use bench::packets::{self, Random};
 use bench::state_bytes::{self, STATE_BYTES};
-use kurgashel::{Cache, Responder, Setup, MOST_ENTRIES, OUT_BYTES, PORT};
+use kurgashel::{Arrival, Cache, Draws, OutBuffers, Responder, Setup};
+use kurgashel::{MOST_ENTRIES, OUT_BYTES, PORT};
 use reference::cache::{Cache as ReferenceCache, SLOT};
 
 /// A response with an NSEC of dock.local whose bitmap of six bytes ends in a byte: with its low bit it names NSEC itself, and is none of the restricted kind.
@@ -133,9 +134,54 @@ fn ordinary_tick(state: &[u8; STATE_BYTES], now: u64) -> Ticked {
     (answer.map_err(|refusal| refusal.number()), state)
 }
 
+/// Where the places of held queries stand in a state, and of one place the flag whether it is taken, behind which its due time stands.
+const HOLDS: std::ops::Range<usize> = 669..825;
+const HOLD: usize = 39;
+const TAKEN: usize = 16;
+
+fn holds(state: &[u8; STATE_BYTES]) -> usize {
+    let places = state[HOLDS].chunks_exact(HOLD);
+    places.filter(|place| place[TAKEN] % 2 == 1).count()
+}
+
+/// The state after a query with TC for the host's name and a type, from one of six addresses.
+fn after_truncated(state: &[u8; STATE_BYTES], now: u64, random: &mut Random) -> [u8; STATE_BYTES] {
+    let mut packet = bench::responders::truncated();
+    let types = [1, 16, 28, 255];
+    packet[25] = types[random.below(types.len())];
+    let mut responder = Responder::from_bytes(*state);
+    let (mut to_all, mut to_sender) = ([0; OUT_BYTES], [0; OUT_BYTES]);
+    let arrival = Arrival {
+        now,
+        from: ([10, 0, 0, random.below(6) as u8], PORT).into(),
+        draws: Draws {
+            reply: 20,
+            hold: 400 + random.below(101) as u64,
+        },
+        packet: &packet,
+    };
+    let out = OutBuffers {
+        to_all: &mut to_all,
+        to_sender: &mut to_sender,
+    };
+    responder.receive(arrival, out).expect("accepted");
+    *responder.bytes()
+}
+
+/// Takes a place for a query that asks for anything, due just before now or just after it.
+fn with_a_hold(state: &mut [u8; STATE_BYTES], now: u64, random: &mut Random) {
+    let at = HOLDS.start + HOLD * random.below(4);
+    for byte in &mut state[at..at + HOLD] {
+        *byte = random.number() as u8;
+    }
+    let due = (now + random.below(600) as u64).saturating_sub(300);
+    state[at + TAKEN] |= 1;
+    state[at + TAKEN + 1..at + TAKEN + 9].copy_from_slice(&due.to_be_bytes());
+}
+
 #[test]
 fn ticks_on_bytes_are_alike() {
-    let mut random = Random(685);
+    let mut random = Random(841);
     let setup = Setup::new(
         "bo\u{f6}th",
         "_voice",
@@ -151,28 +197,48 @@ fn ticks_on_bytes_are_alike() {
         .bytes();
     let mut answers = [0usize; 8];
     let (mut now, mut sent) = (0, 0);
+    let (mut held, mut answered, mut damaged_answered) = ([0usize; 5], 0, 0);
     for _ in 0..4_000 {
         now += random.below(4) as u64;
+        if random.below(60) == 0 {
+            state = after_truncated(&state, now, &mut random);
+        }
         let (answer, after) = proved_tick(&state, now);
         assert_eq!(
             (&answer, &after),
             (&ordinary_tick(&state, now).0, &ordinary_tick(&state, now).1)
         );
-        sent += answer.is_ok_and(|(packet, _)| !packet.is_empty()) as usize;
+        let sends = answer.is_ok_and(|(packet, _)| !packet.is_empty());
+        sent += sends as usize;
+        answered += (sends && holds(&after) < holds(&state)) as usize;
+        held[holds(&state)] += 1;
         state = after;
         for _ in 0..20 {
             let mut damaged = state;
             for _ in 0..=random.below(2) {
                 damaged[random.below(STATE_BYTES)] = random.number() as u8;
             }
+            for _ in 0..random.below(4) {
+                with_a_hold(&mut damaged, now, &mut random);
+            }
             let (answer, after) = proved_tick(&damaged, now);
             let ordinary = ordinary_tick(&damaged, now);
             assert_eq!(answer, ordinary.0);
             assert!(after == ordinary.1, "one state after a damaged one");
+            let sends = answer.as_ref().is_ok_and(|(packet, _)| !packet.is_empty());
+            damaged_answered += (sends && holds(&after) < holds(&damaged)) as usize;
             answers[usize::from(answer.err().unwrap_or(0))] += 1;
         }
     }
     assert!(sent >= 8, "{sent} packets were sent");
+    assert!(
+        held.iter().all(|&times| times > 50),
+        "none to four held: {held:?}"
+    );
+    assert!(
+        answered >= 5 && damaged_answered > 1000,
+        "held queries were answered {answered} and {damaged_answered} times"
+    );
     for number in [0, 1, 7] {
         assert!(
             answers[number] > 100,

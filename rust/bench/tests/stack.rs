@@ -52,6 +52,7 @@ fn a_responder_that_receives_each() {
             packets::label_by_label().0,
             packets::worst(),
             bench::responders::query(),
+            bench::responders::truncated(),
         ] {
             responder.receive(1000, &packet);
             responder.tick(1000);

@@ -31,7 +31,9 @@ pub use reader::{
     message_refusal, name_end, name_length, Data, Message, Name, Nsec, Question, Record, Section,
     Srv, Strings,
 };
-pub use responder::{Claim, Received, Responder, Ticked, OUT_BYTES, PORT, STATE_BYTES};
+pub use responder::{
+    Arrival, Claim, Draws, OutBuffers, Received, Responder, Ticked, OUT_BYTES, PORT, STATE_BYTES,
+};
 pub use setup::{Setup, SETUP_BYTES};
 
 /// Why a call was refused, by the specification's number.
@@ -39,13 +41,13 @@ pub use setup::{Setup, SETUP_BYTES};
 pub enum Refusal {
     /// 1: a time too late, or before one that is kept.
     Time,
-    /// 2: a draw outside 0..250 (start) or 20..120 (packet received).
+    /// 2: a draw outside 0..250 (start), or 20..120 or 400..500 (packet received).
     Draw,
     /// 3: an out buffer under 1,452 bytes.
     Buffer,
     /// 4: a message under 12 or over 8,972 bytes.
     Length,
-    /// 5: opcode or RCODE not zero, or a source port other than 5353.
+    /// 5: opcode or RCODE not zero, or a response from a source port other than 5353.
     Header,
     /// 6: a malformed message, TXT or looked-up name.
     Malformed,

@@ -1,5 +1,7 @@
 //! A responder: start, packet received and tick over the state's bytes.
 
+use std::net::{IpAddr, SocketAddr};
+
 use crate::setup::Setup;
 use crate::Refusal;
 
@@ -7,7 +9,7 @@ use crate::Refusal;
 pub const PORT: u16 = 5353;
 
 /// The bytes of a responder's state.
-pub const STATE_BYTES: usize = 685;
+pub const STATE_BYTES: usize = 841;
 
 /// The least out buffer; no packet is longer.
 pub const OUT_BYTES: usize = 1452;
@@ -40,8 +42,11 @@ extern "C" {
         state: *mut u8,
         state_bytes: usize,
         now: u64,
+        from: *const u8,
+        from_bytes: usize,
         port: u16,
         draw: u64,
+        hold: u64,
         packet: *const u8,
         packet_bytes: usize,
         out: *mut u8,
@@ -86,7 +91,39 @@ impl Claim {
     }
 }
 
-/// What a packet received gives: the lengths of the packets to send, 0 for none. At most one of them is not 0, and that packet is in the out buffer.
+/// A packet received: when, where from, and the random numbers that go with it. The same for every packet, a query or a response, of a browser or of another
+/// responder.
+#[derive(Clone, Copy, Debug, PartialEq, Eq)]
+pub struct Arrival<'a> {
+    /// When it came, in milliseconds.
+    pub now: u64,
+    /// The address and port that it came from, as `std::net::UdpSocket::recv_from` gives them. An IPv4 address and the same one mapped to IPv6 are one address.
+    pub from: SocketAddr,
+    /// Drawn anew for this packet.
+    pub draws: Draws,
+    /// Its bytes.
+    pub packet: &'a [u8],
+}
+
+/// The random numbers that go with a packet, in milliseconds. Both are tested, whatever the packet is ([`Refusal::Draw`]).
+#[derive(Clone, Copy, Debug, PartialEq, Eq)]
+pub struct Draws {
+    /// 20 to 120: how long a reply with the shared PTR record waits.
+    pub reply: u64,
+    /// 400 to 500: how long a query is held whose known answers follow in further packets ([`Responder::receive`]).
+    pub hold: u64,
+}
+
+/// The out buffers that a packet received is answered in, of at least [`OUT_BYTES`] each.
+#[derive(Debug)]
+pub struct OutBuffers<'a> {
+    /// For the packet that goes to all, by multicast.
+    pub to_all: &'a mut [u8],
+    /// For the packet that goes to the address and port that the packet received came from, and to no other.
+    pub to_sender: &'a mut [u8],
+}
+
+/// What a packet received gives: the lengths of the packets to send, 0 for none. Each packet is in the buffer of the same name ([`OutBuffers`]).
 #[derive(Clone, Copy, Debug, Default, PartialEq, Eq)]
 pub struct Received {
     /// Of the packet that goes to all, by multicast.
@@ -141,25 +178,58 @@ impl Responder {
         &self.state
     }
 
-    /// Takes a packet that came from `port`; `draw` is random, 20 to 120 ms. What is to be sent at once is in `out`; a plain resolver, which asks from a port
-    /// other than 5353, is answered by unicast.
-    pub fn receive(
-        &mut self,
-        now: u64,
-        port: u16,
-        draw: u64,
-        packet: &[u8],
-        out: &mut [u8],
-    ) -> Result<Received, Refusal> {
-        let state = &mut self.state;
+    /// Takes a packet, and writes what is to be sent at once to the out buffers: to all, or to a plain resolver, which asks from a port other than 5353, alone.
+    ///
+    /// A query whose known answers go on in further packets (its TC bit tells, RFC 6762 section 7.2) is held for `draws.hold` ms, and the known answers that come
+    /// from its address meanwhile are left out of what it is answered. The responder holds up to four, one for an address. Answering one is a step as any other:
+    /// [`Responder::due`] counts it, and a tick takes it.
+    ///
+    /// ```
+    /// # use kurgashel::{Arrival, Draws, OutBuffers, Refusal, Responder, OUT_BYTES};
+    /// # use std::net::UdpSocket;
+    /// # fn hear(responder: &mut Responder, socket: &UdpSocket, now: u64, draws: Draws) -> std::io::Result<()> {
+    /// let (mut packet, mut to_all, mut to_sender) = ([0; 9000], [0; OUT_BYTES], [0; OUT_BYTES]);
+    /// let (length, from) = socket.recv_from(&mut packet)?;
+    /// let arrival = Arrival { now, from, draws, packet: &packet[..length] };
+    /// let out = OutBuffers { to_all: &mut to_all, to_sender: &mut to_sender };
+    /// match responder.receive(arrival, out) {
+    ///     Ok(sent) => {
+    ///         if sent.to_all > 0 {
+    ///             socket.send_to(&to_all[..sent.to_all], "224.0.0.251:5353")?;
+    ///         }
+    ///         if sent.to_sender > 0 {
+    ///             socket.send_to(&to_sender[..sent.to_sender], from)?;
+    ///         }
+    ///     }
+    ///     Err(refusal) => eprintln!("{from}: {refusal}"), // nothing has changed
+    /// }
+    /// # Ok(())
+    /// # }
+    /// ```
+    pub fn receive(&mut self, arrival: Arrival, out: OutBuffers) -> Result<Received, Refusal> {
+        let (state, packet) = (&mut self.state, arrival.packet);
+        let from = match arrival.from.ip() {
+            IpAddr::V4(address) => address.to_ipv6_mapped().octets(),
+            IpAddr::V6(address) => address.octets(),
+        };
+        // the library writes one packet: to the sender, if that is a plain resolver, else to all
+        let port = arrival.from.port();
+        let out = if port == PORT {
+            out.to_all
+        } else {
+            out.to_sender
+        };
         // SAFETY: each pointer and length are those of one slice; the two that are written are borrowed for this call alone.
         let answer = unsafe {
             kurgashel_receive(
                 state.as_mut_ptr(),
                 state.len(),
-                now,
+                arrival.now,
+                from.as_ptr(),
+                from.len(),
                 port,
-                draw,
+                arrival.draws.reply,
+                arrival.draws.hold,
                 packet.as_ptr(),
                 packet.len(),
                 out.as_mut_ptr(),

@@ -1,6 +1,10 @@
 //! Which instance labels a set-up and a state may have: UTF-8 by the standard library's own test, without the bytes 00 to 1F and 7F.
 
-use kurgashel::{Refusal, Responder, Setup, OUT_BYTES, PORT, STATE_BYTES};
+use std::net::Ipv4Addr;
+
+use kurgashel::{
+    Arrival, Draws, OutBuffers, Received, Refusal, Responder, Setup, OUT_BYTES, PORT, STATE_BYTES,
+};
 
 /// What the specification says of a label, by the standard library.
 fn is_shown(label: &[u8]) -> bool {
@@ -23,6 +27,27 @@ fn is_taken(label: &[u8]) -> bool {
             false
         }
     }
+}
+
+/// Has a responder take a packet, at a time, from a port, with a draw for the reply, and with out buffers of so many bytes.
+fn receive(
+    responder: &mut Responder,
+    (now, port, reply): (u64, u16, u64),
+    packet: &[u8],
+    room: usize,
+) -> Result<Received, Refusal> {
+    let (mut to_all, mut to_sender) = ([0; OUT_BYTES], [0; OUT_BYTES]);
+    let arrival = Arrival {
+        now,
+        from: (Ipv4Addr::LOCALHOST, port).into(),
+        draws: Draws { reply, hold: 400 },
+        packet,
+    };
+    let out = OutBuffers {
+        to_all: &mut to_all[..room],
+        to_sender: &mut to_sender[..room],
+    };
+    responder.receive(arrival, out)
 }
 
 fn check(label: &[u8]) {
@@ -192,7 +217,7 @@ fn random_labels_at_a_start_and_in_a_state() {
             Some(Refusal::Setup)
         };
         let mut responder = Responder::from_bytes(state);
-        let received = responder.receive(0, PORT, 20, &query, &mut out).err();
+        let received = receive(&mut responder, (0, PORT, 20), &query, OUT_BYTES).err();
         assert_eq!(received, expected, "{label:02x?}");
         let ticked = responder.tick(0, &mut out).err();
         assert_eq!(ticked, expected, "{label:02x?}");
@@ -222,9 +247,7 @@ fn seven_comes_after_the_time_the_draw_and_the_message() {
     let query = [0; 12];
     let response = [0, 0, 0x84, 0, 0, 0, 0, 0, 0, 0, 0, 0];
     let mut receive = |now, port, draw, packet: &[u8], room| {
-        responder
-            .receive(now, port, draw, packet, &mut out[..room])
-            .err()
+        receive(&mut responder, (now, port, draw), packet, room).err()
     };
     assert_eq!(receive(4, 1, 19, &[], 9), Some(Refusal::Time));
     assert_eq!(receive(5, 1, 19, &[], 9), Some(Refusal::Draw));

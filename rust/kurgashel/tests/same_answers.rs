@@ -1,9 +1,11 @@
 //! Random hostile scripts through this crate and the independent reference program: the same answer to every line that the exported calls can answer.
 
 use std::collections::BTreeMap;
+use std::net::{IpAddr, SocketAddr};
 
 use kurgashel::{
-    txt_lookup, Cache, Data, Message, Name, Pair, Refusal, Responder, Section, Setup, STATE_BYTES,
+    txt_lookup, Arrival, Cache, Data, Draws, Message, Name, OutBuffers, Pair, Refusal, Responder,
+    Section, Setup, PORT, STATE_BYTES,
 };
 use reference::console::{hex, Console};
 use reference::script::script;
@@ -43,6 +45,13 @@ fn bytes(field: &str) -> Vec<u8> {
     (0..field.len() / 2)
         .map(|i| u8::from_str_radix(&field[2 * i..2 * i + 2], 16).expect("hex digits"))
         .collect()
+}
+
+fn address(bytes: &[u8]) -> IpAddr {
+    match <[u8; 4]>::try_from(bytes) {
+        Ok(v4) => v4.into(),
+        Err(_) => <[u8; 16]>::try_from(bytes).expect("4 or 16 bytes").into(),
+    }
 }
 
 fn number(field: &str) -> u64 {
@@ -125,23 +134,7 @@ impl Exported {
         };
         Some(match fields[0] {
             "start" => self.start(&fields),
-            "recv" => {
-                let (packet, port) = (bytes(fields[4]), u16::try_from(number(fields[2])).ok()?);
-                let out = &mut self.out[..lent(5)];
-                let sent = self.responder.receive(
-                    number(fields[1]),
-                    port,
-                    number(fields[3]),
-                    &packet,
-                    out,
-                );
-                sent.map(|sent| match (sent.to_all, sent.to_sender) {
-                    (0, 0) => "quiet".into(),
-                    (length, 0) => format!("sent {}", hex(&self.out[..length])),
-                    (0, length) => format!("unicast {}", hex(&self.out[..length])),
-                    both => panic!("one packet at the most: {both:?}"),
-                })
-            }
+            "recv" => self.recv(&fields, lent(7)),
             "tick" => {
                 let sent = self
                     .responder
@@ -156,6 +149,7 @@ impl Exported {
                 })
             }
             "claims" => Ok(self.claims()),
+            "holds" => Ok(self.holds()),
             "out" => {
                 let at = number(fields[1]) as usize;
                 Ok(format!(
@@ -164,8 +158,8 @@ impl Exported {
                 ))
             }
             "put" => {
-                let port = u16::try_from(number(fields[2])).ok()?;
                 let cache = self.cache.as_mut()?;
+                let port = number(fields[2]) as u16;
                 let taken = cache.take(number(fields[1]), port, &bytes(fields[3]));
                 taken.map(|taken| format!("cached {} {}", taken.turned_away, taken.passed_over))
             }
@@ -248,11 +242,62 @@ impl Exported {
         Ok("started".into())
     }
 
+    /// The console has one out buffer: that of the one to whom an answer may go, by the port that the packet came from.
+    fn recv(&mut self, fields: &[&str], lent: usize) -> Result<String, Refusal> {
+        let (packet, port) = (bytes(fields[6]), number(fields[3]) as u16);
+        let arrival = Arrival {
+            now: number(fields[1]),
+            from: SocketAddr::new(address(&bytes(fields[2])), port),
+            draws: Draws {
+                reply: number(fields[4]),
+                hold: number(fields[5]),
+            },
+            packet: &packet,
+        };
+        let (mut to_all, mut to_sender) = (self.out.clone(), self.out.clone());
+        let out = OutBuffers {
+            to_all: &mut to_all[..lent],
+            to_sender: &mut to_sender[..lent],
+        };
+        let sent = self.responder.receive(arrival, out);
+        let (written, other) = if port == PORT {
+            (to_all, to_sender)
+        } else {
+            (to_sender, to_all)
+        };
+        assert_eq!(other, self.out, "the other buffer stays");
+        self.out = written;
+        sent.map(|sent| match (sent.to_all, sent.to_sender) {
+            (0, 0) => "quiet".into(),
+            (length, 0) => format!("sent {}", hex(&self.out[..length])),
+            (0, length) => format!("unicast {}", hex(&self.out[..length])),
+            both => panic!("one packet at the most: {both:?}"),
+        })
+    }
+
+    /// The number of eight bytes at a place of the state.
+    fn word(&self, at: usize) -> u64 {
+        let bytes = &self.responder.bytes()[at..at + 8];
+        u64::from_be_bytes(bytes.try_into().expect("eight bytes"))
+    }
+
+    /// The held queries, by a state's layout: four places of 39 bytes behind the reply, each of an address, a flag and a due time, and two flags for each record.
+    fn holds(&self) -> String {
+        let taken = (0..4)
+            .map(|place| 669 + 39 * place)
+            .filter(|at| self.responder.bytes()[at + 16] % 2 == 1);
+        let shown = taken.map(|at| {
+            let from = hex(&self.responder.bytes()[at..at + 16]);
+            format!(" {from} {}", self.word(at + 17))
+        });
+        let shown: String = shown.collect();
+        format!("holds{}", if shown.is_empty() { " -" } else { &shown })
+    }
+
     /// The times that a state keeps, by its layout: a case byte and a number of eight bytes for each claim, each last multicast and the reply.
     fn claims(&self) -> String {
         let state = self.responder.bytes();
-        let word =
-            |at: usize| u64::from_be_bytes(state[at..at + 8].try_into().expect("eight bytes"));
+        let word = |at| self.word(at);
         let due = |set: bool, at: usize| {
             if set {
                 word(at).to_string()
@@ -262,7 +307,7 @@ impl Exported {
         };
         format!(
             "{} instance {} {} host {} {} reply {}",
-            word(677),
+            word(833),
             self.responder.instance().word(),
             due(state[579] < 6, 580),
             self.responder.host().word(),
@@ -272,20 +317,12 @@ impl Exported {
     }
 }
 
-/// The earliest due time of a `claims` answer: of the instance's claim, the host's and the reply.
-fn earliest(claims: &str) -> Option<u64> {
-    let fields: Vec<&str> = claims.split(' ').collect();
-    [3, 6, 8]
-        .iter()
-        .filter_map(|&index| fields[index].parse().ok())
-        .min()
-}
-
 /// Whether a line names a port of more than 16 bits, which no packet comes from and no exported call can be handed.
 fn has_no_port(line: &[u8]) -> bool {
     let mut fields = line.split(|byte| *byte == b' ');
     let port = match fields.next() {
-        Some(b"recv") | Some(b"put") => fields.nth(1),
+        Some(b"recv") => fields.nth(2),
+        Some(b"put") => fields.nth(1),
         _ => None,
     };
     port.and_then(|port| std::str::from_utf8(port).ok()?.parse().ok())
@@ -321,17 +358,17 @@ fn the_reference_program_answers_alike() {
             }
             let answer = answer.unwrap_or_else(|refusal| format!("refused {}", refusal.number()));
             assert_eq!(answer, expected, "seed {seed}: {line}");
-            if line == "claims" {
-                assert_eq!(
-                    exported.responder.due(),
-                    earliest(&expected),
-                    "the next due time: seed {seed}: {expected}"
-                );
-            }
+            assert_eq!(
+                exported.responder.due(),
+                reference.responder.dues().min(),
+                "the next due time: seed {seed}: {line}"
+            );
             let kind = line.split(' ').next().unwrap_or_default().to_string()
                 + " "
                 + answer.split(' ').next().unwrap_or_default();
             *kinds.entry(kind).or_default() += 1;
+            let held = reference.responder.holds.len();
+            *kinds.entry(format!("{held} held")).or_default() += 1;
         }
     }
     for kind in [
@@ -339,6 +376,9 @@ fn the_reference_program_answers_alike() {
         "recv sent",
         "recv quiet",
         "recv unicast",
+        "1 held",
+        "4 held",
+        "holds holds",
         "tick sent",
         "tick quiet",
         "put cached",

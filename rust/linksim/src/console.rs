@@ -3,6 +3,8 @@
 use std::io::{self, BufRead, BufReader, Write};
 use std::process::{Child, ChildStdin, ChildStdout, Command, Stdio};
 
+use reference::responder::holds::MOST_HOLDS;
+
 pub struct Console {
     process: Child,
     /// Taken when the console is closed: it ends at the end of its input.
@@ -20,13 +22,15 @@ pub enum Answer {
     Refused(u8),
 }
 
-/// What `claims` shows. Only the due times are used to play a list; the states are only counted.
+/// Instance, host, PTR reply, then the held queries in order of arrival: when the next step is due, on the responder's clock.
+pub type Dues = [Option<u64>; 3 + MOST_HOLDS];
+
+/// What `claims` and `holds` show. Only the due times are used to play a list; the states are only counted.
 #[derive(Clone, Debug, PartialEq, Eq)]
 pub struct Claims {
     /// Instance, host.
     pub states: [State; 2],
-    /// Instance, host, PTR reply: when the next step is due, on the responder's clock.
-    pub due: [Option<u64>; 3],
+    pub due: Dues,
 }
 
 #[derive(Clone, Copy, Debug, PartialEq, Eq)]
@@ -53,12 +57,14 @@ impl Console {
         })
     }
 
-    /// Makes the call and then asks for the claims.
+    /// Makes the call and then asks for the claims and the held queries.
     pub fn call(&mut self, line: &str) -> io::Result<(Answer, Claims)> {
         let input = self.input.as_mut().expect("an open console");
-        input.write_all(format!("{line}\nclaims\n").as_bytes())?;
+        input.write_all(format!("{line}\nclaims\nholds\n").as_bytes())?;
         let answer = self.read(line, answer_of)?;
-        let claims = self.read("claims", claims_of)?;
+        let mut claims = self.read("claims", claims_of)?;
+        let holds = self.read("holds", holds_of)?;
+        claims.due[3..].copy_from_slice(&holds);
         Ok((answer, claims))
     }
 
@@ -99,11 +105,40 @@ fn claims_of(line: &str) -> Option<Claims> {
         [_, "instance", instance, instance_due, "host", host, host_due, "reply", reply] => {
             Some(Claims {
                 states: [state_of(instance)?, state_of(host)?],
-                due: [due_of(instance_due)?, due_of(host_due)?, due_of(reply)?],
+                due: dues(&[due_of(instance_due)?, due_of(host_due)?, due_of(reply)?]),
             })
         }
         _ => None,
     }
+}
+
+/// These, and none of what is not given.
+pub fn dues(given: &[Option<u64>]) -> Dues {
+    let mut dues = Dues::default();
+    dues[..given.len()].copy_from_slice(given);
+    dues
+}
+
+/// When each held query is due; more than four are no answer, nor is one from an address twice.
+fn holds_of(line: &str) -> Option<[Option<u64>; MOST_HOLDS]> {
+    let words: Vec<&str> = line.split(' ').collect();
+    let shown = match words[..] {
+        ["holds", "-"] => &[],
+        ["holds", ref shown @ ..] if !shown.is_empty() && shown.len() % 2 == 0 => shown,
+        _ => return None,
+    };
+    let mut holds = [None; MOST_HOLDS];
+    for (at, hold) in shown.chunks(2).enumerate() {
+        let again = shown[..2 * at]
+            .iter()
+            .step_by(2)
+            .any(|from| *from == hold[0]);
+        if again || hold[0].len() != 32 {
+            return None;
+        }
+        *holds.get_mut(at)? = Some(hold[1].parse().ok()?);
+    }
+    Some(holds)
 }
 
 fn state_of(word: &str) -> Option<State> {
@@ -154,7 +189,25 @@ mod tests {
     fn claims() {
         let claims = claims_of("5 instance waiting 7 host lost - reply -").unwrap();
         assert_eq!(claims.states, [State::Waiting, State::Lost]);
-        assert_eq!(claims.due, [Some(7), None, None]);
+        assert_eq!(claims.due, dues(&[Some(7), None, None]));
         assert_eq!(claims_of("quiet"), None);
+    }
+
+    #[test]
+    fn holds() {
+        assert_eq!(holds_of("holds -"), Some([None; 4]));
+        let (one, two) = ("1".repeat(32), "2".repeat(32));
+        assert_eq!(
+            holds_of(&format!("holds {one} 5 {two} 4")),
+            Some([Some(5), Some(4), None, None])
+        );
+        for wrong in [
+            "holds",
+            "holds 5",
+            "hold -",
+            &format!("holds {one} 5 {one} 6"),
+        ] {
+            assert_eq!(holds_of(wrong), None);
+        }
     }
 }

@@ -14,6 +14,8 @@ pub struct Counts {
     pub cuts: u64,
     pub refused: u64,
     pub sent: u64,
+    /// Truncated queries that came to be held.
+    pub truncated: u64,
     /// Replies to plain resolvers.
     pub replied: u64,
     pub heard: u64,
@@ -37,6 +39,7 @@ impl Counts {
         self.cuts += other.cuts;
         self.refused += other.refused;
         self.sent += other.sent;
+        self.truncated += other.truncated;
         self.replied += other.replied;
         self.heard += other.heard;
         self.held += other.held;
@@ -67,6 +70,7 @@ impl fmt::Display for Counts {
             cuts,
             refused,
             sent,
+            truncated,
             replied,
             heard,
             held,
@@ -81,7 +85,7 @@ impl fmt::Display for Counts {
         )?;
         writeln!(
             f,
-            "{starts} responders started, {cuts} cut; {refused} calls refused; {sent} packets sent, {heard} heard, {replied} by unicast"
+            "{starts} responders started, {cuts} cut; {refused} calls refused; {sent} packets sent, {heard} heard, {truncated} of them held back, {replied} answered by unicast"
         )?;
         write!(
             f,

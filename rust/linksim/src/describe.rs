@@ -29,10 +29,10 @@ pub fn packet(bytes: &[u8]) -> String {
     let Ok(message) = Message::read(bytes) else {
         return format!("{} bytes that can't be read", bytes.len());
     };
-    let kind = if message.is_response() {
-        "response"
-    } else {
-        "query"
+    let kind = match (message.is_response(), message.is_truncated()) {
+        (true, _) => "response",
+        (false, true) => "truncated query",
+        (false, false) => "query",
     };
     let mut text = vec![kind.to_string()];
     for question in &message.questions {

@@ -5,6 +5,7 @@ use std::rc::Rc;
 use reference::console::hex;
 use reference::message::Message;
 use reference::refusal::Refusal;
+use reference::responder::holds::{Address, LEAST_HOLD_DRAW, MOST_HOLD_DRAW};
 use reference::setup::Setup;
 use reference::MOST_TIME;
 
@@ -32,18 +33,41 @@ pub enum Call {
         draw: u64,
         setup: Rc<Setup>,
     },
-    Receive {
-        clock: u64,
-        port: u64,
-        draw: u64,
-        packet: Packet,
-        out: usize,
-    },
+    Receive(Receive),
     Tick {
         clock: u64,
         out: usize,
     },
     Cut,
+}
+
+#[derive(Clone)]
+pub struct Receive {
+    pub clock: u64,
+    /// The source address.
+    pub from: Address,
+    pub port: u64,
+    pub draw: u64,
+    /// The draw for holding a truncated query.
+    pub hold: u64,
+    pub packet: Packet,
+    pub out: usize,
+}
+
+impl Receive {
+    fn line(&self) -> String {
+        let Receive {
+            clock,
+            from,
+            port,
+            draw,
+            hold,
+            packet,
+            out,
+        } = self;
+        let (from, packet) = (hex(from), hex(packet));
+        format!("recv {clock} {from} {port} {draw} {hold} {packet} {out}")
+    }
 }
 
 impl Call {
@@ -62,13 +86,7 @@ impl Call {
                 hex(&setup.a),
                 hex(setup.aaaa.as_ref().map_or(&[], |address| &address[..])),
             ),
-            Call::Receive {
-                clock,
-                port,
-                draw,
-                packet,
-                out,
-            } => format!("recv {clock} {port} {draw} {} {out}", hex(packet)),
+            Call::Receive(receive) => receive.line(),
             Call::Tick { clock, out } => format!("tick {clock} {out}"),
             Call::Cut => "# power cut".to_string(),
         }
@@ -76,9 +94,8 @@ impl Call {
 
     pub fn clock(&self) -> u64 {
         match self {
-            Call::Start { clock, .. } | Call::Receive { clock, .. } | Call::Tick { clock, .. } => {
-                *clock
-            }
+            Call::Start { clock, .. } | Call::Tick { clock, .. } => *clock,
+            Call::Receive(receive) => receive.clock,
             Call::Cut => 0,
         }
     }
@@ -96,18 +113,14 @@ impl Call {
                 test(*draw <= MOST_START_DRAW, Refusal::Draw)?;
                 test(setup.is_legal(), Refusal::Setup)
             }
-            Call::Receive {
-                clock,
-                port,
-                draw,
-                packet,
-                out,
-            } => {
-                test((last..=MOST_TIME).contains(clock), Refusal::Time)?;
+            Call::Receive(receive) => {
+                test((last..=MOST_TIME).contains(&receive.clock), Refusal::Time)?;
                 let draws = LEAST_REPLY_DRAW..=MOST_REPLY_DRAW;
-                test(draws.contains(draw), Refusal::Draw)?;
-                test(*out >= LEAST_OUT, Refusal::OutBuffer)?;
-                Message::read_from(*port, packet).map(|_| ())
+                test(draws.contains(&receive.draw), Refusal::Draw)?;
+                let draws = LEAST_HOLD_DRAW..=MOST_HOLD_DRAW;
+                test(draws.contains(&receive.hold), Refusal::Draw)?;
+                test(receive.out >= LEAST_OUT, Refusal::OutBuffer)?;
+                Message::read_from(receive.port, &receive.packet).map(|_| ())
             }
             Call::Tick { clock, out } => {
                 test((last..=MOST_TIME).contains(clock), Refusal::Time)?;

@@ -26,6 +26,7 @@ pub struct Record {
 }
 
 const QUERY: u16 = 0;
+const TRUNCATED: u16 = 0x0200;
 const RESPONSE: u16 = 0x8400;
 const ANSWER: usize = 0;
 const AUTHORITY: usize = 1;
@@ -95,7 +96,7 @@ fn claimed(target: &Setup, name: ClaimName) -> Vec<OwnRecord> {
 fn probe(random: &mut Random, target: &Setup) -> Vec<u8> {
     let name = claim(random);
     let owner = target.claim_name(name).into_wire();
-    let mut draft = Draft::new(QUERY);
+    let mut draft = Draft::new(random.pick(&[QUERY, QUERY, QUERY, TRUNCATED]));
     let asked = random.pick(&[rtype::ANY, rtype::ANY, rtype::ANY, rtype::SRV]);
     let class = random.pick(&[1, 1, 255, 0x8001, 0x80ff, 3]);
     draft.questions.push((random.recase(&owner), asked, class));
@@ -140,10 +141,10 @@ fn response(random: &mut Random, target: &Setup) -> Vec<u8> {
     draft.bytes()
 }
 
-/// Questions for any of the five records or all, with known answers now and then.
+/// Questions for any of the five records or all, with known answers now and then, truncated or not.
 fn query(random: &mut Random, target: &Setup) -> Vec<u8> {
-    let mut draft = Draft::new(QUERY);
-    for _ in 0..=random.up_to(2) {
+    let mut draft = Draft::new(random.pick(&[QUERY, TRUNCATED]));
+    for _ in 0..random.pick(&[0, 1, 1, 2, 3]) {
         let own = random.pick(&target.records());
         let name = random.recase(own.owner.wire());
         let asked = random.pick(&[own.kind.rtype(), rtype::ANY]);

@@ -29,6 +29,8 @@ struct Running {
     /// The clock of its last accepted call.
     last: u64,
     states: [State; 2],
+    /// How many queries it holds.
+    holds: usize,
 }
 
 /// What an entry brought, for who makes the next ones.
@@ -144,12 +146,15 @@ impl Link<'_> {
         }
         running.last = entry.call.clock();
         running.states = claims.states;
+        let holds = claims.due[3..].iter().flatten().count();
+        self.counts.truncated += holds.saturating_sub(running.holds) as u64;
+        running.holds = holds;
         self.running[entry.console] = Some(running);
         self.premises
             .accepted(running.number, entry.call.clock(), claims.due);
         match &entry.call {
-            Call::Receive { packet, port, .. } if *port == MDNS_PORT => {
-                self.heard(running.number, packet);
+            Call::Receive(receive) if receive.port == MDNS_PORT => {
+                self.heard(running.number, &receive.packet);
             }
             _ => (),
         }
@@ -170,6 +175,7 @@ impl Link<'_> {
             number: self.judge.start(entry.time, setup),
             last: *clock,
             states: claims.states,
+            holds: 0,
         });
     }
 

@@ -1,5 +1,6 @@
 //! Demand 3's premises, tested on the list as it is played: deliveries, due steps, clocks. A list that does not meet them shows nothing.
 
+use crate::console::Dues;
 use crate::entry::Packet;
 
 /// The most that the premises allow.
@@ -29,7 +30,7 @@ struct Responder {
     /// Its clock less the link's time.
     offset: i64,
     /// On the link's time.
-    due: [Option<i64>; 3],
+    due: Vec<i64>,
 }
 
 struct Owed {
@@ -70,7 +71,7 @@ impl Premises {
         let taken = |due: &i64| time as i64 <= due + late;
         let running = self.responders.iter().flatten();
         let on_time = running
-            .flat_map(|responder| responder.due.iter().flatten())
+            .flat_map(|responder| responder.due.iter())
             .all(taken);
         self.require(on_time, "a due step is taken in time");
     }
@@ -79,7 +80,7 @@ impl Premises {
     pub fn start(&mut self, clock: u64) {
         self.responders.push(Some(Responder {
             offset: clock as i64 - self.time as i64,
-            due: [None; 3],
+            due: Vec::new(),
         }));
     }
 
@@ -90,13 +91,17 @@ impl Premises {
     }
 
     /// "Calls carry their dock's clock, a fixed amount off the link's time".
-    pub fn accepted(&mut self, responder: usize, clock: u64, due: [Option<u64>; 3]) {
+    pub fn accepted(&mut self, responder: usize, clock: u64, due: Dues) {
         let time = self.time as i64;
         let Some(running) = &mut self.responders[responder] else {
             return;
         };
         let offset = running.offset;
-        running.due = due.map(|due| due.map(|due| due as i64 - offset));
+        running.due = due
+            .iter()
+            .flatten()
+            .map(|due| *due as i64 - offset)
+            .collect();
         self.require(clock as i64 == time + offset, "clocks run at one rate");
     }
 
@@ -122,6 +127,7 @@ impl Premises {
 #[cfg(test)]
 mod tests {
     use super::*;
+    use crate::console::dues;
 
     /// Two responders from time 10 on, with clocks of 0 and 10.
     fn two() -> Premises {
@@ -171,7 +177,7 @@ mod tests {
     fn nothing_is_owed_to_a_responder_that_was_cut() {
         let mut premises = two();
         premises.sent(0, &packet());
-        premises.accepted(1, 10, [Some(10), None, None]);
+        premises.accepted(1, 10, dues(&[Some(10)]));
         premises.cut(1);
         premises.before(1000);
         assert_eq!(premises.broken(), None);
@@ -181,7 +187,7 @@ mod tests {
     fn a_step_may_be_50_ms_late_on_its_responders_clock() {
         for (time, broken) in [(85, false), (86, true)] {
             let mut premises = two();
-            premises.accepted(0, 0, [None, None, Some(25)]);
+            premises.accepted(0, 0, dues(&[None, None, None, Some(25)]));
             premises.before(time);
             assert_eq!(premises.broken().is_some(), broken);
         }
@@ -191,9 +197,9 @@ mod tests {
     fn clocks_and_order() {
         let mut premises = two();
         premises.before(30);
-        premises.accepted(0, 20, [None; 3]);
+        premises.accepted(0, 20, dues(&[]));
         assert_eq!(premises.broken(), None);
-        premises.accepted(0, 21, [None; 3]);
+        premises.accepted(0, 21, dues(&[]));
         assert!(premises.broken().is_some());
         let mut premises = two();
         premises.before(9);

@@ -3,9 +3,11 @@
 use std::rc::Rc;
 
 use reference::message::HEADER;
+use reference::responder::holds::{LEAST_HOLD_DRAW, MOST_HOLD_DRAW};
 use reference::{MDNS_PORT, MOST_TIME};
 
-use crate::entry::{Call, Packet, LEAST_OUT, LEAST_REPLY_DRAW, MOST_REPLY_DRAW, MOST_START_DRAW};
+use crate::entry::{Call, Packet, Receive};
+use crate::entry::{LEAST_OUT, LEAST_REPLY_DRAW, MOST_REPLY_DRAW, MOST_START_DRAW};
 use crate::random::Random;
 use crate::setups;
 
@@ -30,39 +32,47 @@ pub fn tick(random: &mut Random, clock: u64, last: u64) -> Call {
 
 /// With a packet of a responder, which another call has to bring yet.
 pub fn receive(random: &mut Random, clock: u64, last: u64, packet: Packet) -> Call {
-    let draw = LEAST_REPLY_DRAW;
-    let receive = |clock, port, draw, packet, out| Call::Receive {
+    let good = Receive {
         clock,
-        port,
-        draw,
-        packet,
-        out,
+        from: [0; 16],
+        port: MDNS_PORT,
+        draw: LEAST_REPLY_DRAW,
+        hold: LEAST_HOLD_DRAW,
+        packet: packet.clone(),
+        out: LEAST_OUT,
     };
-    match random.up_to(5) {
-        0 => {
-            let wrong = wrong_clock(random, last);
-            receive(wrong, MDNS_PORT, draw, packet, LEAST_OUT)
-        }
-        1 => {
-            let wrong = random.pick(&[0, LEAST_REPLY_DRAW - 1, MOST_REPLY_DRAW + 1, u64::MAX]);
-            receive(clock, MDNS_PORT, wrong, packet, LEAST_OUT)
-        }
-        2 => receive(clock, MDNS_PORT, draw, packet, small(random)),
+    Call::Receive(match random.up_to(6) {
+        0 => Receive {
+            clock: wrong_clock(random, last),
+            ..good
+        },
+        1 => Receive {
+            draw: random.pick(&[0, LEAST_REPLY_DRAW - 1, MOST_REPLY_DRAW + 1, u64::MAX]),
+            ..good
+        },
+        2 => Receive {
+            out: small(random),
+            ..good
+        },
         // "Refusal 5 for the port is now given only to responses."
-        3 if packet[2] & 0x80 != 0 => {
-            let wrong = random.pick(&[0, 53, MDNS_PORT - 1, MDNS_PORT + 1, 65536 + MDNS_PORT]);
-            receive(clock, wrong, draw, packet, LEAST_OUT)
-        }
-        4 => {
-            let short = packet[..HEADER - 1].into();
-            receive(clock, MDNS_PORT, draw, short, LEAST_OUT)
-        }
-        _ => {
+        3 if packet[2] & 0x80 != 0 => Receive {
+            port: random.pick(&[0, 53, MDNS_PORT - 1, MDNS_PORT + 1, 65536 + MDNS_PORT]),
+            ..good
+        },
+        4 => Receive {
+            packet: packet[..HEADER - 1].into(),
+            ..good
+        },
+        5 => Receive {
+            hold: random.pick(&[0, LEAST_HOLD_DRAW - 1, MOST_HOLD_DRAW + 1, u64::MAX]),
+            ..good
+        },
+        _ => Receive {
             // without its last byte a record is cut off
-            let cut = packet[..packet.len() - 1].into();
-            receive(clock, MDNS_PORT, draw, cut, LEAST_OUT)
-        }
-    }
+            packet: packet[..packet.len() - 1].into(),
+            ..good
+        },
+    })
 }
 
 /// Before the last time, or above 2^62.

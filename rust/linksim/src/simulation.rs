@@ -4,10 +4,12 @@
 use std::io;
 use std::rc::Rc;
 
+use reference::responder::holds::{Address, LEAST_HOLD_DRAW, MOST_HOLD_DRAW};
 use reference::setup::Setup;
 use reference::{MDNS_PORT, MOST_TIME};
 
-use crate::entry::{Call, Entry, Packet};
+use crate::console::Dues;
+use crate::entry::{Call, Entry, Packet, Receive};
 use crate::entry::{LEAST_OUT, LEAST_REPLY_DRAW, MOST_REPLY_DRAW, MOST_START_DRAW};
 use crate::hostile;
 use crate::link::{Link, Outcome};
@@ -55,6 +57,7 @@ enum Event {
     /// A packet is taken, from port 5353.
     Delivery {
         to: Target,
+        from: Address,
         packet: Packet,
     },
     /// A packet is taken from another port.
@@ -89,7 +92,19 @@ struct Seat {
     offset: i64,
     last: u64,
     /// For which due time a step is planned.
-    planned: [Option<u64>; 3],
+    planned: Dues,
+}
+
+/// The address of what a console runs; past the consoles, of other devices.
+fn address_of(number: usize) -> Address {
+    let mut address = [0; 16];
+    // IPv4 and IPv6 in turn
+    match number % 2 {
+        0 => address[10..15].copy_from_slice(&[0xff, 0xff, 10, 0, 0]),
+        _ => address[..2].copy_from_slice(&[0xfe, 0x80]),
+    }
+    address[15] = number as u8;
+    address
 }
 
 impl<'a> Simulation<'a> {
@@ -155,7 +170,9 @@ impl<'a> Simulation<'a> {
         match event {
             Event::Start { console } => self.start(console),
             Event::Cut { console } => self.cut(console),
-            Event::Delivery { to, packet } if !self.lives(to) => self.stale(to.console, packet),
+            Event::Delivery { to, from, packet } if !self.lives(to) => {
+                self.stale(to.console, from, packet)
+            }
             Event::Step { to, .. }
             | Event::Hostile { to }
             | Event::Astray { to, .. }
@@ -166,7 +183,7 @@ impl<'a> Simulation<'a> {
                 Ok(())
             }
             Event::Step { to, step, due } => self.step(to, step, due),
-            Event::Delivery { to, packet } => self.receive(to, packet),
+            Event::Delivery { to, from, packet } => self.receive(to, from, packet),
             Event::Hostile { to } => self.hostile(to),
             Event::Astray { to, packet } => self.astray(to, packet),
             Event::EarlyTick { to } => self.tick(to),
@@ -212,7 +229,7 @@ impl<'a> Simulation<'a> {
             setup: Some(setup.clone()),
             offset: clock as i64 - self.now as i64,
             last: clock,
-            planned: [None; 3],
+            planned: Dues::default(),
         };
         let outcome = self.play_call(console, Call::Start { clock, draw, setup })?;
         self.follow(console, outcome);
@@ -251,27 +268,34 @@ impl<'a> Simulation<'a> {
         Ok(())
     }
 
-    fn receive(&mut self, to: Target, packet: Packet) -> io::Result<()> {
-        self.receive_from(to, MDNS_PORT, packet)
+    fn receive(&mut self, to: Target, from: Address, packet: Packet) -> io::Result<()> {
+        self.receive_from(to, (from, MDNS_PORT), packet)
     }
 
-    fn receive_from(&mut self, to: Target, port: u64, packet: Packet) -> io::Result<()> {
-        let call = Call::Receive {
+    fn receive_from(
+        &mut self,
+        to: Target,
+        (from, port): (Address, u64),
+        packet: Packet,
+    ) -> io::Result<()> {
+        let receive = Receive {
             clock: self.clock(to.console),
+            from,
             port,
             draw: self.reply_draw(),
+            hold: self.hold_draw(),
             packet,
             out: self.out(),
         };
-        let outcome = self.play_call(to.console, call)?;
+        let outcome = self.play_call(to.console, Call::Receive(receive))?;
         self.follow(to.console, outcome);
         Ok(())
     }
 
     /// "One sent before a dock's start need not reach it", but it may reach the one that runs now.
-    fn stale(&mut self, console: usize, packet: Packet) -> io::Result<()> {
+    fn stale(&mut self, console: usize, from: Address, packet: Packet) -> io::Result<()> {
         match self.target(console) {
-            Some(to) if self.random.chance(30) => self.receive(to, packet),
+            Some(to) if self.random.chance(30) => self.receive(to, from, packet),
             _ => Ok(()),
         }
     }
@@ -285,29 +309,48 @@ impl<'a> Simulation<'a> {
         self.random.pick(&[LEAST_REPLY_DRAW, MOST_REPLY_DRAW, any])
     }
 
+    fn hold_draw(&mut self) -> u64 {
+        let any = LEAST_HOLD_DRAW + self.random.up_to(MOST_HOLD_DRAW - LEAST_HOLD_DRAW);
+        self.random.pick(&[LEAST_HOLD_DRAW, MOST_HOLD_DRAW, any])
+    }
+
+    /// The source address of a hostile packet: one of a few, or a responder's.
+    fn any_address(&mut self) -> Address {
+        let number = self.random.place(2 * self.seats.len());
+        address_of(number)
+    }
+
     fn hostile(&mut self, to: Target) -> io::Result<()> {
         let Some(setup) = self.seats[to.console].setup.clone() else {
             return Ok(());
         };
         let packet: Packet = hostile::packet(&mut self.random, &setup, &self.seen).into();
+        let from = self.any_address();
         // now and then all hear it, within any time
         if self.random.chance(50) {
             for other in self.others(to.console) {
                 let wait = self.random.up_to(200);
                 let packet = packet.clone();
-                self.at(wait, Event::Delivery { to: other, packet });
+                self.at(
+                    wait,
+                    Event::Delivery {
+                        to: other,
+                        from,
+                        packet,
+                    },
+                );
             }
         }
         if self.random.chance(20) {
             return self.astray(to, packet);
         }
-        self.receive(to, packet)
+        self.receive(to, from, packet)
     }
 
     /// As from a plain resolver, or refused if it is a response.
     fn astray(&mut self, to: Target, packet: Packet) -> io::Result<()> {
-        let port = self.random.pick(&OTHER_PORTS);
-        self.receive_from(to, port, packet)
+        let source = (self.any_address(), self.random.pick(&OTHER_PORTS));
+        self.receive_from(to, source, packet)
     }
 
     /// The responder that a console runs.
@@ -346,6 +389,7 @@ impl<'a> Simulation<'a> {
             let delay = self.style.delays.time(&mut self.random, self.limits.delay);
             let delivery = || Event::Delivery {
                 to,
+                from: address_of(from.console),
                 packet: packet.clone(),
             };
             self.at(delay, delivery());
@@ -371,8 +415,12 @@ impl<'a> Simulation<'a> {
         // a packet may come back to its sender
         if self.random.chance(self.style.extras) {
             let wait = self.random.up_to(self.limits.delay);
-            let packet = packet.clone();
-            self.at(wait, Event::Delivery { to: from, packet });
+            let echo = Event::Delivery {
+                to: from,
+                from: address_of(from.console),
+                packet: packet.clone(),
+            };
+            self.at(wait, echo);
         }
         self.seen.push(packet);
     }
@@ -393,7 +441,7 @@ impl<'a> Simulation<'a> {
     }
 
     /// Early ticks, refused calls and hostile packets, often close to a due time.
-    fn plan_extras(&mut self, to: Target, due: [Option<u64>; 3]) {
+    fn plan_extras(&mut self, to: Target, due: Dues) {
         let clock = self.clock(to.console);
         let waits: Vec<u64> = due
             .into_iter()

@@ -36,16 +36,13 @@ pub fn lines(played: &[(Entry, Option<Answer>)], consoles: usize) -> Vec<String>
 fn call_words(call: &Call) -> String {
     match call {
         Call::Start { draw, setup, .. } => format!("starts, draw {draw}, {}", setup_words(setup)),
-        Call::Receive {
-            packet: heard,
-            port: MDNS_PORT,
-            ..
-        } => format!("hears {}", packet(heard)),
-        Call::Receive {
-            packet: heard,
-            port,
-            ..
-        } => format!("gets from port {port} {}", packet(heard)),
+        Call::Receive(receive) => {
+            let (from, heard) = (hex(&receive.from), packet(&receive.packet));
+            match receive.port {
+                MDNS_PORT => format!("hears from {from} {heard}"),
+                port => format!("gets from {from} port {port} {heard}"),
+            }
+        }
         Call::Tick { .. } => "ticks".to_string(),
         Call::Cut => "is cut".to_string(),
     }

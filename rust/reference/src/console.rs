@@ -6,7 +6,8 @@ use crate::cache::{Cache, Found, MOST_ENTRIES, SLOT};
 use crate::message::{Message, Section};
 use crate::name::Labels;
 use crate::refusal::Refusal;
-use crate::responder::{Claim, Responder, LEAST_OUT};
+use crate::responder::holds::Address;
+use crate::responder::{Arrival, Claim, Responder, LEAST_OUT};
 use crate::setup::Setup;
 use crate::txt::{self, Answer, Source};
 
@@ -59,6 +60,16 @@ impl<'a> Fields<'a> {
 
     fn bytes(&mut self) -> Result<Vec<u8>, Trouble> {
         parse_bytes(self.word()?)
+    }
+
+    /// "FROM has 4 bytes (IPv4) or 16"
+    fn address(&mut self) -> Result<Address, Trouble> {
+        let bytes = self.bytes()?;
+        let mapped = match bytes.len() {
+            4 => [&[0; 10][..], &[0xff; 2], &bytes].concat(),
+            _ => bytes,
+        };
+        mapped.try_into().map_err(|_| Trouble::BadLine)
     }
 
     fn end(mut self) -> Result<(), Trouble> {
@@ -183,6 +194,7 @@ impl Console {
             b"recv" => self.recv(fields),
             b"tick" => self.tick(fields),
             b"claims" => self.claims(fields),
+            b"holds" => self.holds(fields),
             b"out" => self.out(fields),
             b"put" => self.put(fields),
             b"look" => self.look(fields),
@@ -219,13 +231,23 @@ impl Console {
 
     fn recv(&mut self, mut fields: Fields) -> Result<String, Trouble> {
         let now = fields.number()?;
+        let from = fields.address()?;
         let port = fields.number()?;
         let draw = fields.number()?;
+        let hold_draw = fields.number()?;
         let packet = fields.bytes()?;
         let lent = at_most(fields.optional_number(LEAST_OUT as u64)?, OUT_BUFFER)?;
         fields.end()?;
         let out = &mut self.out[..lent];
-        let answered = self.responder.receive(now, port, draw, &packet, out)?;
+        let arrival = Arrival {
+            now,
+            from,
+            port,
+            draw,
+            hold_draw,
+            packet: &packet,
+        };
+        let answered = self.responder.receive(arrival, out)?;
         let shown = |length| hex(&self.out[..length]);
         Ok(match (answered.multicast, answered.unicast) {
             (Some(length), _) => format!("sent {}", shown(length)),
@@ -260,6 +282,19 @@ impl Console {
             due_word(responder.host.due()),
             due_word(responder.reply),
         ))
+    }
+
+    /// ` FROM DUE` of each, in order of arrival.
+    fn holds(&self, fields: Fields) -> Result<String, Trouble> {
+        fields.end()?;
+        let holds = &self.responder.holds;
+        if holds.is_empty() {
+            return Ok("holds -".to_string());
+        }
+        let shown = holds
+            .iter()
+            .map(|hold| format!(" {} {}", hex(&hold.from), hold.due));
+        Ok(format!("holds{}", shown.collect::<String>()))
     }
 
     fn out(&self, mut fields: Fields) -> Result<String, Trouble> {

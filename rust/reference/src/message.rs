@@ -9,6 +9,7 @@ pub const HEADER: usize = 12;
 pub const MOST_MESSAGE: usize = 8972;
 
 const RESPONSE_BIT: u16 = 0x8000;
+const TRUNCATED_BIT: u16 = 0x0200;
 const OPCODE_AND_RCODE: u16 = 0x780F;
 /// Type, class, TTL and rdata length.
 const FIXED_PART: usize = 10;
@@ -294,6 +295,11 @@ impl Message {
 
     pub fn is_response(&self) -> bool {
         self.flags & RESPONSE_BIT != 0
+    }
+
+    /// TC: more known answers follow.
+    pub fn is_truncated(&self) -> bool {
+        self.flags & TRUNCATED_BIT != 0
     }
 
     pub fn section(&self, section: Section) -> impl Iterator<Item = &Record> {

@@ -1,10 +1,13 @@
 //! "A claim's life" and "Which answers go out": start, packet received, tick.
 
+pub mod holds;
 mod plain;
 #[cfg(test)]
 mod tests;
 
 use std::cmp::Ordering;
+
+use holds::{Address, Hold, LEAST_HOLD_DRAW, MOST_HOLD_DRAW};
 
 use crate::message::{Message, Section};
 use crate::order;
@@ -64,6 +67,21 @@ pub struct Responder {
     pub reply: Option<u64>,
     /// When each own record was last multicast, by `Kind`.
     pub multicast: [Option<u64>; KINDS],
+    /// Held queries, in order of arrival.
+    pub holds: Vec<Hold>,
+}
+
+/// A packet received, with its source and the two draws.
+#[derive(Clone, Copy, Debug)]
+pub struct Arrival<'a> {
+    pub now: u64,
+    pub from: Address,
+    pub port: u64,
+    /// For a PTR reply.
+    pub draw: u64,
+    /// For holding a truncated query.
+    pub hold_draw: u64,
+    pub packet: &'a [u8],
 }
 
 /// The lengths of the packets that answer a received one.
@@ -113,6 +131,7 @@ impl Default for Responder {
             host: Claim::Lost,
             reply: None,
             multicast: [None; KINDS],
+            holds: Vec::new(),
         }
     }
 }
@@ -140,22 +159,18 @@ impl Responder {
         })
     }
 
-    /// Takes a packet from a source port. "Receiving takes no due step." A packet
-    /// that is sent is written to `out`.
-    pub fn receive(
-        &mut self,
-        now: u64,
-        port: u64,
-        draw: u64,
-        packet: &[u8],
-        out: &mut [u8],
-    ) -> Result<Answered, Refusal> {
+    /// Takes a packet. "Receiving takes no due step." A packet that is sent is
+    /// written to `out`.
+    pub fn receive(&mut self, arrival: Arrival, out: &mut [u8]) -> Result<Answered, Refusal> {
+        let Arrival { now, draw, .. } = arrival;
         self.check_time(now)?;
-        if !(LEAST_REPLY_DRAW..=MOST_REPLY_DRAW).contains(&draw) {
+        if !(LEAST_REPLY_DRAW..=MOST_REPLY_DRAW).contains(&draw)
+            || !(LEAST_HOLD_DRAW..=MOST_HOLD_DRAW).contains(&arrival.hold_draw)
+        {
             return Err(Refusal::Draw);
         }
         check_out(out)?;
-        let message = Message::read_from(port, packet)?;
+        let message = Message::read_from(arrival.port, arrival.packet)?;
         self.check_setup()?;
 
         self.last = now;
@@ -164,12 +179,17 @@ impl Responder {
             self.take_conflict(now, &message, ClaimName::Host);
             return Ok(Answered::default());
         }
-        if port != MDNS_PORT {
+        if arrival.port != MDNS_PORT {
             let unicast = self.plain_reply(&message, out);
             return Ok(Answered {
                 unicast,
                 ..Answered::default()
             });
+        }
+        self.add_known_answers(arrival.from, &message);
+        if self.can_be_held(arrival.from, &message) {
+            self.hold(arrival, &message);
+            return Ok(Answered::default());
         }
         let answers = self.answers(now, &message);
         self.take_probe(now, &message, ClaimName::Instance);
@@ -191,6 +211,7 @@ impl Responder {
 
     /// "A tick walks the due steps, instance, host, then PTR reply: one with
     /// nothing to send is taken and passed, the first that sends ends the tick."
+    /// A due hold "is a tick's last step, oldest first".
     pub fn tick(&mut self, now: u64, out: &mut [u8]) -> Result<Option<Sent>, Refusal> {
         self.check_time(now)?;
         check_out(out)?;
@@ -200,11 +221,17 @@ impl Responder {
         let sent = self
             .claim_step(now, ClaimName::Instance, out)
             .or_else(|| self.claim_step(now, ClaimName::Host, out))
-            .or_else(|| self.reply_step(now, out));
-        let more = [self.instance.due(), self.host.due(), self.reply]
-            .into_iter()
-            .any(|due| is_due(due, now));
+            .or_else(|| self.reply_step(now, out))
+            .or_else(|| self.hold_steps(now, out));
+        let more = self.dues().any(|due| due <= now);
         Ok(sent.map(|length| Sent { length, more }))
+    }
+
+    /// When the steps to come are due.
+    pub fn dues(&self) -> impl Iterator<Item = u64> + '_ {
+        let steps = [self.instance.due(), self.host.due(), self.reply];
+        let holds = self.holds.iter().map(|hold| hold.due);
+        steps.into_iter().flatten().chain(holds)
     }
 
     fn claim(&self, name: ClaimName) -> Claim {
@@ -224,16 +251,11 @@ impl Responder {
     /// Refusal 1: "time above 2^62, or before the state's last time, [...] or a
     /// time kept in the state above 2^62 + 2,000".
     fn check_time(&self, now: u64) -> Result<(), Refusal> {
-        let kept = [
-            Some(self.last),
-            self.instance.due(),
-            self.host.due(),
-            self.reply,
-        ];
-        let kept_too_late = kept
-            .into_iter()
-            .chain(self.multicast)
-            .flatten()
+        let multicasts = self.multicast.into_iter().flatten();
+        let kept_too_late = self
+            .dues()
+            .chain(multicasts)
+            .chain([self.last])
             .any(|time| time > MOST_KEPT_TIME);
         if now > MOST_TIME || now < self.last || kept_too_late {
             return Err(Refusal::Time);
@@ -348,12 +370,16 @@ impl Responder {
     /// "A record is due when its claim is held (PTR: the instance claim), a
     /// question of a query has its name, its type or 255, and class 1 or 255."
     fn is_asked_for(&self, query: &Message, record: &OwnRecord) -> bool {
-        self.claim(record.kind.claim()).is_held()
-            && query.questions.iter().any(|question| {
-                question.name.equals(&record.owner)
-                    && self.is_asked_by(question.rtype, record)
-                    && matches!(question.class(), class::IN | class::ANY)
-            })
+        self.claim(record.kind.claim()).is_held() && self.is_in_question(query, record)
+    }
+
+    /// The same, whether the claim is held or not.
+    fn is_in_question(&self, query: &Message, record: &OwnRecord) -> bool {
+        query.questions.iter().any(|question| {
+            question.name.equals(&record.owner)
+                && self.is_asked_by(question.rtype, record)
+                && matches!(question.class(), class::IN | class::ANY)
+        })
     }
 
     /// Whether a question of this type asks for a record under the same name: a

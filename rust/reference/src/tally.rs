@@ -53,7 +53,8 @@ impl Tally {
 
 /// The kind of an answer to a message from another port than 5353.
 fn other_port(call: &str, line: &str, answer: &str) -> Option<String> {
-    let port = line.split(' ').nth(2)?;
+    let port_at = if call == "recv" { 3 } else { 2 };
+    let port = line.split(' ').nth(port_at)?;
     if answer == "bad line" || port.parse() == Ok(MDNS_PORT) {
         return None;
     }
@@ -146,8 +147,12 @@ fn kinds(call: &str, answer: &str, entries: &str) -> Vec<String> {
     match (call, fields.as_slice()) {
         (_, ["bad", "line"]) => vec!["bad line".to_string()],
         (_, ["refused", number]) => vec![format!("{call} refused {number}")],
-        (_, ["sent", packet]) => {
-            let mut kinds = vec![format!("{call} sent {}", packet_kind(packet))];
+        (_, ["sent", packet, more @ ..]) => {
+            let more = more
+                .iter()
+                .map(|word| format!(" {word}"))
+                .collect::<String>();
+            let mut kinds = vec![format!("{call} sent {}{more}", packet_kind(packet))];
             let nsec = records_of(packet)
                 .iter()
                 .filter(|record| record.rtype == rtype::NSEC)
@@ -158,9 +163,8 @@ fn kinds(call: &str, answer: &str, entries: &str) -> Vec<String> {
             kinds
         }
         (_, ["unicast", packet]) => plain_kinds(packet),
-        (_, ["sent", packet, "more"]) => {
-            vec![format!("{call} sent {} more", packet_kind(packet))]
-        }
+        ("holds", ["holds", "-"]) => vec!["holds none".to_string()],
+        ("holds", ["holds", shown @ ..]) => vec![format!("holds of {}", shown.len() / 2)],
         ("claims", [_, "instance", state, due, "host", host_state, host_due, "reply", reply]) => {
             let step = |state: &str, due: &str| match (state, due) {
                 ("held", "-") => String::new(),

@@ -8,6 +8,8 @@ use std::ops::RangeInclusive;
 pub const START: RangeInclusive<u64> = 0..=250;
 /// The wait before a shared record's reply.
 pub const REPLY: RangeInclusive<u64> = 20..=120;
+/// The wait for the known answers that follow a query in further packets.
+pub const HOLD: RangeInclusive<u64> = 400..=500;
 
 pub struct Draws<R = File> {
     source: R,
@@ -46,8 +48,8 @@ mod tests {
 
     #[test]
     fn every_value_of_a_range_comes_up_equally_often() {
-        for range in [START, REPLY] {
-            let mut count = [0; 256];
+        for range in [START, REPLY, HOLD] {
+            let mut count = [0; 502];
             for byte in 0..=255 {
                 if let Some(value) = drawn(&[byte], range.clone()) {
                     count[value as usize] += 1;
@@ -64,6 +66,7 @@ mod tests {
     fn a_byte_too_great_is_thrown_away() {
         assert_eq!(drawn(&[251, 255, 7], START), Some(7));
         assert_eq!(drawn(&[202, 101], REPLY), Some(20));
+        assert_eq!(drawn(&[202, 100], HOLD), Some(500));
     }
 
     #[test]
@@ -71,5 +74,6 @@ mod tests {
         let mut draws = Draws::open().unwrap();
         assert!(START.contains(&draws.within(&START).unwrap()));
         assert!(REPLY.contains(&draws.within(&REPLY).unwrap()));
+        assert!(HOLD.contains(&draws.within(&HOLD).unwrap()));
     }
 }

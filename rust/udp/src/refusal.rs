@@ -13,7 +13,7 @@ pub fn text(refusal: Refusal) -> String {
 fn meaning(refusal: Refusal) -> &'static str {
     match refusal {
         Refusal::Time => "the time is too great or runs backwards",
-        Refusal::Draw => "a draw outside its range: 0..250 to start, 20..120 for a packet",
+        Refusal::Draw => "a draw outside its range: 0..250 to start, 20..120 and 400..500 for a packet",
         Refusal::Buffer => "the out buffer is under 1,452 bytes",
         Refusal::Length => "a message under 12 or over 8,972 bytes",
         Refusal::Header => "opcode or RCODE not zero, or a response from a port other than 5353",

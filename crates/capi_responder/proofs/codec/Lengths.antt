@@ -11,6 +11,7 @@ use Rattle.claims.specs.declared.Progress.{Progress}
 use Rattle.capi_responder.specs.codec.Numbers.{bytes64}
 use Rattle.capi_responder.specs.codec.Layout as layout
 use Rattle.capi_responder.specs.codec.Codec.{labelBytes, serviceBytes, stringsBytes, setupBytes, lastBytes, multicastsBytes, progressBytes, SetupFits}
+use Rattle.capi_responder.specs.codec.Codec.{setBytes, holdBytes, holdsBytes}
 
 pub length-label : (l : Label) → length (l .bytes) ≡ layout.mostLabel → length (labelBytes l) ≡ layout.labelSize
 length-label l e = simp length-append (omega arith)
@@ -26,5 +27,5 @@ unfolding setupBytes
 length-setup s h = simp length-append (omega arith)
 
 pub length-progress : (progress : Progress) → layout.setupSize + length (progressBytes progress) ≡ layout.stateSize
-unfolding progressBytes multicastsBytes lastBytes bytes64
+unfolding progressBytes multicastsBytes lastBytes holdsBytes holdBytes setBytes bytes64
 length-progress progress = refl

@@ -14,11 +14,12 @@ use Rattle.claims.specs.declared.Progress.{Progress}
 use Rattle.capi_responder.specs.codec.Numbers.{word64, bytes64, Fits64}
 use Rattle.capi_responder.specs.codec.Layout as layout
 use Rattle.capi_responder.specs.codec.Parts.{labelAt, serviceAt, stringsAt, setupAt, claimOf, claimAt, progressAt}
-use Rattle.capi_responder.specs.codec.Codec.{claimTag, claimDue, claimBytes, whenBytes, lastBytes, multicastsBytes, progressBytes, ProgressFits}
+use Rattle.capi_responder.specs.codec.Codec.{claimTag, claimDue, claimBytes, whenBytes, lastBytes, multicastsBytes, setBytes, holdBytes, holdsBytes, progressBytes, ProgressFits}
 use Rattle.capi_responder.specs.codec.Codec.{labelBytes, serviceBytes, bytes16, stringsBytes, flagByte, setupBytes, SetupFits}
 use Rattle.capi_responder.proofs.codec.Lengths.{length-label, length-service, length-strings}
 use Rattle.capi_responder.proofs.codec.Stands.{Stands, front, behind, part-read, byte-read, flag-read, word16-read, number-read, case-read, when-read}
 use Rattle.capi_responder.proofs.codec.Multicast.{multicasts-read}
+use Rattle.capi_responder.proofs.codec.Held.{holds-read}
 
 -- ---- the set-up
 
@@ -88,18 +89,20 @@ claim-read {b} {at} c h s =
 
 module _ {b : List ℕ} where
   pub progress-read : (progress : Progress) → ProgressFits progress → Stands b layout.instanceClaim (progressBytes progress) → progressAt b ≡ progress
-  unfolding progressAt progressBytes multicastsBytes lastBytes bytes64
+  unfolding progressAt progressBytes multicastsBytes lastBytes holdsBytes holdBytes setBytes bytes64
   progress-read progress h instance =
       let host = behind (claimBytes (progress .instance)) _ instance layout.caseSize refl in
       let sent = behind (claimBytes (progress .host)) _ host layout.caseSize refl in
       let reply = behind (multicastsBytes (progress .sent)) _ sent layout.multicastsSize refl in
-      let draw = behind (whenBytes (progress .reply)) _ reply layout.caseSize refl in
+      let holds = behind (whenBytes (progress .reply)) _ reply layout.caseSize refl in
+      let draw = behind (holdsBytes (progress .holds)) _ holds layout.holdsSize refl in
       let last = behind (bytes64 (progress .draw)) _ draw layout.numberSize refl in
       λ i. record {
         instance = claim-read (progress .instance) (h .instance) (front _ _ instance) i;
         host = claim-read (progress .host) (h .host) (front _ _ host) i;
         sent = multicasts-read (progress .sent) (h .sent) (front _ _ sent) i;
         reply = when-read (progress .reply) (h .reply) (front _ _ reply) i;
+        holds = holds-read (progress .holds) (h .holds) (front _ _ holds) i;
         draw = number-read (progress .draw) (h .draw) (front _ _ draw) i;
         last = number-read (progress .last) (h .last) last i;
       }

@@ -14,12 +14,16 @@ use Rattle.claims.specs.declared.records.Own.the-variants.{Ptr}
 use Rattle.claims.specs.declared.ClaimState.{ClaimState}
 use Rattle.claims.specs.declared.When.{When}
 use Rattle.claims.specs.declared.Multicasts.{Multicasts}
+use Rattle.claims.specs.declared.holds.Hold.{Hold}
+use Rattle.claims.specs.declared.holds.Holds.{Holds}
+use Rattle.claims.specs.declared.records.Set.{Set}
 use Rattle.claims.specs.declared.Progress.{Progress}
 use Rattle.claims.proofs.records.Sets.{index-low, at-index}
 use Rattle.capi_responder.specs.codec.Numbers.{bytes64, Fits64}
 use Rattle.capi_responder.specs.codec.Layout as layout
 use Rattle.capi_responder.specs.codec.Codec.{claimDue, whenTime, caseBytes, claimBytes, whenBytes, lastBytes, multicastsBytes, progressBytes}
-use Rattle.capi_responder.specs.codec.Codec.{MulticastsFit, ProgressFits}
+use Rattle.capi_responder.specs.codec.Codec.{setBytes, holdBytes, holdsBytes}
+use Rattle.capi_responder.specs.codec.Codec.{MulticastsFit, HoldFits, HoldsFit, ProgressFits}
 use Rattle.capi_responder.specs.encoder.Laid.{Laid}
 use Rattle.capi_responder.proofs.encoder.Parts.{laid-next, laid-as}
 
@@ -83,17 +87,49 @@ module _ (m : Multicasts) where
         low : (o : Own) → indexOf o < i
         low o = omega (arith, index-low o)
 
-module _ (progress : Progress) {l₀ l₁ l₂ l₃ l₄ l₅ l₆ : List ℕ} where
+-- ---- held queries, one behind the other
+
+abbrev PutSet : List ℕ → ℕ → Set → List ℕ → Type 0
+PutSet was at set out = Laid was at (setBytes set) out
+
+abbrev PutHold : List ℕ → ℕ → Hold → List ℕ → Type 0
+PutHold was at h out = Laid was at (holdBytes h) out × HoldFits h
+
+module _ (h : Hold) {at : ℕ} {l₀ l₁ l₂ l₃ l₄ l₅ : List ℕ} where
+  pub hold-laid : PutNumber l₀ at (h .from .high) l₁ → PutNumber l₁ (layout.low at) (h .from .low) l₂ → PutWhen l₂ (layout.due at) (h .due) l₃
+      → PutSet l₃ (layout.asked at) (h .asked) l₄ → PutSet l₄ (layout.known at) (h .known) l₅ → PutHold l₀ at h l₅
+  unfolding holdBytes setBytes bytes64
+  hold-laid high low due asked known = (
+    laid-next (bytes64 (h .from .high)) _ refl (high .0)
+        (laid-next (bytes64 (h .from .low)) _ refl (low .0)
+        (laid-next (whenBytes (h .due)) _ refl (due .0) (laid-next (setBytes (h .asked)) _ refl asked known))),
+    record { high = high .1; low = low .1; due = due .1 },
+  )
+
+module _ (holds : Holds) {l₀ l₁ l₂ l₃ l₄ : List ℕ} where
+  pub holds-laid : PutHold l₀ (layout.hold 0) (holds .first) l₁ → PutHold l₁ (layout.hold 1) (holds .second) l₂
+      → PutHold l₂ (layout.hold 2) (holds .third) l₃ → PutHold l₃ (layout.hold 3) (holds .fourth) l₄
+      → Laid l₀ layout.holds (holdsBytes holds) l₄ × HoldsFit holds
+  unfolding holdsBytes holdBytes setBytes bytes64
+  holds-laid first second third fourth = (
+    laid-next (holdBytes (holds .first)) _ refl (first .0)
+        (laid-next (holdBytes (holds .second)) _ refl (second .0) (laid-next (holdBytes (holds .third)) _ refl (third .0) (fourth .0))),
+    record { first = first .1; second = second .1; third = third .1; fourth = fourth .1 },
+  )
+
+module _ (progress : Progress) {l₀ l₁ l₂ l₃ l₄ l₅ l₆ l₇ : List ℕ} where
   pub progress-laid : PutClaim l₀ layout.instanceClaim (progress .instance) l₁ → PutClaim l₁ layout.hostClaim (progress .host) l₂
       → Laid l₂ layout.multicasts (multicastsBytes (progress .sent)) l₃ × MulticastsFit (progress .sent) → PutWhen l₃ layout.reply (progress .reply) l₄
-      → PutNumber l₄ layout.draw (progress .draw) l₅ → PutNumber l₅ layout.last (progress .last) l₆
-      → Laid l₀ layout.setupSize (progressBytes progress) l₆ × ProgressFits progress
-  unfolding progressBytes multicastsBytes lastBytes bytes64
-  progress-laid instance host sent reply draw last = (
+      → Laid l₄ layout.holds (holdsBytes (progress .holds)) l₅ × HoldsFit (progress .holds)
+      → PutNumber l₅ layout.draw (progress .draw) l₆ → PutNumber l₆ layout.last (progress .last) l₇
+      → Laid l₀ layout.setupSize (progressBytes progress) l₇ × ProgressFits progress
+  unfolding progressBytes multicastsBytes lastBytes holdsBytes holdBytes setBytes bytes64
+  progress-laid instance host sent reply holds draw last = (
     laid-next (claimBytes (progress .instance)) _ refl (instance .0)
         (laid-next (claimBytes (progress .host)) _ refl (host .0)
         (laid-next (multicastsBytes (progress .sent)) _ refl (sent .0)
         (laid-next (whenBytes (progress .reply)) _ refl (reply .0)
-        (laid-next (bytes64 (progress .draw)) _ refl (draw .0) (last .0))))),
-    record { instance = instance .1; host = host .1; sent = sent .1; reply = reply .1; draw = draw .1; last = last .1 },
+        (laid-next (holdsBytes (progress .holds)) _ refl (holds .0)
+        (laid-next (bytes64 (progress .draw)) _ refl (draw .0) (last .0)))))),
+    record { instance = instance .1; host = host .1; sent = sent .1; reply = reply .1; holds = holds .1; draw = draw .1; last = last .1 },
   )

@@ -15,15 +15,18 @@ use Rattle.claims.specs.Time.{lastTime, lastKept, sentOf, dueBy}
 use Rattle.claims.specs.Refusals as refusals
 use Rattle.claims.specs.steps.Steps.{moreDue}
 use Rattle.claims.specs.steps.Tick.{withLast}
+use Rattle.claims.specs.holds.Holds.{places, holdAt}
+use Rattle.claims.specs.declared.holds.Holds.{Holds}
 use Rattle.claims.specs.declared.records.Own.{Own}
 use Rattle.claims.specs.declared.records.Own.the-variants.{Ptr, Srv, Txt, A, Aaaa, InstanceNsec, HostNsec}
 use Rattle.claims.specs.declared.Progress.{Progress}
 use Rattle.capi_responder.specs.codec.Numbers.{word64, bytes64, Fits64}
 use Rattle.capi_responder.specs.codec.Layout as layout
-use Rattle.capi_responder.specs.codec.Parts.{claimAt, whenAt, sentAt, multicastsAt, progressAt}
-use Rattle.capi_responder.specs.codec.Codec.{whenTime, claimBytes, whenBytes, lastBytes, multicastsBytes, progressBytes, MulticastsFit, ProgressFits}
-use Rattle.capi_responder.specs.idle.Idle.{claimRests, replyRests, whenKept, multicastsKept, nothingDue}
+use Rattle.capi_responder.specs.codec.Parts.{claimAt, whenAt, sentAt, multicastsAt, holdsAt, progressAt}
+use Rattle.capi_responder.specs.codec.Codec.{whenTime, claimBytes, whenBytes, lastBytes, multicastsBytes, holdsBytes, progressBytes, MulticastsFit, ProgressFits}
+use Rattle.capi_responder.specs.idle.Idle.{claimRests, replyRests, whenKept, multicastsKept, noneHeld, nothingDue}
 use Rattle.capi_responder.proofs.idle.Bytes.{Bytes, number-stands}
+use Rattle.capi_responder.proofs.idle.Unheld.{Unheld, unheld}
 use Rattle.capi_responder.proofs.idle.Cases.{ClaimAtRest, WhenAtRest, claim-rests, when-kept, reply-rests}
 
 also : {x y : Bool} → x ≡ true → y ≡ true → (x && y) ≡ true
@@ -72,13 +75,13 @@ module _ (b : List ℕ) (bytes : Bytes b) (long : length b ≡ layout.stateSize)
         host-nsec = when-kept b bytes 651 (omega arith) (h₆ .0);
       }
 
-  module _ (instance : ClaimAtRest b 579 time) (host : ClaimAtRest b 588 time) (w : EachKept b) (reply : WhenAtRest b 660) where
+  module _ (instance : ClaimAtRest b 579 time) (host : ClaimAtRest b 588 time) (w : EachKept b) (reply : WhenAtRest b 660) (held : Unheld b) where
     -- the parts, one behind the other
     stands : drop layout.setupSize b ≡ progressBytes (progressAt b)
     unfolding progressAt progressBytes multicastsBytes lastBytes multicastsAt sentAt bytes64
     stands =
-        let done : length b ≤ 685 = omega arith in
-        let ended : drop 685 b ≡ [] = drop-of-length-le b done in
+        let done : length b ≤ 841 = omega arith in
+        let ended : drop 841 b ≡ [] = drop-of-length-le b done in
         instance .same
         ∙ ap (λ (l : List ℕ). claimBytes (claimAt b 579) ++ l) (host .same
         ∙ ap (λ (l : List ℕ). claimBytes (claimAt b 588) ++ l) (w .ptr .same
@@ -89,9 +92,10 @@ module _ (b : List ℕ) (bytes : Bytes b) (long : length b ≡ layout.stateSize)
         ∙ ap (λ (l : List ℕ). whenBytes (whenAt b 633) ++ l) (w .instance-nsec .same
         ∙ ap (λ (l : List ℕ). whenBytes (whenAt b 642) ++ l) (w .host-nsec .same
         ∙ ap (λ (l : List ℕ). whenBytes (whenAt b 651) ++ l) (reply .same
-        ∙ ap (λ (l : List ℕ). whenBytes (whenAt b 660) ++ l) (number-stands b bytes 669 (omega arith)
-        ∙ ap (λ (l : List ℕ). bytes64 (word64 b 669) ++ l) (number-stands b bytes 677 (omega arith)
-        ∙ ap (λ (l : List ℕ). bytes64 (word64 b 677) ++ l) ended)))))))))))
+        ∙ ap (λ (l : List ℕ). whenBytes (whenAt b 660) ++ l) (held .same
+        ∙ ap (λ (l : List ℕ). holdsBytes (holdsAt b) ++ l) (number-stands b bytes 825 (omega arith)
+        ∙ ap (λ (l : List ℕ). bytes64 (word64 b 825) ++ l) (number-stands b bytes 833 (omega arith)
+        ∙ ap (λ (l : List ℕ). bytes64 (word64 b 833) ++ l) ended))))))))))))
 
     sent-fits : (o : Own) → Fits64 (whenTime (sentOf o (multicastsAt b)))
     unfolding multicastsAt sentAt
@@ -113,12 +117,12 @@ module _ (b : List ℕ) (bytes : Bytes b) (long : length b ≡ layout.stateSize)
         also (w .ptr .kept) (also (w .srv .kept) (also (w .txt .kept) (also (w .a .kept) (also (w .aaaa .kept)
         (also (w .instance-nsec .kept) (also (w .host-nsec .kept) refl))))))
 
-    module _ (before : word64 b 677 ≤ time) (drawn : word64 b 669 ≤ 250) where
+    module _ (before : word64 b 833 ≤ time) (drawn : word64 b 825 ≤ 250) where
       all-kept : refusals.kept lastKept (progressAt b) ≡ true
       unfolding refusals.kept progressAt
       all-kept =
-          let k : word64 b 677 ≤ lastKept = omega arith in
-          also (instance .rests .kept) (also (host .rests .kept) (also sent-kept (also (reply .kept) (le-leb (word64 b 677) lastKept k))))
+          let k : word64 b 833 ≤ lastKept = omega arith in
+          also (instance .rests .kept) (also (host .rests .kept) (also sent-kept (also (reply .kept) (also (held .kept) (le-leb (word64 b 833) lastKept k)))))
 
       all-fits : ProgressFits (withLast time (progressAt b))
       unfolding progressAt
@@ -127,13 +131,14 @@ module _ (b : List ℕ) (bytes : Bytes b) (long : length b ≡ layout.stateSize)
         host = host .fits;
         sent = sent-sized;
         reply = reply .fits;
+        holds = held .fits;
         draw = omega (arith, drawn);
         last = omega (arith, early);
       }
 
-  none-due : ClaimAtRest b 579 time → ClaimAtRest b 588 time → WhenAtRest b 660 × (_≡_ {A = Bool} (dueBy (whenAt b 660) time) false) → moreDue (progressAt b) time ≡ false
+  none-due : ClaimAtRest b 579 time → ClaimAtRest b 588 time → WhenAtRest b 660 × (_≡_ {A = Bool} (dueBy (whenAt b 660) time) false) → Unheld b → moreDue (progressAt b) time ≡ false
   unfolding moreDue someOf progressAt
-  none-due instance host reply = nor (instance .rests .rests) (nor (host .rests .rests) (nor (reply .1) refl))
+  none-due instance host reply held = nor (instance .rests .rests) (nor (host .rests .rests) (nor (reply .1) (ap (λ (x : Holds). someOf (λ p. dueBy (holdAt p x .due) time) places) (held .none))))
 
   pub at-rest : nothingDue b time ≡ true → AtRest b time
   unfolding nothingDue progressAt
@@ -141,19 +146,21 @@ module _ (b : List ℕ) (bytes : Bytes b) (long : length b ≡ layout.stateSize)
       let h₀ = both (claimRests b 579 time) _ .0 h in
       let h₁ = both (claimRests b 588 time) _ .0 (h₀ .1) in
       let h₂ = both (replyRests b 660 time) _ .0 (h₁ .1) in
-      let h₃ = both (leb (word64 b 669) 250) _ .0 (h₂ .1) in
-      let h₄ = both (leb (word64 b 677) time) _ .0 (h₃ .1) in
+      let h₅ = both (noneHeld b) _ .0 (h₂ .1) in
+      let h₃ = both (leb (word64 b 825) 250) _ .0 (h₅ .1) in
+      let h₄ = both (leb (word64 b 833) time) _ .0 (h₃ .1) in
       let instance = claim-rests b bytes 579 (omega arith) time (h₀ .0) in
       let host = claim-rests b bytes 588 (omega arith) time (h₁ .0) in
       let reply = reply-rests b bytes 660 (omega arith) time (h₂ .0) in
+      let held = unheld b bytes long (h₅ .0) in
       let w = each-kept (h₄ .1) in
-      let drawn : word64 b 669 ≤ 250 = leb-true _ _ (h₃ .0) in
-      let before : word64 b 677 ≤ time = leb-true _ _ (h₄ .0) in
+      let drawn : word64 b 825 ≤ 250 = leb-true _ _ (h₃ .0) in
+      let before : word64 b 833 ≤ time = leb-true _ _ (h₄ .0) in
       record {
-        same = stands instance host w (reply .0);
-        kept = all-kept instance host w (reply .0) before drawn;
+        same = stands instance host w (reply .0) held;
+        kept = all-kept instance host w (reply .0) held before drawn;
         before = before;
         drawn = drawn;
-        quiet = none-due instance host reply;
-        fits = all-fits instance host w (reply .0) before drawn;
+        quiet = none-due instance host reply held;
+        fits = all-fits instance host w (reply .0) held before drawn;
       }

@@ -1,10 +1,16 @@
-use Rattle.capi_responder.proofs.Calling.{of-receive, call-kept, call-taken}
+use lib.ListN.{length}
+use Rattle.claims.specs.declared.holds.Address.{Address}
+use Rattle.responder.specs.Handed.{Arrival}
+use Rattle.capi_responder.proofs.Calling.{of-receive-from, call-kept, call-taken}
 use borrow.Author.Needs.{needs}
 use Rattle.capi_responder.proofs.kurgashel_receive.Statement.{statement}
 use Rattle.capi_responder.proofs.kurgashel_receive.Tie as tie
 
 read-state-requires : tie.Need-read-state-requires
 read-state-requires c κs = search needs
+
+address-of-requires : tie.Need-address-of-requires
+address-of-requires c κs = search needs
 
 receive-requires : tie.Need-receive-requires
 receive-requires c κs = search needs
@@ -25,9 +31,11 @@ returns : tie.Need-returns
 returns c =
     let refusal = c .before .before in
     let receive = refusal .before .before .before in
-    let read = receive .before .before in
-    let a = read .before .before .before .before .before .args in
-    call-kept (a .state .now) (a .out .now) _ (read .read-state .ensures) (of-receive (receive .receive .ensures)) (refusal .refusal-of .ensures)
+    let from = receive .before .before in
+    let read = from .before in
+    let a = read .before .before .before .before .before .before .args in
+    let arrival : Address → Arrival = λ x. record { time = a .time; from = x; port = a .port; draw = a .draw; hold = a .hold; packet = a .packet .now; room = length (a .out .now) } in
+    call-kept (a .state .now) (a .out .now) _ (read .read-state .ensures) (of-receive-from arrival (from .address-of .ensures) (receive .receive .ensures)) (refusal .refusal-of .ensures)
     (c .answered .ensures) (c .before .if1 .taken)
 
 put-progress-requires : tie.Need-put-progress-requires
@@ -48,9 +56,11 @@ returns-2 c =
     let if1 = put .before .before .before .before in
     let refusal = if1 .before in
     let receive = refusal .before .before .before in
-    let read = receive .before .before in
-    let a = read .before .before .before .before .before .args in
-    call-taken (a .state .now) (a .out .now) _ (read .read-state .ensures) (of-receive (receive .receive .ensures)) (refusal .refusal-of .ensures)
+    let from = receive .before .before in
+    let read = from .before in
+    let a = read .before .before .before .before .before .before .args in
+    let arrival : Address → Arrival = λ x. record { time = a .time; from = x; port = a .port; draw = a .draw; hold = a .hold; packet = a .packet .now; room = length (a .out .now) } in
+    call-taken (a .state .now) (a .out .now) _ (read .read-state .ensures) (of-receive-from arrival (from .address-of .ensures) (receive .receive .ensures)) (refusal .refusal-of .ensures)
     (c .answered2 .ensures) (if1 .if1 .left) (put .put-progress .ensures)
 
 pub kurgashel-receive-spec : {M : Type 1} → statement M
@@ -58,6 +68,7 @@ kurgashel-receive-spec =
     tie.close
     (tie.spec
     read-state-requires
+    address-of-requires
     receive-requires
     refusal-of-requires
     answered-requires

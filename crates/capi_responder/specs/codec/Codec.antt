@@ -2,21 +2,24 @@
 use Prim.Native.Nat.{ℕ, _/_, _%_}
 use mathlib.Core.Path.{_≡_}
 use mathlib.Core.Bool.{Bool, true, false, cond, _&&_}
-use mathlib.Core.List.{List, [], _∷_, _++_}
+use mathlib.Core.List.{List, [], _∷_, _++_, map}
 use lib.ListN.{length, take, drop}
 use lib.Dec.{eqb}
 use Rattle.own.specs.declared.records.Label.{Label}
 use Rattle.own.specs.declared.records.Service.{Service}
 use Rattle.own.specs.declared.records.Strings.{Strings}
 use Rattle.own.specs.declared.records.Setup.{Setup}
-use Rattle.claims.specs.records.Own.{all, records}
+use Rattle.claims.specs.records.Own.{all, records, has}
 use Rattle.claims.specs.Time.{sentOf}
 use Rattle.claims.specs.declared.records.Own.{Own}
+use Rattle.claims.specs.declared.records.Set.{Set}
 use Rattle.claims.specs.declared.ClaimState.{ClaimState}
 use Rattle.claims.specs.declared.ClaimState.the-variants.{Waiting, Probing1, Probing2, Probing3, Deferred, Announced, Held, Lost}
 use Rattle.claims.specs.declared.When.{When}
 use Rattle.claims.specs.declared.When.the-variants.{Never, At}
 use Rattle.claims.specs.declared.Multicasts.{Multicasts}
+use Rattle.claims.specs.declared.holds.Hold.{Hold}
+use Rattle.claims.specs.declared.holds.Holds.{Holds}
 use Rattle.claims.specs.declared.Progress.{Progress}
 use Rattle.responder.specs.declared.State.{State}
 use Rattle.responder.specs.Calls.{blank}
@@ -82,25 +85,57 @@ lastBytes sent (o ∷ os) = whenBytes (sentOf o sent) ++ lastBytes sent os
 unfoldable pub multicastsBytes : Multicasts → List ℕ
 multicastsBytes sent = lastBytes sent all
 
+abbrev pub flagByte : Bool → ℕ
+flagByte true = 1
+flagByte false = 0
+
+-- a flag for each own record
+unfoldable pub setBytes : Set → List ℕ
+setBytes set = map (λ o. flagByte (has o set)) all
+
+unfoldable pub holdBytes : Hold → List ℕ
+holdBytes h =
+    bytes64 (h .from .high)
+    ++ (bytes64 (h .from .low)
+    ++ (whenBytes (h .due)
+    ++ (setBytes (h .asked)
+    ++ setBytes (h .known))))
+
+unfoldable pub holdsBytes : Holds → List ℕ
+holdsBytes holds = holdBytes (holds .first) ++ (holdBytes (holds .second) ++ (holdBytes (holds .third) ++ holdBytes (holds .fourth)))
+
 unfoldable pub progressBytes : Progress → List ℕ
 progressBytes progress =
     claimBytes (progress .instance)
     ++ (claimBytes (progress .host)
     ++ (multicastsBytes (progress .sent)
     ++ (whenBytes (progress .reply)
+    ++ (holdsBytes (progress .holds)
     ++ (bytes64 (progress .draw)
-    ++ bytes64 (progress .last)))))
+    ++ bytes64 (progress .last))))))
 
 -- Every number fits its eight bytes, as any number of 64 bits does; and the array has its length, as those of every program have.
 pub record MulticastsFit (sent : Multicasts) : Type 0 where
   pub sized : length (sent .of) ≡ records
   pub times : (o : Own) → Fits64 (whenTime (sentOf o sent))
 
+pub record HoldFits (h : Hold) : Type 0 where
+  pub high : Fits64 (h .from .high)
+  pub low : Fits64 (h .from .low)
+  pub due : Fits64 (whenTime (h .due))
+
+pub record HoldsFit (holds : Holds) : Type 0 where
+  pub first : HoldFits (holds .first)
+  pub second : HoldFits (holds .second)
+  pub third : HoldFits (holds .third)
+  pub fourth : HoldFits (holds .fourth)
+
 pub record ProgressFits (progress : Progress) : Type 0 where
   pub instance : Fits64 (claimDue (progress .instance))
   pub host : Fits64 (claimDue (progress .host))
   pub sent : MulticastsFit (progress .sent)
   pub reply : Fits64 (whenTime (progress .reply))
+  pub holds : HoldsFit (progress .holds)
   pub draw : Fits64 (progress .draw)
   pub last : Fits64 (progress .last)
 
@@ -134,10 +169,6 @@ bytes16 n = n / 256 ∷ n % 256 ∷ []
 
 abbrev pub stringsBytes : Strings → List ℕ
 stringsBytes t = t .bytes ++ bytes16 (t .len)
-
-abbrev pub flagByte : Bool → ℕ
-flagByte true = 1
-flagByte false = 0
 
 unfoldable pub setupBytes : Setup → List ℕ
 setupBytes s =

@@ -55,6 +55,17 @@ caseSize = 1 + numberSize
 abbrev pub multicastsSize : ℕ
 multicastsSize = records * caseSize
 
+-- a set of own records, a flag for each
+abbrev pub setSize : ℕ
+setSize = records * flagSize
+
+-- a held query: the address that it came from, when it is due, what it asks for and what it knows; and all held queries
+abbrev pub holdSize : ℕ
+holdSize = 2 * numberSize + caseSize + 2 * setSize
+
+abbrev pub holdsSize : ℕ
+holdsSize = 4 * holdSize
+
 -- ---- the set-up
 
 abbrev pub instance : ℕ
@@ -104,8 +115,11 @@ multicasts = hostClaim + caseSize
 abbrev pub reply : ℕ
 reply = multicasts + multicastsSize
 
+abbrev pub holds : ℕ
+holds = reply + caseSize
+
 abbrev pub draw : ℕ
-draw = reply + caseSize
+draw = holds + holdsSize
 
 abbrev pub last : ℕ
 last = draw + numberSize
@@ -117,6 +131,23 @@ stateSize = last + numberSize
 abbrev pub multicast : ℕ → ℕ
 multicast i = multicasts + i * caseSize
 
+-- the parts of a held query that stands at an offset
+abbrev pub low : ℕ → ℕ
+low at = at + numberSize
+
+abbrev pub due : ℕ → ℕ
+due at = low at + numberSize
+
+abbrev pub asked : ℕ → ℕ
+asked at = due at + caseSize
+
+abbrev pub known : ℕ → ℕ
+known at = asked at + setSize
+
+-- a held query, by its place
+abbrev pub hold : ℕ → ℕ
+hold i = holds + i * holdSize
+
 -- the sizes that c/include/kurgashel.h tells its callers
-pub header : (setupSize ≡ 579) × (stateSize ≡ 685)
+pub header : (setupSize ≡ 579) × (stateSize ≡ 841)
 header = (refl, refl)

@@ -9,14 +9,17 @@ use Rattle.own.specs.declared.records.Label.{Label}
 use Rattle.own.specs.declared.records.Service.{Service}
 use Rattle.own.specs.declared.records.Strings.{Strings}
 use Rattle.own.specs.declared.records.Setup.{Setup}
-use Rattle.claims.specs.records.Own.{indexOf}
+use Rattle.claims.specs.records.Own.{indexOf, each}
 use Rattle.claims.specs.Time.{eachLast}
 use Rattle.claims.specs.declared.records.Own.{Own}
+use Rattle.claims.specs.declared.records.Set.{Set}
 use Rattle.claims.specs.declared.ClaimState.{ClaimState}
 use Rattle.claims.specs.declared.ClaimState.the-variants.{Waiting, Probing1, Probing2, Probing3, Deferred, Announced, Held, Lost}
 use Rattle.claims.specs.declared.When.{When}
 use Rattle.claims.specs.declared.When.the-variants.{Never, At}
 use Rattle.claims.specs.declared.Multicasts.{Multicasts}
+use Rattle.claims.specs.declared.holds.Hold.{Hold}
+use Rattle.claims.specs.declared.holds.Holds.{Holds}
 use Rattle.claims.specs.declared.Progress.{Progress}
 use Rattle.capi_responder.specs.codec.Numbers.{word64}
 use Rattle.capi_responder.specs.codec.Layout as layout
@@ -55,7 +58,8 @@ setupAt b = record {
   aaaa = partAt b layout.aaaa layout.aaaaSize;
 }
 
--- ---- what changes: a case byte and a number for each claim, each last multicast and the reply; then the start draw and the time of the last call
+-- ---- what changes: a case byte and a number for each claim, each last multicast and the reply; the held queries; then the start draw and the time of the
+-- last call
 
 -- a claim by its case, where one beyond the last reads as lost
 abbrev pub claimOf : ℕ → ℕ → ClaimState
@@ -82,12 +86,34 @@ sentAt b o = whenAt b (layout.multicast (indexOf o))
 unfoldable pub multicastsAt : List ℕ → Multicasts
 multicastsAt b = eachLast (sentAt b)
 
+-- a set of own records, a flag for each
+unfoldable pub setAt : List ℕ → ℕ → Set
+setAt b at = each (λ o. flagAt b (at + indexOf o))
+
+-- a held query
+unfoldable pub holdAt : List ℕ → ℕ → Hold
+holdAt b at = record {
+  from = record { high = word64 b at; low = word64 b (layout.low at) };
+  due = whenAt b (layout.due at);
+  asked = setAt b (layout.asked at);
+  known = setAt b (layout.known at);
+}
+
+unfoldable pub holdsAt : List ℕ → Holds
+holdsAt b = record {
+  first = holdAt b (layout.hold 0);
+  second = holdAt b (layout.hold 1);
+  third = holdAt b (layout.hold 2);
+  fourth = holdAt b (layout.hold 3);
+}
+
 unfoldable pub progressAt : List ℕ → Progress
 progressAt b = record {
   instance = claimAt b layout.instanceClaim;
   host = claimAt b layout.hostClaim;
   sent = multicastsAt b;
   reply = whenAt b layout.reply;
+  holds = holdsAt b;
   draw = word64 b layout.draw;
   last = word64 b layout.last;
 }

@@ -1,7 +1,7 @@
 -- A tick that has nothing to do but to keep its time, told from a state's bytes: every part of what changes is at rest, and its bytes are those that a tick
 -- would write (`at-rest` in proofs/idle/Resting.antt). Assumes nothing: these are definitions.
-use Prim.Native.Nat.{ℕ, _+_}
-use mathlib.Core.Bool.{Bool, not, cond, _&&_}
+use Prim.Native.Nat.{ℕ, zero, suc, _+_}
+use mathlib.Core.Bool.{Bool, true, not, cond, _&&_}
 use mathlib.Core.List.{List}
 use lib.Dec.{leb, ltb, eqb}
 use lib.ListN.{length}
@@ -43,15 +43,26 @@ whenKept b at = lastKeeps (byteAt b at) (word64 b (at + 1))
 unfoldable pub multicastsKept : List ℕ → Bool
 multicastsKept b = everyOf (λ o. whenKept b (layout.multicast (indexOf o))) all
 
+-- so many numbers, one behind the other, are 0
+unfoldable pub zerosFrom : List ℕ → ℕ → ℕ → Bool
+zerosFrom b at zero = true
+zerosFrom b at (suc n) = eqb (word64 b at) 0 && zerosFrom b (at + layout.numberSize) n
+
+-- No query is held, and all bytes of the four places are zeros. Twenty numbers are as many bytes and four more, the first of the draw, which are zeros in every
+-- state that is not refused.
+unfoldable pub noneHeld : List ℕ → Bool
+noneHeld b = zerosFrom b layout.holds 20
+
 -- all that changes
 unfoldable pub nothingDue : List ℕ → ℕ → Bool
 nothingDue b time =
     claimRests b layout.instanceClaim time
     && (claimRests b layout.hostClaim time
     && (replyRests b layout.reply time
+    && (noneHeld b
     && (leb (word64 b layout.draw) 250
     && (leb (word64 b layout.last) time
-    && multicastsKept b))))
+    && multicastsKept b)))))
 
 unfoldable pub isIdle : List ℕ → ℕ → ℕ → Bool
 isIdle b time room =

@@ -14,19 +14,23 @@ use Rattle.claims.specs.Claims.{claimOf}
 use Rattle.claims.proofs.Times.{after-exact}
 use Rattle.claims.specs.declared.ClaimState.{ClaimState}
 use Rattle.claims.specs.declared.ClaimState.the-variants.{Waiting, Probing1, Probing2, Probing3, Deferred, Announced, Held, Lost}
+use Rattle.claims.specs.holds.Holds.{noHold, holdAt, withHold}
+use Rattle.claims.specs.declared.holds.Holds.{Holds}
+use Rattle.claims.specs.declared.holds.Place.{Place}
+use Rattle.claims.specs.declared.holds.Place.the-variants.{First, Second, Third, Fourth}
 use Rattle.claims.specs.declared.records.Claim.{Claim}
 use Rattle.claims.specs.declared.records.Claim.the-variants.{Instance, Host}
 use Rattle.claims.specs.declared.records.Set.{Set}
 use Rattle.claims.specs.declared.Progress.{Progress}
-use Rattle.claims.specs.steps.Steps.{steps, stepDue, claimDue, moreDue, takenAction, actionOf}
-use Rattle.claims.specs.steps.Tick.{withClaim, withoutReply, withLast, sends, actionTurn, claimTurn, ptrReply, replyTurn, stepTurn, walked, orElse, endedOf, tickOf}
+use Rattle.claims.specs.steps.Steps.{steps, holdDue, stepDue, claimDue, moreDue, takenAction, actionOf}
+use Rattle.claims.specs.steps.Tick.{withClaim, withoutReply, withLast, sends, actionTurn, claimTurn, ptrReply, replyTurn, withoutHold, holdAnswers, holdTurn, stepTurn, walked, orElse, endedOf, tickOf}
 use Rattle.claims.specs.declared.steps.Step.{Step}
-use Rattle.claims.specs.declared.steps.Step.the-variants.{OfClaim, PtrReply}
+use Rattle.claims.specs.declared.steps.Step.the-variants.{OfClaim, PtrReply, OfHold}
 use Rattle.claims.specs.declared.steps.Action.{Action}
 use Rattle.claims.specs.declared.steps.Action.the-variants as action
 use Rattle.claims.specs.declared.steps.Turn.{Turn}
-use Rattle.claims.proofs.steps.Walk.{quiet, responds, sends-by, or-else, walk-by, claim-by, reply-by, passed}
-use Rattle.claims.proofs.steps.Ticks.{Whose, own, other, whose, claim-withSent, claim-withoutReply, claim-last}
+use Rattle.claims.proofs.steps.Walk.{quiet, responds, sends-by, or-else, walk-by, claim-by, reply-by, hold-by, passed}
+use Rattle.claims.proofs.steps.Ticks.{Whose, own, other, whose, claim-withSent, claim-withoutReply, claim-withoutHold, claim-last}
 use Rattle.claims.proofs.steps.Spacing.{claim-same}
 
 clash : {A : Type 0} → _≡_ {A = ℕ} 0 1 → A
@@ -80,6 +84,7 @@ module _ (aaaa : Bool) (now : ℕ) (h : now ≤ lastTime) where
       sent : (i : Step) → NotDue i l → Past i (responds set now l)
       sent (OfClaim k) r = rw (claim-withSent k set now l) r
       sent PtrReply r = r
+      sent (OfHold place) r = r
 
   -- after its turn a step is not due
   claim-past : (k : Claim) (l : Progress) → Past (OfClaim k) (claimTurn k aaaa now l)
@@ -107,10 +112,47 @@ module _ (aaaa : Bool) (now : ℕ) (h : now ≤ lastTime) where
       go true e = past-sends PtrReply (ptrReply now l) (withoutReply l) refl
       go false e = e
 
+  -- the place that is freed has no due time, and no other gets one
+  freed : (place taken : Place) (holds : Holds)
+      → dueBy (holdAt place holds .due) now ≡ false
+      → dueBy (holdAt place (withHold taken noHold holds) .due) now ≡ false
+  freed First First holds q = refl
+  freed First Second holds q = q
+  freed First Third holds q = q
+  freed First Fourth holds q = q
+  freed Second First holds q = q
+  freed Second Second holds q = refl
+  freed Second Third holds q = q
+  freed Second Fourth holds q = q
+  freed Third First holds q = q
+  freed Third Second holds q = q
+  freed Third Third holds q = refl
+  freed Third Fourth holds q = q
+  freed Fourth First holds q = q
+  freed Fourth Second holds q = q
+  freed Fourth Third holds q = q
+  freed Fourth Fourth holds q = refl
+
+  freed-self : (place : Place) (holds : Holds) → dueBy (holdAt place (withHold place noHold holds) .due) now ≡ false
+  freed-self First holds = refl
+  freed-self Second holds = refl
+  freed-self Third holds = refl
+  freed-self Fourth holds = refl
+
+  hold-past : (place : Place) (l : Progress) → Past (OfHold place) (holdTurn place aaaa now l)
+  unfolding holdTurn
+  hold-past place l = go (dueBy (holdDue place l) now) refl
+    where
+      go : (b : Bool) → dueBy (holdDue place l) now ≡ b
+          → Past (OfHold place) (cond b (sends (holdAnswers place aaaa now l) now (withoutHold place l)) (quiet l))
+      go true e = past-sends (OfHold place) (holdAnswers place aaaa now l) (withoutHold place l) (freed-self place (l .holds))
+      go false e = e
+
   own-past : (s : Step) (l : Progress) → Past s (stepTurn s aaaa now l)
   unfolding stepTurn
   own-past (OfClaim k) l = claim-past k l
   own-past PtrReply l = reply-past l
+  own-past (OfHold place) l = hold-past place l
 
   -- and no other turn makes it due
   beside : (s : Step) (k : Claim) (l : Progress) → ((c : ClaimState) → NotDue s (withClaim k c l)) → NotDue s l → Past s (claimTurn k aaaa now l)
@@ -120,6 +162,14 @@ module _ (aaaa : Bool) (now : ℕ) (h : now ≤ lastTime) where
   reply-stays : (k : Claim) (c : ClaimState) (l : Progress) → NotDue PtrReply l → NotDue PtrReply (withClaim k c l)
   reply-stays Instance c l q = q
   reply-stays Host c l q = q
+
+  hold-stays : (place : Place) (k : Claim) (c : ClaimState) (l : Progress) → NotDue (OfHold place) l → NotDue (OfHold place) (withClaim k c l)
+  hold-stays place Instance c l q = q
+  hold-stays place Host c l q = q
+
+  -- the turn of a held query makes no step due
+  beside-hold : (s : Step) (place : Place) (l : Progress) → NotDue s (withoutHold place l) → NotDue s l → Past s (holdTurn place aaaa now l)
+  beside-hold s place l same q = hold-by now (Past s) place aaaa l q (λ d. past-sends s (holdAnswers place aaaa now l) (withoutHold place l) same)
 
   keeps-past : (s j : Step) (l : Progress) → NotDue s l → Past s (stepTurn j aaaa now l)
   unfolding stepTurn
@@ -132,6 +182,12 @@ module _ (aaaa : Bool) (now : ℕ) (h : now ≤ lastTime) where
       reply-by now (Past (OfClaim k)) l q (λ d. past-sends (OfClaim k) (ptrReply now l) (withoutReply l) (rw (claim-withoutReply k l) q))
   keeps-past PtrReply (OfClaim j) l q = beside PtrReply j l (λ c. reply-stays j c l q) q
   keeps-past PtrReply PtrReply l q = reply-past l
+  keeps-past (OfHold place) (OfClaim j) l q = beside (OfHold place) j l (λ c. hold-stays place j c l q) q
+  keeps-past (OfHold place) PtrReply l q =
+      reply-by now (Past (OfHold place)) l q (λ d. past-sends (OfHold place) (ptrReply now l) (withoutReply l) q)
+  keeps-past (OfClaim k) (OfHold place) l q = beside-hold (OfClaim k) place l (rw (claim-withoutHold k place l) q) q
+  keeps-past PtrReply (OfHold place) l q = beside-hold PtrReply place l q q
+  keeps-past (OfHold place) (OfHold taken) l q = beside-hold (OfHold place) taken l (freed place taken (l .holds) q) q
 
   -- ---- a walk
 
@@ -155,10 +211,11 @@ module _ (aaaa : Bool) (now : ℕ) (h : now ≤ lastTime) where
 
   -- ---- ticks
 
-  abbrev ticked : Progress → Progress
+  abbrev pub ticked : Progress → Progress
   ticked l = tickOf l now aaaa .progress
 
-  abbrev ticks : ℕ → Progress → Progress
+  -- so many ticks at one time
+  abbrev pub ticks : ℕ → Progress → Progress
   ticks zero l = l
   ticks (suc n) l = ticked (ticks n l)
 
@@ -166,6 +223,7 @@ module _ (aaaa : Bool) (now : ℕ) (h : now ≤ lastTime) where
   with-last [] l q = tt
   with-last (OfClaim k ∷ ss) l q = (rw (claim-last now aaaa k l) (q .0), with-last ss l (q .1))
   with-last (PtrReply ∷ ss) l q = (q .0, with-last ss l (q .1))
+  with-last (OfHold place ∷ ss) l q = (q .0, with-last ss l (q .1))
 
   settled : (n : ℕ) (l : Progress) → Settled (take n steps) (ticks n l)
   unfolding tickOf endedOf
@@ -181,6 +239,3 @@ module _ (aaaa : Bool) (now : ℕ) (h : now ≤ lastTime) where
   pub all-ticks : (l : Progress) → moreDue (ticks (length steps) l) now ≡ false
   unfolding moreDue
   all-ticks l = none-due steps (ticks (length steps) l) (settled (length steps) l)
-
-  pub three-ticks : (l : Progress) → moreDue (ticked (ticked (ticked l))) now ≡ false
-  three-ticks l = all-ticks l

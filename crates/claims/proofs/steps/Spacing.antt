@@ -11,17 +11,18 @@ use Rattle.claims.proofs.Times.{after-exact}
 use Rattle.claims.proofs.Clear.{Clear}
 use Rattle.claims.specs.declared.ClaimState.{ClaimState}
 use Rattle.claims.specs.declared.ClaimState.the-variants.{Waiting, Probing1, Probing2, Probing3, Deferred, Announced, Held, Lost}
+use Rattle.claims.specs.declared.holds.Place.{Place}
 use Rattle.claims.specs.declared.records.Claim.{Claim}
 use Rattle.claims.specs.declared.records.Claim.the-variants.{Instance, Host}
 use Rattle.claims.specs.declared.records.Set.{Set}
 use Rattle.claims.specs.declared.Progress.{Progress}
 use Rattle.claims.specs.steps.Steps.{claimDue, takenAction}
-use Rattle.claims.specs.steps.Tick.{withClaim, withoutReply, sends, ptrReply, replyTurn, claimTurn, endedOf, tickOf, probesFor}
+use Rattle.claims.specs.steps.Tick.{withClaim, withoutReply, sends, ptrReply, replyTurn, withoutHold, holdAnswers, holdTurn, claimTurn, endedOf, tickOf, probesFor}
 use Rattle.claims.specs.declared.steps.Action.{Action}
 use Rattle.claims.specs.declared.steps.Action.the-variants as action
 use Rattle.claims.specs.declared.steps.Turn.{Turn}
-use Rattle.claims.proofs.steps.Walk.{quiet, sends-by, walk, claim-by, reply-by}
-use Rattle.claims.proofs.steps.Ticks.{Whose, own, other, whose, claim-withSent, claim-withoutReply, claim-last}
+use Rattle.claims.proofs.steps.Walk.{quiet, sends-by, walk, claim-by, reply-by, hold-by}
+use Rattle.claims.proofs.steps.Ticks.{Whose, own, other, whose, claim-withSent, claim-withoutReply, claim-withoutHold, claim-last}
 
 -- from when on the claim may probe, after a call that sent a probe of it or not
 abbrev pub clearFrom : Bool → ℕ → ℕ → ℕ
@@ -100,10 +101,15 @@ module _ (from now : ℕ) (h : now ≤ lastTime) where
     paced-reply l q =
         reply-by now Paces l q (λ d. paced-sends (ptrReply now l) (withoutReply l) (rw (claim-withoutReply k l) (q .1)))
 
+    paced-hold : (place : Place) (l : Progress) → Paces (quiet l) → Paces (holdTurn place aaaa now l)
+    paced-hold place l q =
+        hold-by now Paces place aaaa l q
+        (λ d. paced-sends (holdAnswers place aaaa now l) (withoutHold place l) (rw (claim-withoutHold k place l) (q .1)))
+
     -- a tick of a clear claim
     pub tick-paced :
         (progress : Progress)
         → Clear from now (claimOf k progress)
         → Paced from now (probesFor k (tickOf progress now aaaa .output)) (claimOf k (tickOf progress now aaaa .progress))
     unfolding tickOf endedOf
-    tick-paced progress q = rw (claim-last now aaaa k) (walk now Paces aaaa progress (silent progress q) paced-turn paced-reply)
+    tick-paced progress q = rw (claim-last now aaaa k) (walk now Paces aaaa progress (silent progress q) paced-turn paced-reply paced-hold)

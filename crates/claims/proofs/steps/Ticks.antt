@@ -8,28 +8,34 @@ use lib.Dec.{leb}
 use borrow.Author.Tests.{le-leb}
 use Rattle.claims.specs.records.Own.{has, each}
 use Rattle.claims.specs.records.Sets.{someOf, noRecord, anyOf, only}
-use Rattle.claims.specs.Time.{lastTime, lastDue, afterMs, sentOf, markedAll, recently}
+use Rattle.claims.specs.Time.{lastTime, lastDue, afterMs, dueBy, sentOf, markedAll, recently}
 use Rattle.claims.specs.Claims.{heldNow, claimOf}
 use Rattle.claims.specs.Refusals.{claimKept, kept}
 use Rattle.claims.proofs.Times.{after-within}
-use Rattle.claims.proofs.Keeping.{Five, parts, whole, all-marked-kept}
+use Rattle.claims.proofs.Keeping.{AllKept, parts, whole, all-marked-kept, without-kept}
 use Rattle.claims.specs.declared.ClaimState.{ClaimState}
 use Rattle.claims.specs.declared.ClaimState.the-variants.{Waiting, Probing1, Probing2, Probing3, Deferred, Announced, Held, Lost}
+use Rattle.claims.specs.holds.Holds.{isDueTime, isTaken, noHold, holdAt, withHold, heldOf, oncePerAddress}
+use Rattle.claims.specs.declared.holds.Hold.{Hold}
+use Rattle.claims.specs.declared.holds.Holds.{Holds}
+use Rattle.claims.specs.declared.holds.Place.{Place}
+use Rattle.claims.proofs.holds.Lists.{once-taken}
 use Rattle.claims.specs.declared.records.Claim.{Claim}
 use Rattle.claims.specs.declared.records.Claim.the-variants.{Instance, Host}
 use Rattle.claims.specs.declared.Multicasts.{Multicasts}
 use Rattle.claims.specs.declared.records.Set.{Set}
 use Rattle.claims.specs.declared.records.Own.the-variants.{Ptr}
-use Rattle.claims.specs.declared.When.the-variants.{At}
+use Rattle.claims.specs.declared.When.{When}
+use Rattle.claims.specs.declared.When.the-variants.{Never, At}
 use Rattle.claims.specs.declared.Progress.{Progress}
 use Rattle.claims.specs.steps.Steps.{takenAction, unsentOf}
-use Rattle.claims.specs.steps.Tick.{withClaim, withSent, withoutReply, sends, ptrReply, replyTurn, claimTurn, withLast, endedOf, tickOf}
+use Rattle.claims.specs.steps.Tick.{withClaim, withSent, withoutReply, sends, ptrReply, replyTurn, withoutHold, holdAnswers, holdTurn, claimTurn, withLast, endedOf, tickOf}
 use Rattle.claims.specs.declared.steps.Action.{Action}
 use Rattle.claims.specs.declared.steps.Action.the-variants as action
 use Rattle.claims.specs.declared.steps.Output.{Output}
 use Rattle.claims.specs.declared.steps.Output.the-variants.{Nothing, Probe, Response}
 use Rattle.claims.specs.declared.steps.Turn.{Turn}
-use Rattle.claims.proofs.steps.Walk.{quiet, responds, sends-by, walk, claim-by, reply-by}
+use Rattle.claims.proofs.steps.Walk.{quiet, responds, sends-by, walk, claim-by, reply-by, hold-by}
 
 clash : {A : Type 0} → _≡_ {A = ℕ} 0 1 → A
 clash z = absurd (omega arith)
@@ -46,7 +52,7 @@ module _ (now : ℕ) (aaaa : Bool) (progress : Progress) where
 
   pub tick-draw : tickOf progress now aaaa .progress .draw ≡ progress .draw
   unfolding tickOf endedOf
-  tick-draw = walk now Draws aaaa progress refl turn reply
+  tick-draw = walk now Draws aaaa progress refl turn reply hold
     where
       sent : (k : Claim) (l : Progress) → Draws (quiet l) → (c : ClaimState) (set : Set) → Draws (sends set now (withClaim k c l))
       sent k l q c set = sends-by now Draws set (withClaim k c l) (rw with-claim-draw q) (rw with-claim-draw q)
@@ -57,6 +63,9 @@ module _ (now : ℕ) (aaaa : Bool) (progress : Progress) where
 
       reply : (l : Progress) → Draws (quiet l) → Draws (replyTurn now l)
       reply l q = reply-by now Draws l q (λ d. sends-by now Draws (ptrReply now l) (withoutReply l) q q)
+
+      hold : (place : Place) (l : Progress) → Draws (quiet l) → Draws (holdTurn place aaaa now l)
+      hold place l q = hold-by now Draws place aaaa l q (λ d. sends-by now Draws (holdAnswers place aaaa now l) (withoutHold place l) q q)
 
   pub tick-last : tickOf progress now aaaa .progress .last ≡ now
   unfolding tickOf endedOf
@@ -70,7 +79,7 @@ sentBy Nothing sent now = sent
 sentBy (Probe k) sent now = sent
 sentBy (Response set) sent now = markedAll set sent now
 
-with-claim-sent : (k : Claim) (c : ClaimState) (l : Progress) → withClaim k c l .sent ≡ l .sent
+pub with-claim-sent : (k : Claim) (c : ClaimState) (l : Progress) → withClaim k c l .sent ≡ l .sent
 with-claim-sent Instance c l = refl
 with-claim-sent Host c l = refl
 
@@ -83,7 +92,7 @@ module _ (now : ℕ) (aaaa : Bool) (progress : Progress) where
 
   pub tick-sent : tickOf progress now aaaa .progress .sent ≡ sentBy (tickOf progress now aaaa .output) (progress .sent) now
   unfolding tickOf endedOf
-  tick-sent = walk now Marks aaaa progress refl turn reply
+  tick-sent = walk now Marks aaaa progress refl turn reply hold
     where
       after : (k : Claim) (c : ClaimState) (l : Progress) → l .sent ≡ progress .sent → withClaim k c l .sent ≡ progress .sent
       after k c l q = rw with-claim-sent q
@@ -95,6 +104,9 @@ module _ (now : ℕ) (aaaa : Bool) (progress : Progress) where
 
       reply : (l : Progress) → Marks (quiet l) → Marks (replyTurn now l)
       reply l q = reply-by now Marks l q (λ d. marks-sends (ptrReply now l) (withoutReply l) q)
+
+      hold : (place : Place) (l : Progress) → Marks (quiet l) → Marks (holdTurn place aaaa now l)
+      hold place l q = hold-by now Marks place aaaa l q (λ d. marks-sends (holdAnswers place aaaa now l) (withoutHold place l) q)
 
 -- ---- a lost claim
 
@@ -116,6 +128,10 @@ claim-withSent Host set now l = refl
 pub claim-withoutReply : (k : Claim) (l : Progress) → claimOf k (withoutReply l) ≡ claimOf k l
 claim-withoutReply Instance l = refl
 claim-withoutReply Host l = refl
+
+pub claim-withoutHold : (k : Claim) (place : Place) (l : Progress) → claimOf k (withoutHold place l) ≡ claimOf k l
+claim-withoutHold Instance place l = refl
+claim-withoutHold Host place l = refl
 
 module _ (now : ℕ) (aaaa : Bool) (k : Claim) where
   abbrev Loses : Turn → Type 0
@@ -143,6 +159,10 @@ module _ (now : ℕ) (aaaa : Bool) (k : Claim) where
   lost-reply : (l : Progress) → Loses (quiet l) → Loses (replyTurn now l)
   lost-reply l q = reply-by now Loses l q (λ d. lost-sends (ptrReply now l) (withoutReply l) (rw (claim-withoutReply k l) q))
 
+  lost-hold : (place : Place) (l : Progress) → Loses (quiet l) → Loses (holdTurn place aaaa now l)
+  lost-hold place l q =
+      hold-by now Loses place aaaa l q (λ d. lost-sends (holdAnswers place aaaa now l) (withoutHold place l) (rw (claim-withoutHold k place l) q))
+
   pub claim-last : (l : Progress) → claimOf k (withLast now l) ≡ claimOf k l
   claim-last l = of k
     where
@@ -153,7 +173,54 @@ module _ (now : ℕ) (aaaa : Bool) (k : Claim) where
   -- "lost for good"
   pub tick-lost : (progress : Progress) → claimOf k progress ≡ Lost → claimOf k (tickOf progress now aaaa .progress) ≡ Lost
   unfolding tickOf endedOf
-  tick-lost progress q = rw claim-last (walk now Loses aaaa progress q lost-turn lost-reply)
+  tick-lost progress q = rw claim-last (walk now Loses aaaa progress q lost-turn lost-reply lost-hold)
+
+-- ---- the held queries
+
+pub with-claim-holds : (k : Claim) (c : ClaimState) (l : Progress) → withClaim k c l .holds ≡ l .holds
+with-claim-holds Instance c l = refl
+with-claim-holds Host c l = refl
+
+-- what the freeing of a place whose query is due keeps, a tick keeps
+module _ (now : ℕ) (aaaa : Bool) (P : Holds → Type 0)
+    (freed : (place : Place) (holds : Holds) → dueBy (holdAt place holds .due) now ≡ true → P holds → P (withHold place noHold holds)) where
+  abbrev HoldsKeep : Turn → Type 0
+  HoldsKeep t = P (t .progress .holds)
+
+  pub tick-holds : (progress : Progress) → P (progress .holds) → P (tickOf progress now aaaa .progress .holds)
+  unfolding tickOf endedOf
+  tick-holds progress p = walk now HoldsKeep aaaa progress p turn reply hold
+    where
+      sent : (set : Set) (l : Progress) → P (l .holds) → HoldsKeep (sends set now l)
+      sent set l q = sends-by now HoldsKeep set l q q
+
+      turn : (k : Claim) (l : Progress) → HoldsKeep (quiet l) → HoldsKeep (claimTurn k aaaa now l)
+      turn k l q =
+          claim-by now HoldsKeep k aaaa l q (λ c d e. rw (with-claim-holds k c l) q) (λ c d e. sent _ (withClaim k c l) (rw (with-claim-holds k c l) q))
+          (λ c d e. sent _ (withClaim k c l) (rw (with-claim-holds k c l) q))
+
+      reply : (l : Progress) → HoldsKeep (quiet l) → HoldsKeep (replyTurn now l)
+      reply l q = reply-by now HoldsKeep l q (λ d. sent (ptrReply now l) (withoutReply l) q)
+
+      hold : (place : Place) (l : Progress) → HoldsKeep (quiet l) → HoldsKeep (holdTurn place aaaa now l)
+      hold place l q = hold-by now HoldsKeep place aaaa l q (λ d. sent (holdAnswers place aaaa now l) (withoutHold place l) (freed place (l .holds) d q))
+
+-- a place whose query is due is taken
+pub due-taken : (h : Hold) (now : ℕ) → dueBy (h .due) now ≡ true → isTaken h ≡ true
+due-taken h now = go (h .due)
+  where
+    go : (w : When) → dueBy w now ≡ true → isDueTime w ≡ true
+    go Never e = e
+    go (At due) e = refl
+
+-- no two held queries are of one address
+pub tick-once :
+    (now : ℕ) (aaaa : Bool) (progress : Progress)
+    → oncePerAddress (heldOf (progress .holds)) ≡ true
+    → oncePerAddress (heldOf (tickOf progress now aaaa .progress .holds)) ≡ true
+tick-once now aaaa progress o =
+    tick-holds now aaaa (λ holds. oncePerAddress (heldOf holds) ≡ true)
+    (λ place holds d q. once-taken place holds (due-taken (holdAt place holds) now d) q) progress o
 
 -- ---- the times kept
 
@@ -183,26 +250,27 @@ module _ (now : ℕ) (aaaa : Bool) (most : ℕ) (h : now ≤ lastTime) (l : last
 
   with-claim-kept : (k : Claim) (c : ClaimState) (x : Progress) → kept most x ≡ true → claimKept most c ≡ true → kept most (withClaim k c x) ≡ true
   with-claim-kept Instance c x q e =
-      let p : Five _ _ _ _ _ = parts most x q in
-      whole most _ (record { one = e; two = p .two; three = p .three; four = p .four; five = p .five })
+      let p : AllKept _ _ _ _ _ _ = parts most x q in
+      whole most _ (record { instance = e; host = p .host; sent = p .sent; reply = p .reply; holds = p .holds; last = p .last })
   with-claim-kept Host c x q e =
-      let p : Five _ _ _ _ _ = parts most x q in
-      whole most _ (record { one = p .one; two = e; three = p .three; four = p .four; five = p .five })
+      let p : AllKept _ _ _ _ _ _ = parts most x q in
+      whole most _ (record { instance = p .instance; host = e; sent = p .sent; reply = p .reply; holds = p .holds; last = p .last })
 
   now-kept : leb now most ≡ true
   now-kept = le-leb now most (omega arith)
 
   kept-sends : (set : Set) (x : Progress) → Keeps (quiet x) → Keeps (sends set now x)
   kept-sends set x q =
-      let p : Five _ _ _ _ _ = parts most x q in
+      let p : AllKept _ _ _ _ _ _ = parts most x q in
       sends-by now Keeps set x q
       (whole most _
       (record {
-        one = p .one;
-        two = p .two;
-        three = all-marked-kept most set (x .sent) now (p .three) now-kept;
-        four = p .four;
-        five = p .five;
+        instance = p .instance;
+        host = p .host;
+        sent = all-marked-kept most set (x .sent) now (p .sent) now-kept;
+        reply = p .reply;
+        holds = p .holds;
+        last = p .last;
       }))
 
   kept-turn : (k : Claim) (x : Progress) → Keeps (quiet x) → Keeps (claimTurn k aaaa now x)
@@ -216,18 +284,34 @@ module _ (now : ℕ) (aaaa : Bool) (most : ℕ) (h : now ≤ lastTime) (l : last
 
   kept-reply : (x : Progress) → Keeps (quiet x) → Keeps (replyTurn now x)
   kept-reply x q =
-      let p : Five _ _ _ _ _ = parts most x q in
+      let p : AllKept _ _ _ _ _ _ = parts most x q in
       reply-by now Keeps x q
       (λ d.
       kept-sends (ptrReply now x) (withoutReply x)
-      (whole most _ (record { one = p .one; two = p .two; three = p .three; four = refl; five = p .five })))
+      (whole most _ (record { instance = p .instance; host = p .host; sent = p .sent; reply = refl; holds = p .holds; last = p .last })))
+
+  kept-hold : (place : Place) (x : Progress) → Keeps (quiet x) → Keeps (holdTurn place aaaa now x)
+  kept-hold place x q =
+      let p : AllKept _ _ _ _ _ _ = parts most x q in
+      hold-by now Keeps place aaaa x q
+      (λ d.
+      kept-sends (holdAnswers place aaaa now x) (withoutHold place x)
+      (whole most _
+      (record {
+        instance = p .instance;
+        host = p .host;
+        sent = p .sent;
+        reply = p .reply;
+        holds = without-kept most place (x .holds) (p .holds);
+        last = p .last;
+      })))
 
   -- a tick that is not refused keeps the times within bounds
   pub tick-kept : (progress : Progress) → kept most progress ≡ true → kept most (tickOf progress now aaaa .progress) ≡ true
   unfolding tickOf endedOf
   tick-kept progress q =
-      let p : Five _ _ _ _ _ = parts most _ (walk now Keeps aaaa progress q kept-turn kept-reply) in
-      whole most _ (record { one = p .one; two = p .two; three = p .three; four = p .four; five = now-kept })
+      let p : AllKept _ _ _ _ _ _ = parts most _ (walk now Keeps aaaa progress q kept-turn kept-reply kept-hold) in
+      whole most _ (record { instance = p .instance; host = p .host; sent = p .sent; reply = p .reply; holds = p .holds; last = now-kept })
 
 -- ---- the PTR reply at its step
 

@@ -8,13 +8,14 @@ use Rattle.claims.specs.records.Sets.{anyOf, recordsOf}
 use Rattle.claims.specs.Time.{dueBy, markedAll}
 use Rattle.claims.specs.Claims.{claimOf}
 use Rattle.claims.specs.declared.ClaimState.{ClaimState}
+use Rattle.claims.specs.declared.holds.Place.{Place}
 use Rattle.claims.specs.declared.records.Claim.{Claim}
 use Rattle.claims.specs.declared.records.Set.{Set}
 use Rattle.claims.specs.declared.Progress.{Progress}
-use Rattle.claims.specs.steps.Steps.{steps, stepDue, claimDue, takenAction, actionOf, unsentOf}
-use Rattle.claims.specs.steps.Tick.{withClaim, withSent, withoutReply, sends, actionTurn, claimTurn, ptrReply, replyTurn, stepTurn, orElse, walked}
+use Rattle.claims.specs.steps.Steps.{steps, holdDue, stepDue, claimDue, takenAction, actionOf, unsentOf}
+use Rattle.claims.specs.steps.Tick.{withClaim, withSent, withoutReply, sends, actionTurn, claimTurn, ptrReply, replyTurn, withoutHold, holdAnswers, holdTurn, stepTurn, orElse, walked}
 use Rattle.claims.specs.declared.steps.Step.{Step}
-use Rattle.claims.specs.declared.steps.Step.the-variants.{OfClaim, PtrReply}
+use Rattle.claims.specs.declared.steps.Step.the-variants.{OfClaim, PtrReply, OfHold}
 use Rattle.claims.specs.declared.steps.Action.{Action}
 use Rattle.claims.specs.declared.steps.Action.the-variants as action
 use Rattle.claims.specs.declared.steps.Output.{Output}
@@ -63,13 +64,15 @@ module _ (now : ℕ) (Q : Turn → Type 0) where
       → Q (quiet progress)
       → ((k : Claim) (l : Progress) → Q (quiet l) → Q (claimTurn k aaaa now l))
       → ((l : Progress) → Q (quiet l) → Q (replyTurn now l))
+      → ((place : Place) (l : Progress) → Q (quiet l) → Q (holdTurn place aaaa now l))
       → Q (walked steps aaaa now progress)
   unfolding stepTurn
-  walk aaaa progress q turn reply = walk-by steps aaaa progress q each
+  walk aaaa progress q turn reply hold = walk-by steps aaaa progress q each
     where
       each : (s : Step) (l : Progress) → Q (quiet l) → Q (stepTurn s aaaa now l)
       each (OfClaim k) l r = turn k l r
       each PtrReply l r = reply l r
+      each (OfHold place) l r = hold place l r
 
   -- a claim's turn, by what its step does
   pub claim-by :
@@ -104,11 +107,25 @@ module _ (now : ℕ) (Q : Turn → Type 0) where
       go true e = due e
       go false e = q
 
+  -- the turn of a held query
+  pub hold-by :
+      (place : Place) (aaaa : Bool) (l : Progress)
+      → Q (quiet l)
+      → (dueBy (holdDue place l) now ≡ true → Q (sends (holdAnswers place aaaa now l) now (withoutHold place l)))
+      → Q (holdTurn place aaaa now l)
+  unfolding holdTurn
+  hold-by place aaaa l q due = go (dueBy (holdDue place l) now) refl
+    where
+      go : (b : Bool) → dueBy (holdDue place l) now ≡ b → Q (cond b (sends (holdAnswers place aaaa now l) now (withoutHold place l)) (quiet l))
+      go true e = due e
+      go false e = q
+
 -- a step that is not due is passed
 pub passed : (s : Step) (aaaa : Bool) (now : ℕ) (l : Progress) → dueBy (stepDue s l) now ≡ false → stepTurn s aaaa now l ≡ quiet l
-unfolding stepTurn claimTurn actionOf actionTurn replyTurn
+unfolding stepTurn claimTurn actionOf actionTurn replyTurn holdTurn
 passed (OfClaim k) aaaa now l e = rw e
 passed PtrReply aaaa now l e = rw e
+passed (OfHold place) aaaa now l e = rw e
 
 -- ---- a walk, step by step
 

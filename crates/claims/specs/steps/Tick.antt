@@ -14,9 +14,12 @@ use Rattle.claims.specs.declared.When.the-variants.{Never}
 use Rattle.claims.specs.declared.Progress.{Progress}
 use Rattle.claims.specs.records.Own.{sameClaim}
 use Rattle.claims.specs.records.Sets.{noRecord, only, anyOf, recordsOf, under}
-use Rattle.claims.specs.steps.Steps.{steps, moreDue, actionOf, unsentOf}
+use Rattle.claims.specs.holds.Holds.{noHold, holdAt, withHold}
+use Rattle.claims.specs.answers.Answers.{asksOfHold, wantedOf}
+use Rattle.claims.specs.declared.holds.Place.{Place}
+use Rattle.claims.specs.steps.Steps.{steps, holdDue, moreDue, actionOf, unsentOf}
 use Rattle.claims.specs.declared.steps.Step.{Step}
-use Rattle.claims.specs.declared.steps.Step.the-variants.{OfClaim, PtrReply}
+use Rattle.claims.specs.declared.steps.Step.the-variants.{OfClaim, PtrReply, OfHold}
 use Rattle.claims.specs.declared.steps.Action.{Action}
 use Rattle.claims.specs.declared.steps.Action.the-variants as action
 use Rattle.claims.specs.declared.steps.Output.{Output}
@@ -27,21 +30,21 @@ use Rattle.claims.specs.declared.steps.Ticked.{Ticked}
 -- the progress with one field changed
 abbrev pub withClaim : Claim → ClaimState → Progress → Progress
 withClaim Instance c progress =
-    record { instance = c; host = progress .host; sent = progress .sent; reply = progress .reply; draw = progress .draw; last = progress .last }
+    record { instance = c; host = progress .host; sent = progress .sent; reply = progress .reply; holds = progress .holds; draw = progress .draw; last = progress .last }
 withClaim Host c progress =
-    record { instance = progress .instance; host = c; sent = progress .sent; reply = progress .reply; draw = progress .draw; last = progress .last }
+    record { instance = progress .instance; host = c; sent = progress .sent; reply = progress .reply; holds = progress .holds; draw = progress .draw; last = progress .last }
 
 abbrev pub withSent : Multicasts → Progress → Progress
 withSent sent progress =
-    record { instance = progress .instance; host = progress .host; sent = sent; reply = progress .reply; draw = progress .draw; last = progress .last }
+    record { instance = progress .instance; host = progress .host; sent = sent; reply = progress .reply; holds = progress .holds; draw = progress .draw; last = progress .last }
 
 abbrev pub withoutReply : Progress → Progress
 withoutReply progress =
-    record { instance = progress .instance; host = progress .host; sent = progress .sent; reply = Never; draw = progress .draw; last = progress .last }
+    record { instance = progress .instance; host = progress .host; sent = progress .sent; reply = Never; holds = progress .holds; draw = progress .draw; last = progress .last }
 
 abbrev pub withLast : ℕ → Progress → Progress
 withLast now progress =
-    record { instance = progress .instance; host = progress .host; sent = progress .sent; reply = progress .reply; draw = progress .draw; last = now }
+    record { instance = progress .instance; host = progress .host; sent = progress .sent; reply = progress .reply; holds = progress .holds; draw = progress .draw; last = now }
 
 -- A set of records goes out in one response, and each is then multicast at `now`; an empty set sends nothing.
 unfoldable pub sends : Set → ℕ → Progress → Turn
@@ -68,9 +71,32 @@ unfoldable pub replyTurn : ℕ → Progress → Turn
 replyTurn now progress =
     cond (dueBy (progress .reply) now) (sends (ptrReply now progress) now (withoutReply progress)) (record { progress = progress; output = Nothing })
 
+-- A held query at its step: "Its answers are what it asked for, less causes (a) by what it knows and (b) with 1,000 ms, PTR too, in one packet in 01's order, by
+-- the claims as they are then. One with nothing to send is taken and passed. A PTR reply that is set stays set."
+abbrev pub withoutHold : Place → Progress → Progress
+withoutHold place progress =
+    record {
+      instance = progress .instance;
+      host = progress .host;
+      sent = progress .sent;
+      reply = progress .reply;
+      holds = withHold place noHold (progress .holds);
+      draw = progress .draw;
+      last = progress .last;
+    }
+
+unfoldable pub holdAnswers : Place → Bool → ℕ → Progress → Set
+holdAnswers place aaaa now progress = wantedOf progress (asksOfHold (holdAt place (progress .holds))) now aaaa
+
+unfoldable pub holdTurn : Place → Bool → ℕ → Progress → Turn
+holdTurn place aaaa now progress =
+    cond (dueBy (holdDue place progress) now) (sends (holdAnswers place aaaa now progress) now (withoutHold place progress))
+    (record { progress = progress; output = Nothing })
+
 unfoldable pub stepTurn : Step → Bool → ℕ → Progress → Turn
 stepTurn (OfClaim claim) aaaa now progress = claimTurn claim aaaa now progress
 stepTurn PtrReply aaaa now progress = replyTurn now progress
+stepTurn (OfHold place) aaaa now progress = holdTurn place aaaa now progress
 
 -- "one with nothing to send is taken and passed, the first that sends ends the tick"
 abbrev pub orElse : Output → Turn → (Progress → Turn) → Turn
@@ -85,7 +111,7 @@ walked (s ∷ ss) aaaa now progress = orElse (stepTurn s aaaa now progress .outp
 unfoldable pub endedOf : Turn → ℕ → Ticked
 endedOf t now = record { progress = withLast now (t .progress); output = t .output; more = moreDue (t .progress) now }
 
--- "A tick walks the due steps, instance, host, then PTR reply"
+-- "A tick walks the due steps, instance, host, then PTR reply", then the held queries
 unfoldable pub tickOf : Progress → ℕ → Bool → Ticked
 tickOf progress now aaaa = endedOf (walked steps aaaa now progress) now
 

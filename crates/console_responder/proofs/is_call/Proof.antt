@@ -1,6 +1,6 @@
 -- `console_responder::is_call` meets its contract. Assumes nothing.
 use mathlib.Core.Path.{sym, _∙_}
-use Rattle.console_responder.proofs.Tested.{word-1, word-2, word-3, word-4, word-5}
+use Rattle.console_responder.proofs.Tested.{word-1, word-2, word-3, word-4, word-5, word-6}
 use borrow.Author.Needs.{needs}
 use Rattle.console_responder.proofs.is_call.Statement.{statement}
 use Rattle.console_responder.proofs.is_call.Tie as tie
@@ -48,7 +48,16 @@ same-bytes-requires-5 : tie.Need-same-bytes-requires-5
 same-bytes-requires-5 c κs = search needs
 
 returns-5 : tie.Need-returns-5
-returns-5 c = word-5 (c .before .before .before .before .before .before .before .before .before .before .before .before .before .before .before .args .word .now) (sym (c .before .before .before .before .before .before .before .before .before .before .before .before .same-bytes .ensures) ∙ c .before .before .before .before .before .before .before .before .before .before .before .if1 .left) (sym (c .before .before .before .before .before .before .before .before .before .same-bytes2 .ensures) ∙ c .before .before .before .before .before .before .before .before .if2 .left) (sym (c .before .before .before .before .before .before .same-bytes3 .ensures) ∙ c .before .before .before .before .before .if3 .left) (sym (c .before .before .before .same-bytes4 .ensures) ∙ c .before .before .if4 .left) _ (c .same-bytes5 .ensures)
+returns-5 c = word-5 (c .before .before .before .before .before .before .before .before .before .before .before .before .before .before .before .before .args .word .now) (sym (c .before .before .before .before .before .before .before .before .before .before .before .before .before .same-bytes .ensures) ∙ c .before .before .before .before .before .before .before .before .before .before .before .before .if1 .left) (sym (c .before .before .before .before .before .before .before .before .before .before .same-bytes2 .ensures) ∙ c .before .before .before .before .before .before .before .before .before .if2 .left) (sym (c .before .before .before .before .before .before .before .same-bytes3 .ensures) ∙ c .before .before .before .before .before .before .if3 .left) (sym (c .before .before .before .before .same-bytes4 .ensures) ∙ c .before .before .before .if4 .left) (sym (c .before .same-bytes5 .ensures) ∙ c .if5 .taken)
+
+slice-aggregate-same-bytes-6 : tie.Need-slice-aggregate-same-bytes-6
+slice-aggregate-same-bytes-6 c = search needs
+
+same-bytes-requires-6 : tie.Need-same-bytes-requires-6
+same-bytes-requires-6 c κs = search needs
+
+returns-6 : tie.Need-returns-6
+returns-6 c = word-6 (c .before .before .before .before .before .before .before .before .before .before .before .before .before .before .before .before .before .before .args .word .now) (sym (c .before .before .before .before .before .before .before .before .before .before .before .before .before .before .before .same-bytes .ensures) ∙ c .before .before .before .before .before .before .before .before .before .before .before .before .before .before .if1 .left) (sym (c .before .before .before .before .before .before .before .before .before .before .before .before .same-bytes2 .ensures) ∙ c .before .before .before .before .before .before .before .before .before .before .before .if2 .left) (sym (c .before .before .before .before .before .before .before .before .before .same-bytes3 .ensures) ∙ c .before .before .before .before .before .before .before .before .if3 .left) (sym (c .before .before .before .before .before .before .same-bytes4 .ensures) ∙ c .before .before .before .before .before .if4 .left) (sym (c .before .before .before .same-bytes5 .ensures) ∙ c .before .before .if5 .left) _ (c .same-bytes6 .ensures)
 
 pub is-call-spec : {M : Type 1} → statement M
 is-call-spec =
@@ -68,4 +77,7 @@ is-call-spec =
     returns-4
     slice-aggregate-same-bytes-5
     same-bytes-requires-5
-    returns-5)
+    returns-5
+    slice-aggregate-same-bytes-6
+    same-bytes-requires-6
+    returns-6)

@@ -46,6 +46,9 @@ returns-2 c =
     says-response (a .setup) (messageIn (a .p .now) (a .l)) _ _ _ _ (omega arith)
     (c .before .before .before .no-record3 .ensures) (c .before .before .no-record4 .ensures) (c .before .response-to .ensures) (c .response-to2 .ensures)
 
+is-truncated-requires : tie.Need-is-truncated-requires
+is-truncated-requires c κs = search needs
+
 asked-for-requires : tie.Need-asked-for-requires
 asked-for-requires c κs = search needs
 
@@ -61,8 +64,8 @@ query-to-requires-2 c κs = search needs
 returns-3 : tie.Need-returns-3
 unfolding messageIn
 returns-3 c =
-    let a = c .before .before .before .before .before .before .before .args in
-    says-query (a .setup) (messageIn (a .p .now) (a .l)) _ _ _ _ (omega arith)
+    let a = c .before .before .before .before .before .before .before .before .args in
+    says-query (a .setup) (messageIn (a .p .now) (a .l)) _ _ _ _ _ (omega arith) (c .before .before .before .before .is-truncated .ensures)
     (c .before .before .before .asked-for .ensures) (c .before .before .known-in .ensures) (c .before .query-to .ensures) (c .query-to2 .ensures)
 
 pub facts-spec : {M : Type 1} → statement M
@@ -78,6 +81,7 @@ facts-spec =
     response-to-requires
     response-to-requires-2
     returns-2
+    is-truncated-requires
     asked-for-requires
     known-in-requires
     query-to-requires

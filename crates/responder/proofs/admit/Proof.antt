@@ -9,19 +9,19 @@ time-refused-requires c κs = tt
 returns : tie.Need-returns
 returns c = receive-1 _ _ (told (c .before .time-refused .ensures) (c .if1 .taken))
 
-reply-draw-refused-requires : tie.Need-reply-draw-refused-requires
-reply-draw-refused-requires c κs = tt
+draws-refused-requires : tie.Need-draws-refused-requires
+draws-refused-requires c κs = tt
 
 returns-2 : tie.Need-returns-2
 returns-2 c =
     let time = c .before .before in
-    receive-2 _ _ (told (time .before .time-refused .ensures) (time .if1 .left)) (told (c .before .reply-draw-refused .ensures) (c .if2 .taken))
+    receive-2 _ _ (told (time .before .time-refused .ensures) (time .if1 .left)) (told (c .before .draws-refused .ensures) (c .if2 .taken))
 
 returns-3 : tie.Need-returns-3
 returns-3 c =
     let draw = c .before in
     let time = draw .before .before in
-    receive-3 _ _ (told (time .before .time-refused .ensures) (time .if1 .left)) (told (draw .before .reply-draw-refused .ensures) (draw .if2 .left))
+    receive-3 _ _ (told (time .before .time-refused .ensures) (time .if1 .left)) (told (draw .before .draws-refused .ensures) (draw .if2 .left))
     (c .if3 .taken)
 
 read-from-requires : tie.Need-read-from-requires
@@ -39,7 +39,7 @@ returns-4 c =
     let read = l .before .before in
     let draw = read .before .before in
     let time = draw .before .before in
-    receive-7 _ _ (told (time .before .time-refused .ensures) (time .if1 .left)) (told (draw .before .reply-draw-refused .ensures) (draw .if2 .left))
+    receive-7 _ _ (told (time .before .time-refused .ensures) (time .if1 .left)) (told (draw .before .draws-refused .ensures) (draw .if2 .left))
     (read .before .if3 .left) _ (read .read-from .ensures) _ (l .l .given .1) (told (c .before .state-refused .ensures) (c .if4 .taken))
 
 enum-known-n : tie.Need-enum-known-n
@@ -51,7 +51,7 @@ returns-5 c =
     let read = l .before .before in
     let draw = read .before .before in
     let time = draw .before .before in
-    receive-read _ _ (told (time .before .time-refused .ensures) (time .if1 .left)) (told (draw .before .reply-draw-refused .ensures) (draw .if2 .left))
+    receive-read _ _ (told (time .before .time-refused .ensures) (time .if1 .left)) (told (draw .before .draws-refused .ensures) (draw .if2 .left))
     (read .before .if3 .left) _ (read .read-from .ensures) _ (l .l .given .1) (told (c .before .state-refused .ensures) (c .if4 .left))
 
 returns-6 : tie.Need-returns-6
@@ -60,7 +60,7 @@ returns-6 c =
     let read = n .before .before in
     let draw = read .before .before in
     let time = draw .before .before in
-    receive-message _ _ (told (time .before .time-refused .ensures) (time .if1 .left)) (told (draw .before .reply-draw-refused .ensures) (draw .if2 .left))
+    receive-message _ _ (told (time .before .time-refused .ensures) (time .if1 .left)) (told (draw .before .draws-refused .ensures) (draw .if2 .left))
     (read .before .if3 .left) _ (read .read-from .ensures) _ (n .n .given .1)
 
 pub admit-spec : {M : Type 1} → statement M
@@ -69,7 +69,7 @@ admit-spec =
     (tie.spec
     time-refused-requires
     returns
-    reply-draw-refused-requires
+    draws-refused-requires
     returns-2
     returns-3
     read-from-requires

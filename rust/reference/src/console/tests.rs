@@ -49,14 +49,55 @@ fn a_reply_to_a_plain_resolver() {
     let reply =
         format!("123484000001000100000000{question}04646f636bc011000100010000000a00040a000007");
     assert_eq!(
-        ask(&mut console, &format!("recv 750 53 20 {packet}")),
+        ask(
+            &mut console,
+            &format!("recv 750 0a000001 53 20 400 {packet}")
+        ),
         format!("unicast {reply}")
     );
     assert_eq!(ask(&mut console, "out 0 4"), "out 12348400");
     assert_eq!(
-        ask(&mut console, &format!("recv 750 5353 20 {packet}")),
+        ask(
+            &mut console,
+            &format!("recv 750 0a000001 5353 20 400 {packet}")
+        ),
         "quiet"
     );
+}
+
+#[test]
+fn holds_are_shown_in_order_of_arrival() {
+    let mut console = Console::default();
+    assert_eq!(ask(&mut console, "holds"), "holds -");
+    ask(&mut console, START);
+    let truncated = "000002000000000000000000";
+    for (from, hold) in [
+        ("0A000001", 450),
+        ("fe800000000000000000000000000001", 400),
+        ("00000000000000000000ffff0a000001", 401),
+    ] {
+        let line = format!("recv 7 {from} 5353 20 {hold} {truncated}");
+        assert_eq!(ask(&mut console, &line), "quiet");
+    }
+    // an IPv4 address is the mapped one
+    assert_eq!(
+        ask(&mut console, "holds"),
+        "holds 00000000000000000000ffff0a000001 457 fe800000000000000000000000000001 407"
+    );
+    ask(&mut console, "tick 407");
+    assert_eq!(
+        ask(&mut console, "holds"),
+        "holds 00000000000000000000ffff0a000001 457 fe800000000000000000000000000001 407"
+    );
+    // two probes go before them
+    ask(&mut console, "tick 407");
+    assert_eq!(ask(&mut console, "tick 407"), "quiet");
+    assert_eq!(
+        ask(&mut console, "holds"),
+        "holds 00000000000000000000ffff0a000001 457"
+    );
+    assert_eq!(ask(&mut console, START), "started");
+    assert_eq!(ask(&mut console, "holds"), "holds -");
 }
 
 #[test]
@@ -86,11 +127,20 @@ fn bad_lines() {
         "tick 18446744073709551616",
         "tick 0 4097",
         "tick 0 1452 0",
-        "recv 0 5353 20",
-        "recv 0 5353 20 0",
-        "recv 0 5353 20 0g",
-        "recv 0 5353 20 --",
-        "recv 0 5353 20 - 4097",
+        "recv 0 0a000001 5353 20 400",
+        "recv 0 0a000001 5353 20 400 0",
+        "recv 0 0a000001 5353 20 400 0g",
+        "recv 0 0a000001 5353 20 400 --",
+        "recv 0 0a000001 5353 20 400 - 4097",
+        "recv 0 5353 20 000000000000000000000000",
+        "recv 0 - 5353 20 400 -",
+        "recv 0 0a0000 5353 20 400 -",
+        "recv 0 0a00000100 5353 20 400 -",
+        "recv 0 00000000000000000000ffff0a0000 5353 20 400 -",
+        "recv 0 00000000000000000000ffff0a00000100 5353 20 400 -",
+        "recv 0 0a000001 5353 20 x -",
+        "holds 0",
+        "holds ",
         "out 4096 1",
         "out 18446744073709551615 1",
         "out 4097 0",
@@ -125,13 +175,16 @@ fn numbers_wider_than_a_field_keep_their_meaning() {
     ask(&mut console, START);
     let header = "000084000000000000000000";
     for (line, answer) in [
-        ("recv 0 70889 20 H", "refused 5"),
-        ("recv 0 70889 20 000000000000000000000000", "quiet"),
-        ("recv 0 5353 276 H", "refused 2"),
-        ("recv 0 5353 18446744073709551615 H", "refused 2"),
-        ("recv 0 5353 020 H", "quiet"),
-        ("recv 0 5353 20 H 1451", "refused 3"),
-        ("recv 0 5353 20 H 4096", "quiet"),
+        ("recv 0 0a000001 70889 20 400 H", "refused 5"),
+        ("recv 0 0a000001 70889 20 400 000000000000000000000000", "quiet"),
+        ("recv 0 0a000001 5353 276 400 H", "refused 2"),
+        ("recv 0 0a000001 5353 18446744073709551615 400 H", "refused 2"),
+        ("recv 0 0a000001 5353 20 399 H", "refused 2"),
+        ("recv 0 0a000001 5353 20 501 H", "refused 2"),
+        ("recv 0 0a000001 5353 20 65936 H", "refused 2"),
+        ("recv 0 0a000001 5353 020 0500 H", "quiet"),
+        ("recv 0 0a000001 5353 20 400 H 1451", "refused 3"),
+        ("recv 0 0a000001 5353 20 400 H 4096", "quiet"),
         ("put 0 70889 H", "refused 5"),
         ("put 0 70889 000000000000000000000000", "cached 0 0"),
         ("put 0 5353 H", "cached 0 0"),

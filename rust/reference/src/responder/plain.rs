@@ -27,14 +27,18 @@ impl Responder {
 #[cfg(test)]
 mod tests {
     use super::super::tests::*;
-    use super::super::{Claim, LEAST_OUT};
+    use super::super::{Arrival, Claim, LEAST_OUT};
     use super::*;
     use crate::MDNS_PORT;
 
     /// Gives the reply to a query from port 1024, or nothing.
     fn asked(responder: &mut Responder, now: u64, query: &[u8]) -> Option<Vec<u8>> {
         let mut out = [0; LEAST_OUT];
-        let answered = responder.receive(now, 1024, 20, query, &mut out).unwrap();
+        let arrival = Arrival {
+            port: 1024,
+            ..arrival(now, query)
+        };
+        let answered = responder.receive(arrival, &mut out).unwrap();
         assert_eq!(answered.multicast, None);
         answered.unicast.map(|length| out[..length].to_vec())
     }
@@ -146,7 +150,11 @@ mod tests {
         let conflict = response(&[(HOST, 1, 1, 120, OTHER_A)]);
         let mut out = [0; LEAST_OUT];
         for port in [0, 53, MDNS_PORT - 1, MDNS_PORT + 65_536] {
-            let refused = responder.receive(2100, port, 20, &conflict, &mut out);
+            let arrival = Arrival {
+                port,
+                ..arrival(2100, &conflict)
+            };
+            let refused = responder.receive(arrival, &mut out);
             assert_eq!(refused.err().map(|refusal| refusal.number()), Some(5));
         }
         assert_eq!(responder.last, 2000);

@@ -52,11 +52,24 @@ fn host_probe(records: &[TestRecord]) -> Vec<u8> {
     packet(0, &[(HOST, 255, 1)], [&[], records, &[]])
 }
 
+/// A packet that comes from port 5353 of 10.0.0.1, with the least draws.
+pub(super) fn arrival(now: u64, packet: &[u8]) -> Arrival<'_> {
+    let mut from = [0; 16];
+    from[10..].copy_from_slice(&[0xff, 0xff, 10, 0, 0, 1]);
+    Arrival {
+        now,
+        from,
+        port: MDNS_PORT,
+        draw: 20,
+        hold_draw: 400,
+        packet,
+    }
+}
+
 /// Gives the packet sent, or nothing.
 pub(super) fn receive(responder: &mut Responder, now: u64, packet: &[u8]) -> Option<Vec<u8>> {
     let mut out = [0; LEAST_OUT];
-    let answered = responder.receive(now, MDNS_PORT, 20, packet, &mut out);
-    let answered = answered.unwrap();
+    let answered = responder.receive(arrival(now, packet), &mut out).unwrap();
     assert_eq!(answered.unicast, None);
     answered.multicast.map(|length| out[..length].to_vec())
 }
@@ -405,20 +418,28 @@ fn refusals_in_order() {
     let malformed = packet(0, &[(&[0xc0, 12], 1, 1)], [&[], &[], &[]]);
     let of_response = packet(0x8000, &[(&[0xc0, 12], 1, 1)], [&[], &[], &[]]);
     let opcode = packet(0x0800, &[(&[0xc0, 12], 1, 1)], [&[], &[], &[]]);
-    for (now, port, draw, message, room, number) in [
-        (1999, 1, 19, &[0; 11][..], 0, 1),
-        (MOST_TIME + 1, 1, 19, &[0; 11], 0, 1),
-        (2000, 1, 19, &[0; 11], 0, 2),
-        (2000, 1, 121, &[0; 11], 0, 2),
-        (2000, 1, 20, &[0; 11], 1451, 3),
-        (2000, 1, 120, &[0; 11], 1452, 4),
-        (2000, 1, 20, &of_response, 1452, 5),
-        (2000, 1, 20, &opcode, 1452, 5),
-        (2000, 1, 20, &malformed, 1452, 6),
-        (2000, MDNS_PORT, 20, &opcode, 1452, 5),
-        (2000, MDNS_PORT, 20, &malformed, 1452, 6),
+    for (now, port, draws, message, room, number) in [
+        (1999, 1, (19, 400), &[0; 11][..], 0, 1),
+        (MOST_TIME + 1, 1, (19, 400), &[0; 11], 0, 1),
+        (2000, 1, (19, 400), &[0; 11], 0, 2),
+        (2000, 1, (121, 400), &[0; 11], 0, 2),
+        (2000, 1, (20, 399), &[0; 11], 0, 2),
+        (2000, 1, (120, 501), &[0; 11], 0, 2),
+        (2000, 1, (20, 400), &[0; 11], 1451, 3),
+        (2000, 1, (120, 500), &[0; 11], 1452, 4),
+        (2000, 1, (20, 400), &of_response, 1452, 5),
+        (2000, 1, (20, 400), &opcode, 1452, 5),
+        (2000, 1, (20, 400), &malformed, 1452, 6),
+        (2000, MDNS_PORT, (20, 400), &opcode, 1452, 5),
+        (2000, MDNS_PORT, (20, 400), &malformed, 1452, 6),
     ] {
-        let refused = responder.receive(now, port, draw, message, &mut out[..room]);
+        let arrival = Arrival {
+            port,
+            draw: draws.0,
+            hold_draw: draws.1,
+            ..arrival(now, message)
+        };
+        let refused = responder.receive(arrival, &mut out[..room]);
         assert_eq!(refused.map_err(Refusal::number), Err(number));
     }
     for (now, room, number) in [(1999, 0, 1), (2000, 1451, 3)] {
@@ -429,5 +450,12 @@ fn refusals_in_order() {
     responder.start_draw = 251;
     assert_eq!(responder.tick(2000, &mut out), Err(Refusal::Setup));
     responder.reply = Some(MOST_KEPT_TIME + 1);
+    assert_eq!(responder.tick(2000, &mut out), Err(Refusal::Time));
+    let mut responder = held();
+    let truncated = packet(0x0200, &[], [&[], &[], &[]]);
+    assert_eq!(receive(&mut responder, 2000, &truncated), None);
+    responder.holds[0].due = MOST_KEPT_TIME;
+    assert_eq!(responder.tick(2000, &mut out), Ok(None));
+    responder.holds[0].due += 1;
     assert_eq!(responder.tick(2000, &mut out), Err(Refusal::Time));
 }

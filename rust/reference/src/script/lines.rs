@@ -115,7 +115,9 @@ impl Script {
                     self.say(line);
                 }
                 1 => {
-                    let word = self.random.pick(&["tick ", "slot ", "recv 0 5353 20 - "]);
+                    let word =
+                        self.random
+                            .pick(&["tick ", "slot ", "recv 0 0a000001 5353 20 400 - "]);
                     let length =
                         self.random
                             .pick(&[MOST_LINE - 1, MOST_LINE, MOST_LINE + 1, MOST_LINE + 9]);
@@ -158,7 +160,12 @@ impl Script {
                         b"look 0 00 1",
                         b"start 0",
                         b"tick 1 2 3",
-                        b"recv 0 5353 20",
+                        b"recv 0 0a000001 5353 20 400",
+                        b"recv 0 5353 20 000000000000000000000000",
+                        b"recv 0 0a0001 5353 20 400 000000000000000000000000",
+                        b"recv 0 - 5353 20 400 000000000000000000000000",
+                        b"holds 0",
+                        b"hold",
                         b"put 0 5353",
                         b"clear 0",
                         b"table",
@@ -198,8 +205,8 @@ impl Script {
         let line = match self.random.below(10) {
             0 => format!("tick {last}"),
             1 => format!("tick {last} 1452"),
-            2 => format!("recv {last} 5353 20 000000000000000000000000"),
-            3 => format!("recv {last} 5353 20 000000000000000000000000 4096"),
+            2 => format!("recv {last} 0a000001 5353 20 400 000000000000000000000000"),
+            3 => format!("recv {last} 0a000001 5353 20 400 000000000000000000000000 4096"),
             4 => format!("put {received} 5353 000084000000000000000000"),
             5 => format!("look {received} 046465736b056c6f63616c00 1 0"),
             6 => "txt 6b 036b3d31 -".to_string(),

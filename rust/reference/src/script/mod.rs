@@ -1,6 +1,7 @@
 //! Long hostile console scripts from a seed. The writer of a script runs each
 //! line on a console of its own, and aims the next lines at the state it sees.
 
+mod holds;
 mod lines;
 mod packet;
 mod plain;
@@ -164,6 +165,11 @@ mod tests {
             "recv sent response with 1 NSEC",
             "recv sent response with 2 NSEC",
             "recv sent response of 6",
+            "holds none",
+            "holds of 1",
+            "holds of 4",
+            "tick sent response with 1 NSEC",
+            "tick sent response of 5",
             "recv unicast of 1",
             "recv unicast of 2",
             "recv unicast with SRV",

@@ -98,12 +98,14 @@ impl Script {
             "tick 0",
             "tick 0 1451",
             "tick 4611686018427387905",
-            "recv 0 5353 20 000000000000000000000000",
-            "recv 0 5353 20 000000000001000000000000",
-            "recv 0 5354 20 000000000001000000000000",
-            "recv 0 5354 20 000080000001000000000000",
-            "recv 0 5354 20 000000000000000000000000",
-            "recv 0 5353 19 000000000001000000000000",
+            "recv 0 0a000001 5353 20 400 000000000000000000000000",
+            "recv 0 0a000001 5353 20 400 000000000001000000000000",
+            "recv 0 0a000001 5354 20 400 000000000001000000000000",
+            "recv 0 0a000001 5354 20 400 000080000001000000000000",
+            "recv 0 0a000001 5354 20 400 000000000000000000000000",
+            "recv 0 0a000001 5353 19 400 000000000001000000000000",
+            "recv 0 0a000001 5353 20 399 000000000001000000000000",
+            "holds",
             "slot 0",
             "slot 63",
             "out 0 4096",
@@ -172,13 +174,19 @@ impl Script {
             self.say("claims");
             return;
         }
+        if !self.model.responder.holds.is_empty() && self.random.chance(20) {
+            self.recv_more_known(now);
+            return;
+        }
         match self.random.below(100) {
             0..=9 => self.climb(),
             10..=12 => self.relapse(),
             13..=34 => self.tick_all(now),
             35..=49 => self.recv_probe(now),
-            50..=66 => self.recv_query(now),
-            67..=74 => self.recv_plain(now),
+            50..=60 => self.recv_query(now),
+            61..=65 => self.recv_truncated(now),
+            66 | 67 => self.burst(now),
+            68..=74 => self.recv_plain(now),
             75..=87 => self.recv_response(now),
             88..=90 => self.recv_echo(now),
             91..=94 => self.refused_call(now),
@@ -207,19 +215,17 @@ impl Script {
         if self.random.chance(50) {
             self.say("claims");
         }
+        if self.random.chance(10) {
+            self.say("holds");
+        }
     }
 
     /// A time at or after the responder's last, often where a step is due or a
     /// record may be sent again.
-    fn life_time(&mut self) -> u64 {
+    pub(super) fn life_time(&mut self) -> u64 {
         let responder = &self.model.responder;
         let last = responder.last;
-        let dues = [
-            responder.instance.due(),
-            responder.host.due(),
-            responder.reply,
-        ];
-        let dues: Vec<u64> = dues.into_iter().flatten().collect();
+        let dues: Vec<u64> = responder.dues().collect();
         let multicast: Vec<u64> = responder.multicast.into_iter().flatten().collect();
         let time = match self.random.below(10) {
             0..=3 if !dues.is_empty() => {
@@ -302,7 +308,7 @@ impl Script {
         self.climb();
     }
 
-    fn tick_all(&mut self, now: u64) {
+    pub(super) fn tick_all(&mut self, now: u64) {
         let room = self
             .random
             .pick(&["", "", "", "", " 1452", " 4096", " 2000"]);
@@ -324,13 +330,20 @@ impl Script {
     }
 
     pub(super) fn recv_from(&mut self, port: u64, now: u64, packet: &[u8]) {
+        let source = self.source();
+        self.recv_with(&source, port, now, packet);
+    }
+
+    pub(super) fn recv_with(&mut self, source: &[u8], port: u64, now: u64, packet: &[u8]) {
         let draw = match self.random.below(5) {
             0 => 20,
             1 => 120,
             _ => self.random.within(20..=120),
         };
         let room = self.random.pick(&["", "", "", "", " 1452", " 4096"]);
-        let line = format!("recv {now} {port} {draw} {}{room}", self.hex(packet));
+        let (from, hold) = (self.hex(source), self.hold_draw());
+        let packet = self.hex(packet);
+        let line = format!("recv {now} {from} {port} {draw} {hold} {packet}{room}");
         self.say(line);
     }
 
@@ -712,7 +725,7 @@ impl Script {
             let digit = self.random.pick(&["0", "1", "8", "f"]);
             packet.replace_range(at..=at, digit);
         }
-        self.say(format!("recv {now} 5353 20 {packet}"));
+        self.say(format!("recv {now} 0a000001 5353 20 400 {packet}"));
         self.say(format!("read {packet}"));
     }
 
@@ -738,15 +751,19 @@ impl Script {
             draft.flags = 0x8400;
         }
         let mut packet = draft.encode(&mut self.random);
-        let (mut time, mut port, mut draw, mut room) = (now, MDNS_PORT, 20, 1452);
+        let (mut time, mut port, mut draw, mut hold, mut room) = (now, MDNS_PORT, 20, 400, 1452);
         for _ in 0..self.random.within(1..=3) {
-            match self.random.below(7) {
+            match self.random.below(8) {
                 0 => time = self.bad_time(last),
                 1 => port = self.random.pick(&OTHER_PORTS),
                 2 => {
                     draw = self
                         .random
                         .pick(&[0, 19, 121, 250, 256 + 20, (1 << 32) + 20, u64::MAX])
+                }
+                7 => {
+                    let wrong = [0, 20, 399, 501, 65_536 + 400, (1 << 32) + 450, u64::MAX];
+                    hold = self.random.pick(&wrong);
                 }
                 3 => room = self.random.pick(&[0, 1, 1451, 4097]),
                 4 => packet.truncate(self.random.pick(&[0, 1, 11])),
@@ -757,7 +774,9 @@ impl Script {
                 _ => packet.resize(8973, 0),
             }
         }
-        let line = format!("recv {time} {port} {draw} {} {room}", self.hex(&packet));
+        let (from, packet) = (self.source(), self.hex(&packet));
+        let from = self.hex(&from);
+        let line = format!("recv {time} {from} {port} {draw} {hold} {packet} {room}");
         self.say(line);
     }
 

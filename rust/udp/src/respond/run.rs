@@ -3,7 +3,7 @@
 use std::error::Error;
 use std::io::{self, Write};
 
-use kurgashel::{Refusal, Responder, OUT_BYTES};
+use kurgashel::{Arrival, OutBuffers, Refusal, Responder, OUT_BYTES};
 
 use super::options::Options;
 use super::report::{all_lost, claims, Report};
@@ -78,22 +78,30 @@ impl Session {
 
     /// Waits for a packet, until a step is due, and has the library take it.
     fn hear(&mut self) -> Result<(), Box<dyn Error>> {
-        let mut out = [0; OUT_BYTES];
         let due = self.responder.due().unwrap_or(u64::MAX);
         let wait = due.saturating_sub(self.clock.now());
         let Some(packet) = self.link.receive(wait)? else {
             return Ok(());
         };
-        let draw = self.draws.within(&draw::REPLY)?;
         let (now, header) = (self.clock.now(), packet.header);
-        let port = header.source.port();
-        match self
-            .responder
-            .receive(now, port, draw, packet.bytes, &mut out)
-        {
+        let arrival = Arrival {
+            now,
+            from: header.source.into(),
+            draws: kurgashel::Draws {
+                reply: self.draws.within(&draw::REPLY)?,
+                hold: self.draws.within(&draw::HOLD)?,
+            },
+            packet: packet.bytes,
+        };
+        let (mut to_all, mut to_sender) = ([0; OUT_BYTES], [0; OUT_BYTES]);
+        let out = OutBuffers {
+            to_all: &mut to_all,
+            to_sender: &mut to_sender,
+        };
+        match self.responder.receive(arrival, out) {
             Ok(sent) => {
-                self.send_to_all(&out[..sent.to_all])?;
-                self.reply(now, &out[..sent.to_sender], &header);
+                self.send_to_all(&to_all[..sent.to_all])?;
+                self.reply(now, &to_sender[..sent.to_sender], &header);
             }
             Err(refusal) => self.note_refused(now, &header, refusal),
         }

@@ -15,6 +15,9 @@ multicasts-at-requires c κs = search needs
 when-at-requires : tie.Need-when-at-requires
 when-at-requires c κs = search needs
 
+holds-at-requires : tie.Need-holds-at-requires
+holds-at-requires c κs = search needs
+
 be64-requires : tie.Need-be64-requires
 be64-requires c κs = search needs
 
@@ -33,6 +36,7 @@ progress-at-spec =
     claim-at-requires-2
     multicasts-at-requires
     when-at-requires
+    holds-at-requires
     be64-requires
     be64-requires-2
     returns)

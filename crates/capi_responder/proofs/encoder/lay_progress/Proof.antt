@@ -15,6 +15,9 @@ put-multicasts-requires c κs = search needs
 put-when-requires : tie.Need-put-when-requires
 put-when-requires c κs = search needs
 
+put-holds-requires : tie.Need-put-holds-requires
+put-holds-requires c κs = search needs
+
 put-number-requires : tie.Need-put-number-requires
 put-number-requires c κs = search needs
 
@@ -26,7 +29,8 @@ same-length c = search needs
 
 returns : tie.Need-returns
 returns c =
-    let c₆ = c .before .before in
+    let c₇ = c .before .before in
+    let c₆ = c₇ .before .before .before .before in
     let c₅ = c₆ .before .before .before .before in
     let c₄ = c₅ .before .before .before .before in
     let c₃ = c₄ .before .before .before .before in
@@ -37,8 +41,9 @@ returns c =
     (c₂ .put-claim2 .ensures)
     (c₃ .put-multicasts .ensures)
     (c₄ .put-when .ensures)
-    (c₅ .put-number .ensures)
-    (c₆ .put-number2 .ensures)
+    (c₅ .put-holds .ensures)
+    (c₆ .put-number .ensures)
+    (c₇ .put-number2 .ensures)
 
 pub lay-progress-spec : {M : Type 1} → statement M
 lay-progress-spec =
@@ -48,6 +53,7 @@ lay-progress-spec =
     put-claim-requires-2
     put-multicasts-requires
     put-when-requires
+    put-holds-requires
     put-number-requires
     put-number-requires-2
     same-length

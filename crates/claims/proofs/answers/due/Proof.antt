@@ -4,16 +4,16 @@ use Prim.Native.Nat.{_≤_, _-_}
 use mathlib.Core.Path.{_≡_}
 use mathlib.Core.Bool.{false, _&&_}
 use native.Mathlib.Omega.{arith}
-use Rattle.claims.specs.answers.Answers.{isDue, dueOf}
+use Rattle.claims.specs.answers.Answers.{isDue, dueTo}
 use borrow.Author.Needs.{needs}
 use Rattle.claims.proofs.answers.due.Statement.{statement}
 use Rattle.claims.proofs.answers.due.Tie as tie
 
 abbrev Inv-loop : tie.InvT-loop
-Inv-loop progress f aaaa flags₀ i₀ flags i = (i ≤ records) × (flags ≡ filled false (isDue progress f aaaa) i)
+Inv-loop progress q aaaa flags₀ i₀ flags i = (i ≤ records) × (flags ≡ filled false (isDue progress q aaaa) i)
 
 abbrev μ-loop : tie.MeasureT-loop
-μ-loop progress f aaaa flags₀ i₀ flags i = records - i
+μ-loop progress q aaaa flags₀ i₀ flags i = records - i
 
 loop-holds : tie.Need-loop-holds Inv-loop μ-loop
 loop-holds c = (omega arith, none-filled false _)
@@ -40,7 +40,7 @@ set-of-requires : tie.Need-set-of-requires Inv-loop μ-loop
 set-of-requires c κs = search needs
 
 returns : tie.Need-returns Inv-loop μ-loop
-unfolding dueOf
+unfolding dueTo
 returns c = set-filled _ _ _ _ (c .set-of .ensures) (omega arith) (c .before .before .loop .inv .0) (c .before .before .loop .inv .1)
 
 pub due-spec : {M : Type 1} → statement M

@@ -11,8 +11,8 @@ returns c = simp (← (c .before .is-in .ensures), c .if1 .taken)
 claim-for-requires : tie.Need-claim-for-requires
 claim-for-requires c κs = search needs
 
-heard-for-requires : tie.Need-heard-for-requires
-heard-for-requires c κs = search needs
+gap-for-requires : tie.Need-gap-for-requires
+gap-for-requires c κs = search needs
 
 sent-of-requires : tie.Need-sent-of-requires
 sent-of-requires c κs = search needs
@@ -21,13 +21,7 @@ was-recent-requires : tie.Need-was-recent-requires
 was-recent-requires c κs = search needs
 
 returns-2 : tie.Need-returns-2
-returns-2 c = simp (← (c .before .before .before .before .before .before .is-in .ensures), c .before .before .before .before .before .if1 .left, ← (c .before .before .before .before .claim-for .ensures), ← (c .before .before .before .heard-for .ensures), c .before .if2 .taken, ← (c .before .before .sent-of .ensures)) (c .was-recent .ensures)
-
-was-recent-requires-2 : tie.Need-was-recent-requires-2
-was-recent-requires-2 c κs = search needs
-
-returns-3 : tie.Need-returns-3
-returns-3 c = simp (← (c .before .before .before .before .before .before .is-in .ensures), c .before .before .before .before .before .if1 .left, ← (c .before .before .before .before .claim-for .ensures), ← (c .before .before .before .heard-for .ensures), c .before .if2 .left, ← (c .before .before .sent-of .ensures)) (c .was-recent2 .ensures)
+returns-2 c = simp (← (c .before .before .before .before .before .is-in .ensures), c .before .before .before .before .if1 .left, ← (c .before .before .before .claim-for .ensures), ← (c .before .before .gap-for .ensures), ← (c .before .sent-of .ensures)) (c .was-recent .ensures)
 
 pub is-omitted-spec : {M : Type 1} → statement M
 is-omitted-spec =
@@ -36,9 +30,7 @@ is-omitted-spec =
     is-in-requires
     returns
     claim-for-requires
-    heard-for-requires
+    gap-for-requires
     sent-of-requires
     was-recent-requires
-    returns-2
-    was-recent-requires-2
-    returns-3)
+    returns-2)

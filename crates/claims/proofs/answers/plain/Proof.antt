@@ -3,12 +3,15 @@ use borrow.Author.Needs.{needs}
 use Rattle.claims.proofs.answers.plain.Statement.{statement}
 use Rattle.claims.proofs.answers.plain.Tie as tie
 
+asks-of-requires : tie.Need-asks-of-requires
+asks-of-requires c κs = search needs
+
 due-requires : tie.Need-due-requires
 due-requires c κs = search needs
 
 returns : tie.Need-returns
 unfolding plainOf
-returns c = simp (c .due .ensures)
+returns c = simp (c .due .ensures, c .before .asks-of .ensures)
 
 pub plain-spec : {M : Type 1} → statement M
-plain-spec = tie.close (tie.spec due-requires returns)
+plain-spec = tie.close (tie.spec asks-of-requires due-requires returns)

@@ -1,54 +1,25 @@
-use Rattle.claims.specs.answers.Answers.{receiveOf}
+use Rattle.claims.specs.answers.Held.{receiveOf}
 use borrow.Author.Needs.{needs}
 use Rattle.claims.proofs.answers.receive.Statement.{statement}
 use Rattle.claims.proofs.answers.receive.Tie as tie
 
-after-requires : tie.Need-after-requires
-after-requires c κs = search needs
+is-to-hold-requires : tie.Need-is-to-hold-requires
+is-to-hold-requires c κs = search needs
 
-after-requires-2 : tie.Need-after-requires-2
-after-requires-2 c κs = search needs
-
-wanted-requires : tie.Need-wanted-requires
-wanted-requires c κs = search needs
-
-at-once-requires : tie.Need-at-once-requires
-at-once-requires c κs = search needs
-
-heard-by-requires : tie.Need-heard-by-requires
-heard-by-requires c κs = search needs
-
-heard-by-requires-2 : tie.Need-heard-by-requires-2
-heard-by-requires-2 c κs = search needs
-
-mark-all-requires : tie.Need-mark-all-requires
-mark-all-requires c κs = search needs
-
-is-in-requires : tie.Need-is-in-requires
-is-in-requires c κs = search needs
-
-after-requires-3 : tie.Need-after-requires-3
-after-requires-3 c κs = search needs
-
-set-reply-requires : tie.Need-set-reply-requires
-set-reply-requires c κs = search needs
+hold-back-requires : tie.Need-hold-back-requires
+hold-back-requires c κs = search needs
 
 returns : tie.Need-returns
 unfolding receiveOf
-returns c = simp (c .set-reply .ensures, c .before .after3 .ensures, c .before .before .is-in .ensures, c .before .before .before .mark-all .ensures, c .before .before .before .before .heard-by2 .ensures, c .before .before .before .before .before .heard-by .ensures, c .before .before .before .before .before .before .at-once .ensures, c .before .before .before .before .before .before .before .wanted .ensures, c .before .before .before .before .before .before .before .before .after2 .ensures, c .before .before .before .before .before .before .before .before .before .after .ensures)
+returns c = simp (← (c .before .before .is-to-hold .ensures), c .before .if1 .taken) (c .hold-back .ensures)
+
+judge-requires : tie.Need-judge-requires
+judge-requires c κs = search needs
+
+returns-2 : tie.Need-returns-2
+unfolding receiveOf
+returns-2 c = simp (← (c .before .before .is-to-hold .ensures), c .before .if1 .left) (c .judge .ensures)
 
 pub receive-spec : {M : Type 1} → statement M
 receive-spec =
-    tie.close
-    (tie.spec
-    after-requires
-    after-requires-2
-    wanted-requires
-    at-once-requires
-    heard-by-requires
-    heard-by-requires-2
-    mark-all-requires
-    is-in-requires
-    after-requires-3
-    set-reply-requires
-    returns)
+    tie.close (tie.spec is-to-hold-requires hold-back-requires returns judge-requires returns-2)

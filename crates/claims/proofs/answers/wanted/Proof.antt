@@ -10,10 +10,10 @@ use Rattle.claims.proofs.answers.wanted.Statement.{statement}
 use Rattle.claims.proofs.answers.wanted.Tie as tie
 
 abbrev Inv-loop : tie.InvT-loop
-Inv-loop progress f now aaaa flags₀ i₀ flags i = (i ≤ records) × (flags ≡ filled false (isWanted progress f now aaaa) i)
+Inv-loop progress q now aaaa flags₀ i₀ flags i = (i ≤ records) × (flags ≡ filled false (isWanted progress q now aaaa) i)
 
 abbrev μ-loop : tie.MeasureT-loop
-μ-loop progress f now aaaa flags₀ i₀ flags i = records - i
+μ-loop progress q now aaaa flags₀ i₀ flags i = records - i
 
 loop-holds : tie.Need-loop-holds Inv-loop μ-loop
 loop-holds c = (omega arith, none-filled false _)

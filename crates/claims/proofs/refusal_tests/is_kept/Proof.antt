@@ -15,12 +15,15 @@ multicasts-kept-requires c κs = search needs
 is-within-requires : tie.Need-is-within-requires
 is-within-requires c κs = search needs
 
-all-five-requires : tie.Need-all-five-requires
-all-five-requires c κs = search needs
+holds-kept-requires : tie.Need-holds-kept-requires
+holds-kept-requires c κs = search needs
+
+all-six-requires : tie.Need-all-six-requires
+all-six-requires c κs = search needs
 
 returns : tie.Need-returns
 unfolding kept
-returns c = simp (c .all-five .ensures, c .before .is-within .ensures, c .before .before .multicasts-kept .ensures, c .before .before .before .claim-kept2 .ensures, c .before .before .before .before .claim-kept .ensures)
+returns c = simp (c .all-six .ensures, c .before .holds-kept .ensures, c .before .before .is-within .ensures, c .before .before .before .multicasts-kept .ensures, c .before .before .before .before .claim-kept2 .ensures, c .before .before .before .before .before .claim-kept .ensures)
 
 pub is-kept-spec : {M : Type 1} → statement M
 is-kept-spec =
@@ -30,5 +33,6 @@ is-kept-spec =
     claim-kept-requires-2
     multicasts-kept-requires
     is-within-requires
-    all-five-requires
+    holds-kept-requires
+    all-six-requires
     returns)

@@ -1,5 +1,6 @@
 -- `console_responder::sending::receive` meets its contract. Assumes nothing.
-use mathlib.Core.Path.{sym}
+use mathlib.Core.Path.{refl, sym}
+use Prim.Native.Nat.{ℕ}
 use native.Mathlib.Omega.{arith}
 use lib.Seq.{length-take-le}
 use Rattle.console_responder.proofs.After.{received-over}
@@ -20,7 +21,11 @@ same-length : tie.Need-same-length
 same-length c = search needs
 
 returns : tie.Need-returns
-returns c = let a = c .before .before .before .before .before .before .args in received-over (a .held) (a .out .now) (a .time) (a .n) (omega arith) _ (a .from) (a .draw) (a .packet .now) _ (c .before .before .receive .ensures .answers) (c .before .before .receive .ensures .writes)
+returns c =
+    let a = c .before .before .before .before .before .before .args in
+    received-over (a .held) (a .out .now) (a .time) (a .n) (omega arith) _
+    (λ (k : ℕ). record { time = a .time; from = a .from; port = a .port; draw = a .draw; hold = a .hold; packet = a .packet .now; room = k }) (λ k. refl) _
+    (c .before .before .receive .ensures .answers) (c .before .before .receive .ensures .writes)
 
 pub receive-spec : {M : Type 1} → statement M
 receive-spec =

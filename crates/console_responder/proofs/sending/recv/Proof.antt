@@ -5,7 +5,7 @@ use native.Mathlib.Omega.{arith}
 use lib.ListN.{replicate, length-replicate}
 use borrow.Author.Tests.{not-true, not-false}
 use Rattle.console_text.proofs.hex.Room.{in-room}
-use Rattle.console_responder.proofs.After.{not-recv, recv-over, is-recv}
+use Rattle.console_responder.proofs.After.{arrival-as, not-recv, recv-over, is-recv}
 use borrow.Author.Needs.{needs}
 use Rattle.console_responder.proofs.sending.recv.Statement.{statement}
 use Rattle.console_responder.proofs.sending.recv.Tie as tie
@@ -22,11 +22,17 @@ returns c = let a = c .before .before .before .before .before .before .args in n
 number-requires : tie.Need-number-requires
 number-requires c κs = search needs
 
+address-requires : tie.Need-address-requires
+address-requires c κs = search needs
+
 number-of-16-requires : tie.Need-number-of-16-requires
 number-of-16-requires c κs = search needs
 
 number-requires-2 : tie.Need-number-requires-2
 number-requires-2 c κs = search needs
+
+number-requires-3 : tie.Need-number-requires-3
+number-requires-3 c κs = search needs
 
 field-requires : tie.Need-field-requires
 field-requires c κs = search needs
@@ -44,7 +50,10 @@ bad-line-requires-2 : tie.Need-bad-line-requires-2
 bad-line-requires-2 c κs = search needs
 
 returns-2 : tie.Need-returns-2
-returns-2 c = let a = c .before .before .before .before .before .before .before .before .before .before .before .before .before .before .before .args in recv-over (a .line .now) (a .held) (a .out .now) (sym (c .before .before .before .before .before .before .before .before .before .before .before .before .is-recv .ensures) ∙ not-false _ (c .before .before .before .before .before .before .before .before .before .before .before .if1 .left)) (c .before .before .before .lent .result) (c .before .before .before .lent .ensures) (omega arith)
+returns-2 c =
+    let a = c .before .before .before .before .before .before .before .before .before .before .before .before .before .before .before .before .before .args in
+    recv-over (a .line .now) (a .held) (a .out .now) (sym (c .before .before .before .before .before .before .before .before .before .before .before .before .before .before .is-recv .ensures) ∙ not-false _ (c .before .before .before .before .before .before .before .before .before .before .before .before .before .if1 .left)) (c .before .before .before .lent .result)
+    (c .before .before .before .lent .ensures) (omega arith)
 
 slice-aggregate-front : tie.Need-slice-aggregate-front
 slice-aggregate-front c = search needs
@@ -63,10 +72,21 @@ same-length c = search needs
 
 returns-3 : tie.Need-returns-3
 returns-3 c =
-    let a = c .before .before .before .before .before .before .before .before .before .before .before .before .before .before .before .before .before .before .before .before .before .before .before .args in
-    is-recv (a .line .now) (a .held) (a .out .now) (sym (c .before .before .before .before .before .before .before .before .before .before .before .before .before .before .before .before .before .before .before .before .is-recv .ensures) ∙ not-false _ (c .before .before .before .before .before .before .before .before .before .before .before .before .before .before .before .before .before .before .before .if1 .left)) (c .before .before .before .before .before .before .before .before .before .before .before .lent .result) (c .before .before .before .before .before .before .before .before .before .before .before .lent .ensures) (omega arith) _ _ _ _
-    (c .before .before .before .before .before .before .before .before .before .before .before .before .before .before .before .before .before .before .number .ensures) (c .before .before .before .before .before .before .before .before .before .before .before .before .before .before .before .before .before .number-of-16 .ensures) (c .before .before .before .before .before .before .before .before .before .before .before .before .before .before .before .before .number2 .ensures)
-    (in-room (a .line .now) 4 20000 _ _ (replicate 20000 0) _ _ (length-replicate {A = ℕ} 20000 0) (c .before .before .before .before .before .before .before .before .before .before .before .before .before .before .before .field .ensures) (c .before .before .before .before .before .before .before .before .before .before .before .before .before .fill .ensures .0) (c .before .before .before .before .before .before .before .before .before .before .before .before .before .fill .ensures .1) (c .before .before .before .before .before .before .before .before .front .ensures))
+    let lent = c .before .before .before .before .before .before .before .before .before .before .before in
+    let fill = lent .before .before in
+    let field = fill .before .before in
+    let hold = field .before in
+    let draw = hold .before in
+    let port = draw .before in
+    let from = port .before in
+    let time = from .before in
+    let a = time .before .before .before .before .before .args in
+    is-recv (a .line .now) (a .held) (a .out .now) (sym (time .before .before .is-recv .ensures) ∙ not-false _ (time .before .if1 .left))
+    (lent .lent .result) (lent .lent .ensures) (omega (arith, c .before .before .before .before .before .before .before .before .before .before .if2 .left)) _
+    (arrival-as (a .line .now) _ (time .number .ensures) (from .address .ensures) (port .number-of-16 .ensures) (draw .number2 .ensures) (hold .number3 .ensures)
+    (in-room (a .line .now) 6 20000 _ _ (replicate 20000 0) _ _ (length-replicate {A = ℕ} 20000 0) (field .field .ensures) (fill .fill .ensures .0)
+    (fill .fill .ensures .1) (c .before .before .before .before .before .before .before .before .front .ensures))
+    (lent .lent .ensures))
     _ _ (c .before .before .before .before .before .before .receive .ensures)
 
 pub recv-spec : {M : Type 1} → statement M
@@ -77,8 +97,10 @@ recv-spec =
     bad-line-requires
     returns
     number-requires
+    address-requires
     number-of-16-requires
     number-requires-2
+    number-requires-3
     field-requires
     slice-aggregate-fill
     fill-requires
