@@ -91,8 +91,8 @@ fn multicasts_kept(b: &[u8]) -> bool
     true
 }
 
-// No query is held: the bytes of all four places are zeros, as those of a start are. Twenty numbers are as many bytes and four more, the first of the draw, which
-// are zeros in every state that is not refused.
+// No query is held: the bytes of all four places are zeros, as those of a start are. Twenty numbers are as many bytes and four more, the first of the draw,
+// which are zeros in every state that is not refused.
 fn none_held(b: &[u8]) -> bool
     requires { ⌜ length (now b) ≡ layout.stateSize ⌝ }
     ensures { λ r. ⌜ r ≡ noneHeld (now (b .entry)) ⌝ }
