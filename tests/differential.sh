@@ -47,6 +47,19 @@ recv unicast of 2
 recv unicast with PTR
 recv unicast with SRV
 recv unicast in other case
+recv wanted unicast of 1
+recv wanted unicast of 2
+recv wanted unicast of 3
+recv wanted unicast of 4
+recv wanted unicast of 5
+recv wanted unicast of 6
+recv wanted unicast of 7
+recv wanted unicast with an ID
+recv wanted unicast with PTR
+recv wanted unicast with NSEC
+recv sent and unicast
+recv refused 3
+unicast unicast
 tick sent probe more
 tick sent response of 3 more
 tick sent response of 5

@@ -5,8 +5,8 @@
 #   BEFORE=FOLDER tests/forty.sh ..           about 30 s; the same with the responder of another version first, of which the numbers are only told
 #   PROGRAMS=FOLDER tests/forty.sh ..         with a responder that is built already
 # Each responder, and the browser, is alone in a network namespace that is joined to one bridge; the machine's own network is not touched. Every wait has an
-# end. Where namespaces can't be made it says 'skipped: ...' and succeeds. First the browser asks without known answers, and all have to answer: so it is known
-# that each hears and is heard. The last line is 'forty: of N responders answer N that aren't known, M that are known, K that are known behind others, and J
+# end. Where namespaces can't be made it says 'skipped: ...' and succeeds. First the browser asks without known answers, for unicast answers and then for answers
+# to all, and all have to answer: so it is known that each hears and is heard. The last line is 'forty: of N responders answer N that aren't known, M that are known, K that are known behind others, and J
 # where all but one are known': others are instances that are no longer there, and fill the first packet; the one that isn't known has to answer.
 set -uo pipefail
 root=$(cd "$(dirname "$0")/.." && pwd)

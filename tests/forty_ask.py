@@ -1,10 +1,11 @@
-"""A browser asks for the instances of _voice._tcp.local four times: without known answers; with all instances as known answers, in as many packets as they
-take; with as many others before them as fill the first packet; and with all but the last.
+"""A browser asks for the instances of _voice._tcp.local five times: for unicast answers, without known answers; without known answers; with all instances as
+known answers, in as many packets as they take; with as many others before them as fill the first packet; and with all but the last.
 
 ADDRESS LABELS MOST: the interface's address; a file of the instances' labels, one a line; how many may answer that are known. Prints how many answered, and
 when. Fails where one is silent that isn't known, or more than so many answer that are."""
 
 import pathlib
+import select
 import socket
 import struct
 import sys
@@ -26,6 +27,7 @@ def name(*labels):
 
 SERVICE = name(b"_voice", b"_tcp", b"local")
 QUESTION = SERVICE + struct.pack("!HH", PTR, CLASS_IN)
+UNICAST = 0x80  # in the class's first byte: the answer may come by unicast
 TO_SERVICE = b"\xc0\x0c"  # a pointer to what stands right behind the header, always the service's name
 
 
@@ -79,67 +81,73 @@ def pointers(packet):
     return found
 
 
-def open_socket(address):
-    opened = socket.socket(socket.AF_INET, socket.SOCK_DGRAM)
-    opened.setsockopt(socket.SOL_SOCKET, socket.SO_REUSEADDR, 1)
-    opened.setsockopt(socket.SOL_SOCKET, socket.SO_RCVBUF, 1 << 20)
-    opened.bind((GROUP, PORT))
-    membership = socket.inet_aton(GROUP) + socket.inet_aton(address)
-    opened.setsockopt(socket.IPPROTO_IP, socket.IP_ADD_MEMBERSHIP, membership)
-    opened.setsockopt(socket.IPPROTO_IP, socket.IP_MULTICAST_IF, socket.inet_aton(address))
-    opened.setsockopt(socket.IPPROTO_IP, socket.IP_MULTICAST_TTL, 255)
-    opened.setsockopt(socket.IPPROTO_IP, socket.IP_MULTICAST_LOOP, 0)
-    return opened
+class Link:
+    """A socket for the group and one for what is sent to the own address."""
+
+    def __init__(self, address):
+        self.group, self.own = (socket.socket(socket.AF_INET, socket.SOCK_DGRAM) for _ in range(2))
+        for opened, bound in ((self.group, GROUP), (self.own, address)):
+            opened.setsockopt(socket.SOL_SOCKET, socket.SO_REUSEADDR, 1)
+            opened.setsockopt(socket.SOL_SOCKET, socket.SO_RCVBUF, 1 << 20)
+            opened.bind((bound, PORT))
+        membership = socket.inet_aton(GROUP) + socket.inet_aton(address)
+        self.group.setsockopt(socket.IPPROTO_IP, socket.IP_ADD_MEMBERSHIP, membership)
+        self.own.setsockopt(socket.IPPROTO_IP, socket.IP_MULTICAST_IF, socket.inet_aton(address))
+        self.own.setsockopt(socket.IPPROTO_IP, socket.IP_MULTICAST_TTL, 255)
+        self.own.setsockopt(socket.IPPROTO_IP, socket.IP_MULTICAST_LOOP, 0)
+
+    def ask(self, query):
+        """Sends a query; gives each answer's source, labels, time since the first packet of the query, and whether it came by unicast."""
+        begun, answers = time.monotonic(), []
+        for number, packet in enumerate(query):
+            self.hear(begun + number * APART, begun, answers)
+            self.own.sendto(packet, (GROUP, PORT))
+        self.hear(time.monotonic() + HEARD_FOR, begun, answers)
+        return answers
+
+    def hear(self, until, begun, answers):
+        while (left := until - time.monotonic()) > 0:
+            for ready in select.select([self.own, self.group], [], [], left)[0]:
+                packet, source = ready.recvfrom(9000)
+                if labels := pointers(packet):
+                    answers.append((source[0], labels, round((time.monotonic() - begun) * 1000), ready is self.own))
 
 
-def ask(link, query):
-    """Sends a query; gives each answer's source, labels and time since the first packet of the query."""
-    begun, answers = time.monotonic(), []
-    for number, packet in enumerate(query):
-        hear(link, begun + number * APART, begun, answers)
-        link.sendto(packet, (GROUP, PORT))
-    hear(link, time.monotonic() + HEARD_FOR, begun, answers)
-    return answers
+def with_unicast_bit(query):
+    """The same for a query of one packet with one question alone."""
+    (packet,) = query
+    return [packet[:-2] + bytes([packet[-2] | UNICAST, packet[-1]])]
 
 
-def hear(link, until, begun, answers):
-    while (left := until - time.monotonic()) > 0:
-        link.settimeout(left)
-        try:
-            packet, source = link.recvfrom(9000)
-        except TimeoutError:
-            return
-        if labels := pointers(packet):
-            answers.append((source[0], labels, round((time.monotonic() - begun) * 1000)))
-
-
-def count(link, words, known):
-    """Asks with these known answers; says how many responders answered, and gives the labels in their answers."""
-    query = packets(known)
-    answers = ask(link, query)
-    responders = len({source for source, _, _ in answers})
-    times = [time for _, _, time in answers]
+def count(link, words, query):
+    """Asks; says how many responders answered, and gives the labels in their answers."""
+    answers = link.ask(query)
+    responders = len({source for source, _, _, _ in answers})
+    unicast = sum(is_unicast for _, _, _, is_unicast in answers)
+    times = [time for _, _, time, _ in answers]
     when = f", {min(times)} to {max(times)} ms after the first" if times else ""
+    how = f", {unicast} of them by unicast" if unicast else ""
     lengths = "+".join(str(len(packet)) for packet in query)
-    print(f"{words}: asked in {len(query)} packets of {lengths} bytes; {len(answers)} packets from {responders} responders{when}", flush=True)
+    print(f"{words}: asked in {len(query)} packets of {lengths} bytes; {len(answers)} packets from {responders} responders{how}{when}", flush=True)
     time.sleep(PAUSE)
-    return {label for _, labels, _ in answers for label in labels}
+    return {label for _, labels, _, _ in answers for label in labels}
 
 
 def main():
     address, file, most = sys.argv[1:]
     labels = pathlib.Path(file).read_bytes().splitlines()
     others = [labels[0].replace(b"001", b"%d" % (900 + number)) for number in range(MOST // len(known_answer(TO_SERVICE, labels[0])))]
-    link = open_socket(address)
-    unknown = count(link, "none known", [])
-    known = count(link, "all known", labels)
-    behind = count(link, "all known, behind others", others + labels)
-    but_one = count(link, "all known but one", labels[:-1])
+    link = Link(address)
+    wanted = count(link, "none known, unicast wanted", with_unicast_bit(packets([])))
+    unknown = count(link, "none known", packets([]))
+    known = count(link, "all known", packets(labels))
+    behind = count(link, "all known, behind others", packets(others + labels))
+    but_one = count(link, "all known but one", packets(labels[:-1]))
     print(
         f"forty: of {len(labels)} responders answer {len(unknown)} that aren't known, {len(known)} that are known, "
         f"{len(behind)} that are known behind others, and {len(but_one)} where all but one are known"
     )
-    is_heard = unknown == set(labels) and labels[-1] in but_one
+    is_heard = wanted == unknown == set(labels) and labels[-1] in but_one
     sys.exit(not is_heard or max(len(known), len(behind), len(but_one) - 1) > int(most))
 
 

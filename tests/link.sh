@@ -1,8 +1,8 @@
 #!/bin/sh
 # Demand 3, tried: random hostile lists of several responders' calls, played through the proved console (rust/linksim).
-# With the premises kept no list may violate it. Then the check has to show that it can see: with packets up to 600 ms under way two
-# responders hold one name, with steps up to 500 ms late one holds too late, and the reference program with a planted fault is found
-# out with the premises kept.
+# With the premises kept no list may violate it. Then the check has to show that it can see: with packets up to 600 ms under way, or
+# those by unicast up to 1,000 ms, two responders hold one name, with steps up to 500 ms late one holds too late, and the reference
+# program with a planted fault is found out with the premises kept.
 # Usage: tests/link.sh [SECONDS [SEED]], by default 60 s from seed 1.
 set -eu
 root=$(cd "$(dirname "$0")/.." && pwd)
@@ -31,6 +31,7 @@ finds() { # WHAT WORDS OPTION..
 
 "$linksim" --console "$console" --seconds "${1:-60}" --seed "${2:-1}"
 finds "delays up to 600 ms" "$two" --console "$console" --delay 600 --lists 20000
+finds "delays up to 1,000 ms by unicast" "$two" --console "$console" --unicast 1000 --lists 20000
 finds "steps up to 500 ms late" "$late" --console "$console" --late 500 --lists 20000
 finds "steps up to 51 ms late" "$late" --console "$console" --late 51 --lists 20000
 

@@ -2,7 +2,7 @@
 #include "kurgashel.h"
 #include <stdio.h>
 
-static uint8_t state[KURGASHEL_STATE_BYTES], out[KURGASHEL_OUT_BYTES];
+static uint8_t state[KURGASHEL_STATE_BYTES], out[KURGASHEL_OUT_BYTES], unicast[KURGASHEL_OUT_BYTES];
 
 // Takes the steps to come, each when it is due, until none is; the last refusal or 0.
 static uint8_t take_steps(uint64_t *now) {
@@ -32,8 +32,8 @@ int main(void) {
     static const uint8_t browser[4] = { 10, 0, 0, 9 };
     static const uint8_t query[28] = "\0\0\2\0\0\1\0\0\0\0\0\0\4dock\5local\0\0\1\0\1";
     now += 1000;
-    struct kurgashel_answer answer =
-        kurgashel_receive(state, sizeof state, now, browser, sizeof browser, KURGASHEL_PORT, 20, 400, query, sizeof query, out, sizeof out);
+    struct kurgashel_answer answer = kurgashel_receive(state, sizeof state, now, browser, sizeof browser, KURGASHEL_PORT, 20, 400, query, sizeof query, out,
+        sizeof out, unicast, sizeof unicast);
     printf("%4d ms: a query with TC; %zu bytes go out at once\n", (int)now, answer.length);
     return answer.refusal ? answer.refusal : take_steps(&now);
 }

@@ -25,7 +25,7 @@ enum {
     KURGASHEL_ACCEPTED = 0,
     KURGASHEL_TIME = 1,      /* time above 2^62, before the state's last time or an entry's receive time, or a kept time too late */
     KURGASHEL_DRAW = 2,      /* draw outside 0..250 (start), or 20..120 or 400..500 (packet received) */
-    KURGASHEL_BUFFER = 3,    /* out buffer under 1,452 bytes */
+    KURGASHEL_BUFFER = 3,    /* an out buffer under 1,452 bytes */
     KURGASHEL_LENGTH = 4,    /* message under 12 or over 8,972 bytes */
     KURGASHEL_HEADER = 5,    /* opcode or RCODE not zero, or a response from a source port other than 5353 */
     KURGASHEL_MALFORMED = 6, /* malformed message, TXT or looked-up name */
@@ -58,12 +58,13 @@ struct kurgashel_setup {
     uint8_t aaaa[16];
 };
 
-/* A call's answer: a refusal or 0; after a tick, whether more is due at the same time; and the length of the packet to send, 0 for none. It goes by multicast
- * to all; where `unicast`, to the address and port alone that the packet received came from. */
+/* A call's answer: a refusal or 0; after a tick, whether more is due at the same time; and the lengths of the packets to send, 0 for none. The one of `length`
+ * bytes goes by multicast to all; the one of `unicast_length` bytes goes to the address and port alone that the packet received came from. Only a packet
+ * received has a second, and it may have both. */
 struct kurgashel_answer {
     uint8_t refusal;
-    bool more, unicast;
-    size_t length;
+    bool more;
+    size_t length, unicast_length;
 };
 
 /* Begins a responder in `state`: both its names wait for `draw` (a random 0..250) ms before their first probe. Refusals 1, 2, 7. */
@@ -71,15 +72,18 @@ struct kurgashel_answer kurgashel_start(uint8_t *state, size_t state_bytes, cons
 
 /* Takes a packet that came from an address and a port. `from` is the address, in network byte order: 16 bytes, or the 4 of IPv4, which are the same address
  * as ::ffff:a.b.c.d; of any other number of bytes it counts as `::`. `draw` (a random 20..120) delays a reply with the shared PTR record, `hold` (a random
- * 400..500) a query that is held; both are drawn anew for every packet, whatever it is, since both are tested. A packet that is to be sent at once is written
- * to `out`, and the bytes beyond it stay. A query from a port other than 5353, from a plain resolver, is answered by unicast (RFC 6762, 6.7). Refusals 1 to 7.
+ * 400..500) a query that is held; both are drawn anew for every packet, whatever it is, since both are tested. What is to be sent at once to all is written to
+ * `out`, and what is to be sent at once to the sender alone to `unicast`; the bytes beyond a packet stay. To the sender go answers to questions that want
+ * unicast, those that all have heard not long ago (RFC 6762, 5.4), and all answers to a query from a port other than 5353, from a plain resolver (6.7).
+ * Refusals 1 to 7.
  *
  * A query from port 5353 with the TC bit has known answers that follow in further packets (RFC 6762, 7.2). It is held: nothing is sent now, and the step that
  * answers it is due in `hold` ms, to all, without the records that came as known answers from its address by then. The state holds up to four queries, one for
  * an address, and of each only what it asks for and what is known; a probe is never held, and a fifth is answered as if it had no TC. For the caller it is one
  * more step that kurgashel_due counts and a tick takes. */
 struct kurgashel_answer kurgashel_receive(uint8_t *state, size_t state_bytes, uint64_t now, const uint8_t *from, size_t from_bytes, uint16_t port,
-                                          uint64_t draw, uint64_t hold, const uint8_t *packet, size_t packet_bytes, uint8_t *out, size_t out_bytes);
+                                          uint64_t draw, uint64_t hold, const uint8_t *packet, size_t packet_bytes, uint8_t *out, size_t out_bytes,
+                                          uint8_t *unicast, size_t unicast_bytes);
 
 /* Takes the steps that are due, up to the first that sends: its packet is written to `out`. Call it when a step is due (kurgashel_due), at most 50 ms late,
  * and again at once where `more`; calls between do no harm. Refusals 1, 3, 7. */

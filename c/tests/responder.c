@@ -1,5 +1,5 @@
-// The exported responder and TXT lookup from C: buffer sizes, refusals that keep every byte, the two packets of the specification, and states of any
-// bytes. Says what fails, and the count. Run by tests/capi.sh.
+// The exported responder and TXT lookup from C: buffer sizes, refusals that keep every byte, the two packets of the specification, answers to all and to the
+// asker, and states of any bytes. Says what fails, and the count. Run by tests/capi.sh.
 #include "kurgashel.h"
 #include <stdio.h>
 #include <string.h>
@@ -13,6 +13,7 @@ static void expect(int ok, const char *what) { cases++; if (!ok) { failed++; pri
 static const struct kurgashel_setup good = { .instance = "booth", .instance_length = 5, .service = "_voice", .service_length = 6, .protocol = "_tcp",
     .host = "dock", .host_length = 4, .domain = "local", .port = { 4000 >> 8, 4000 & 255 }, .txt = { 0 }, .txt_length = { 0, 1 }, .a = { 10, 0, 0, 7 } };
 static uint8_t state[KURGASHEL_STATE_BYTES + 1], kept[sizeof state], out[KURGASHEL_OUT_BYTES + 1], was[sizeof out];
+static uint8_t unicast[KURGASHEL_OUT_BYTES + 1], unicast_was[sizeof unicast];
 
 static struct kurgashel_answer start(const struct kurgashel_setup *setup, uint64_t now, uint64_t draw) {
     return kurgashel_start(state, KURGASHEL_STATE_BYTES, (const uint8_t *)setup, sizeof *setup, now, draw);
@@ -20,17 +21,18 @@ static struct kurgashel_answer start(const struct kurgashel_setup *setup, uint64
 static struct kurgashel_answer tick(uint64_t now) { return kurgashel_tick(state, KURGASHEL_STATE_BYTES, now, out, KURGASHEL_OUT_BYTES); }
 static struct kurgashel_answer receive(uint64_t now, const uint8_t *from, size_t from_bytes, uint16_t port, uint64_t draw, uint64_t hold, const uint8_t *packet,
     size_t bytes) {
-    return kurgashel_receive(state, KURGASHEL_STATE_BYTES, now, from, from_bytes, port, draw, hold, packet, bytes, out, KURGASHEL_OUT_BYTES);
+    return kurgashel_receive(state, KURGASHEL_STATE_BYTES, now, from, from_bytes, port, draw, hold, packet, bytes, out, KURGASHEL_OUT_BYTES, unicast,
+        KURGASHEL_OUT_BYTES);
 }
 // from a neighbour, where its address does not matter
 static const uint8_t neighbour[4] = { 10, 0, 0, 9 };
 static struct kurgashel_answer hear(uint64_t now, uint16_t port, uint64_t draw, const uint8_t *packet, size_t bytes) {
     return receive(now, neighbour, sizeof neighbour, port, draw, 400, packet, bytes);
 }
-static void keep(void) { memcpy(kept, state, sizeof state); memcpy(was, out, sizeof out); }
-static int same(void) { return !memcmp(kept, state, sizeof state) && !memcmp(was, out, sizeof out); }
-static int quiet(struct kurgashel_answer a) { return !a.refusal && !a.more && !a.unicast && !a.length; }
-static int is(struct kurgashel_answer a, uint8_t refusal) { return a.refusal == refusal && !a.more && !a.unicast && !a.length && same(); }
+static void keep(void) { memcpy(kept, state, sizeof state); memcpy(was, out, sizeof out); memcpy(unicast_was, unicast, sizeof unicast); }
+static int same(void) { return !memcmp(kept, state, sizeof state) && !memcmp(was, out, sizeof out) && !memcmp(unicast_was, unicast, sizeof unicast); }
+static int quiet(struct kurgashel_answer a) { return !a.refusal && !a.more && !a.length && !a.unicast_length; }
+static int is(struct kurgashel_answer a, uint8_t refusal) { return a.refusal == refusal && !a.more && !a.length && !a.unicast_length && same(); }
 static int due(uint64_t time) { struct kurgashel_due d = kurgashel_due(state, KURGASHEL_STATE_BYTES); return d.due && d.time == time; }
 static int none_due(void) { return !kurgashel_due(state, KURGASHEL_STATE_BYTES).due; }
 static uint8_t claim(uint8_t which) { return kurgashel_claim(state, KURGASHEL_STATE_BYTES, which); }
@@ -48,7 +50,7 @@ static void sizes(void) {
     expect(is(kurgashel_start(NULL, 0, NULL, 0, 0, 251), 2), "start: 2 comes before 7");
     expect(is(kurgashel_tick(NULL, 0, 0, NULL, 0), 3), "tick: 3 comes before 7");
     expect(is(kurgashel_tick(NULL, 0, 0, out, KURGASHEL_OUT_BYTES), 7), "tick: no state is 7");
-    expect(is(kurgashel_receive(NULL, 0, 0, NULL, 0, 5353, 20, 400, NULL, 0, out, KURGASHEL_OUT_BYTES), 4), "receive: 4 comes before 7");
+    expect(is(kurgashel_receive(NULL, 0, 0, NULL, 0, 5353, 20, 400, NULL, 0, out, KURGASHEL_OUT_BYTES, unicast, KURGASHEL_OUT_BYTES), 4), "receive: 4 comes before 7");
     expect(is(kurgashel_tick(state, 685, 0, out, KURGASHEL_OUT_BYTES), 7), "tick: a state of 685 bytes, as older versions kept them, is 7");
     expect(kurgashel_claim(NULL, 0, 0) == KURGASHEL_LOST, "no state is lost");
     expect(!kurgashel_due(NULL, 0).due && !kurgashel_due(NULL, 0).time, "no state has a step to come");
@@ -76,7 +78,7 @@ static void setups(void) {
 static void life(void) {
     expect(!start(&good, 0, 0).refusal && claim(KURGASHEL_INSTANCE) == KURGASHEL_WAITING && claim(KURGASHEL_HOST) == KURGASHEL_WAITING, "started");
     expect(!memcmp(state, &good, sizeof good), "the set-up stands in the state as it was");
-    static const uint8_t probe[44] = "\0\0\0\0\0\1\0\0\0\1\0\0\4dock\5local\0\0\xff\0\1\xc0\x0c\0\1\0\1\0\0\0\x78\0\4\n\0\0\7";
+    static const uint8_t probe[44] = "\0\0\0\0\0\1\0\0\0\1\0\0\4dock\5local\0\0\xff\x80\1\xc0\x0c\0\1\0\1\0\0\0\x78\0\4\n\0\0\7";
     static const uint8_t announcement[38] = "\0\0\x84\0\0\0\0\1\0\0\0\0\4dock\5local\0\0\1\x80\1\0\0\0\x78\0\4\n\0\0\7";
     expect(due(0), "both first probes are due at once");
     struct kurgashel_answer a = tick(0);
@@ -101,20 +103,21 @@ static void life(void) {
     expect(is(hear(800, 5353, 20, query, 27), 6), "a cut question");
     expect(is(hear(800, 5353, 20, query, 11), 4), "11 bytes");
     a = hear(1750, 5353, 20, query, 28);
-    expect(!a.refusal && !a.unicast && a.length == 38 && !memcmp(out, announcement, 38), "the host's address, asked for");
+    expect(!a.refusal && !a.unicast_length && a.length == 38 && !memcmp(out, announcement, 38), "the host's address, asked for");
     // a plain resolver: its ID and question again, TTL 10, class 1; asked in other letters, no name is cut
     static const uint8_t reply[45] = "\x12\x34\x84\0\0\1\0\1\0\0\0\0\4dock\5local\0\0\1\x80\1\xc0\x0c\0\1\0\1\0\0\0\x0a\0\4\x0a\0\0\7";
     uint8_t plain[29] = "\x12\x34\1\0\0\1\0\0\0\0\0\0\4dock\5local\0\0\1\x80\1";
     keep();
     a = hear(1750, 1024, 20, plain, 28);
-    expect(!a.refusal && a.unicast && a.length == 44 && !memcmp(out, reply, 44), "a plain resolver is answered by unicast, whatever was multicast just now");
-    expect(!memcmp(state, kept, sizeof state) && !memcmp(out + 44, was + 44, sizeof out - 44), "at the same time that changes no byte of the state");
+    expect(!a.refusal && !a.length && a.unicast_length == 44 && !memcmp(unicast, reply, 44), "a plain resolver is answered by unicast, whatever was multicast just now");
+    expect(!memcmp(state, kept, sizeof state), "at the same time that changes no byte of the state");
+    expect(!memcmp(out, was, sizeof out) && !memcmp(unicast + 44, unicast_was + 44, sizeof unicast - 44), "nor of the out buffer, nor of the second beyond the reply");
     plain[20] = 'C';
     a = hear(1750, 1024, 20, plain, 28);
-    expect(!a.refusal && a.unicast && a.length == 54 && out[20] == 'C' && out[28] == 4, "asked for in other letters: the question again, the owner whole");
+    expect(!a.refusal && !a.length && a.unicast_length == 54 && unicast[20] == 'C' && unicast[28] == 4, "asked for in other letters: the question again, the owner whole");
     plain[25] = 28;
     a = hear(1750, 1024, 20, plain, 28);
-    expect(!a.refusal && !a.unicast && !a.length, "AAAA, which the host lacks: no NSEC for a plain resolver");
+    expect(quiet(a), "AAAA, which the host lacks: no NSEC for a plain resolver");
     static const uint8_t nsec[39] = "\0\0\x84\0\0\0\0\1\0\0\0\0\4dock\5local\0\0\x2f\x80\1\0\0\0\x78\0\5\xc0\x0c\0\1\x40";
     query[25] = 28;
     a = hear(1750, 5353, 20, query, 28);
@@ -144,7 +147,7 @@ static const uint8_t cut[28] = "\0\0\2\0\0\1\0\0\0\0\0\0\4dock\5local\0\0\1\0\1"
 static const uint8_t cut_aaaa[28] = "\0\0\2\0\0\1\0\0\0\0\0\0\4dock\5local\0\0\x1c\0\1";
 static const uint8_t known[38] = "\0\0\0\0\0\0\0\1\0\0\0\0\4dock\5local\0\0\1\0\1\0\0\0\x3c\0\4\n\0\0\7";
 static const uint8_t address[38] = "\0\0\x84\0\0\0\0\1\0\0\0\0\4dock\5local\0\0\1\x80\1\0\0\0\x78\0\4\n\0\0\7";
-static int sends_address(struct kurgashel_answer a) { return !a.refusal && !a.unicast && a.length == sizeof address && !memcmp(out, address, sizeof address); }
+static int sends_address(struct kurgashel_answer a) { return !a.refusal && !a.unicast_length && a.length == sizeof address && !memcmp(out, address, sizeof address); }
 
 // the second draw is tested on every call, whatever the packet
 static void hold_draws(void) {
@@ -155,7 +158,7 @@ static void hold_draws(void) {
         expect(is(receive(now, neighbour, 4, 5353, 20, refused[i], cut, sizeof cut), 2), "a draw for holding outside 400..500, of a query with TC");
         expect(is(receive(now, neighbour, 4, 5353, 20, refused[i], address, sizeof address), 2), "and of a response");
         expect(is(receive(now, neighbour, 4, 1024, 20, refused[i], NULL, 0), 2), "and before 4");
-        expect(is(kurgashel_receive(state, KURGASHEL_STATE_BYTES, now, neighbour, 4, 5353, 20, refused[i], cut, sizeof cut, NULL, 0), 2), "and before 3");
+        expect(is(kurgashel_receive(state, KURGASHEL_STATE_BYTES, now, neighbour, 4, 5353, 20, refused[i], cut, sizeof cut, NULL, 0, NULL, 0), 2), "and before 3");
     }
     expect(is(receive(1, neighbour, 4, 5353, 20, 399, cut, sizeof cut), 1), "1 comes before 2");
     expect(quiet(receive(now, neighbour, 4, 5353, 20, 400, cut, sizeof cut)) && due(now + 400), "a draw of 400");
@@ -184,7 +187,36 @@ static void held_queries(void) {
     receive(now + 20, neighbour, 4, 1024, 20, 400, known, sizeof known);
     expect(sends_address(tick(now + 400)), "known answers from another port do not count");
     struct kurgashel_answer a = receive(now + 400, neighbour, 4, 1024, 20, 400, cut, sizeof cut);
-    expect(a.unicast && a.length && none_due(), "a query with TC from another port is answered at once");
+    expect(!a.length && a.unicast_length && none_due(), "a query with TC from another port is answered at once");
+}
+
+// Questions that want unicast, by the top bit of their class: to the asker where all heard the record less than a quarter of its TTL ago.
+static void wanted_by_unicast(void) {
+    uint64_t now = settled(), told = 2000; // the second announcements were at 2,000 ms at the latest
+    uint8_t wants[28] = "\x12\x34\0\0\0\1\0\0\0\0\0\0\4dock\5local\0\0\1\x80\1";
+    uint8_t reply[38];
+    memcpy(reply, address, sizeof reply);
+    reply[0] = 0x12, reply[1] = 0x34;
+    memset(unicast, 0xEE, sizeof unicast);
+    keep();
+    struct kurgashel_answer a = hear(now, 5353, 20, wants, sizeof wants);
+    expect(!a.refusal && !a.length && a.unicast_length == 38 && !memcmp(unicast, reply, 38), "to the asker, with the query's ID");
+    expect(unicast[38] == 0xEE && !memcmp(out, was, sizeof out), "bytes beyond it stay, and so does the first out buffer");
+    a = hear(now, 5353, 20, wants, sizeof wants);
+    expect(!a.length && a.unicast_length == 38, "and again at once: unicast has no gap");
+    now = told + 30000;
+    expect(sends_address(hear(now, 5353, 20, wants, sizeof wants)) && !out[0] && !out[1], "30 s after the last multicast it goes to all, with ID 0");
+    keep();
+    expect(is(kurgashel_receive(state, KURGASHEL_STATE_BYTES, now, neighbour, 4, 5353, 20, 400, wants, sizeof wants, out, KURGASHEL_OUT_BYTES, unicast, KURGASHEL_OUT_BYTES - 1), 3),
+        "a second out buffer of 1,451 bytes");
+    expect(is(kurgashel_receive(state, KURGASHEL_STATE_BYTES, now, neighbour, 4, 5353, 20, 400, wants, sizeof wants, out, KURGASHEL_OUT_BYTES - 1, unicast, KURGASHEL_OUT_BYTES), 3),
+        "a first one of 1,451 bytes");
+
+    // two questions: the address of the host with the bit, the SRV of the instance without: one packet each way
+    now += 1000;
+    static const uint8_t mixed[58] = "\x12\x34\0\0\0\2\0\0\0\0\0\0\4dock\5local\0\0\1\x80\1\5booth\6_voice\4_tcp\xc0\x11\0\x21\0\1";
+    a = hear(now, 5353, 20, mixed, 52);
+    expect(!a.refusal && a.length && a.unicast_length == 38 && !memcmp(unicast, reply, 38) && out[7] == 1, "the address to the asker and the SRV to all");
 }
 
 // whose known answers count: those of the same address, in whatever form it is handed
@@ -295,6 +327,7 @@ int main(void) {
     life();
     hold_draws();
     held_queries();
+    wanted_by_unicast();
     addresses();
     four_and_a_fifth();
     any_bytes();

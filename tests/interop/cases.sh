@@ -4,6 +4,7 @@ cases="avahi_finds_us zeroconf_finds_us systemd_finds_us we_find_avahi we_find_z
     yields_the_instance_to_avahi yields_the_host_to_avahi yields_the_instance_to_zeroconf
     keeps_the_instance_against_avahi keeps_the_host_against_avahi keeps_the_instance_against_zeroconf
     dig_is_answered a_reply_as_it_lies no_reply_beyond_the_link
+    a_unicast_answer_as_it_lies the_browser_asks_for_unicast yields_beside_avahi
     two_of_ours_by_chance two_of_ours_in_step"
 
 service=_voice._tcp
@@ -239,13 +240,78 @@ keeps_the_host_against_avahi() {
     has "$(cat "$work/avahi.log")" 'conflict' && has "$(cat "$work/avahi.log")" 'startup complete. Host name is dock-2' && still_held dock.local
 }
 
-# python-zeroconf looks for a name by asking for the service's PTR, which is no probe for the name; in the second after an announcement no PTR may be
-# sent again, so it comes later than that.
+# python-zeroconf looks for a name by asking for the service's PTR, which is no probe for the name, with the unicast bit. It asks in the second after our second
+# announcement, in which no PTR may be multicast again: our answer comes by unicast. It opens its sockets after that announcement, so it heard neither.
 keeps_the_instance_against_zeroconf() {
-    we_hold && sleep 1 || return 1
-    start_on c peer "$python" "$root/tests/interop/zeroconf_publish.py" 10.77.0.3 $service.local. booth hall.local. 4002
-    wait_for 8 peer NonUniqueNameException || return 1
-    has "$(cat "$work/peer")" NonUniqueNameException && still_held "$booth"
+    local at=$(($(date +%s%3N) + 1500))
+    start_responder a ours --instance booth --service $service --host dock --port 4000 --draw 0 --at $at
+    # held 750 ms after that, announced again 1,000 ms later
+    start_on c peer env AT=$((at + 1850)) "$python" "$root/tests/interop/zeroconf_publish.py" 10.77.0.3 $service.local. booth hall.local. 4002
+    wait_for 8 ours "held +$booth" && wait_for 8 peer NonUniqueNameException || return 1
+    has "$(cat "$work/peer")" '^asked for .* ms after' && has "$(cat "$work/peer")" NonUniqueNameException && still_held "$booth"
+}
+
+# Asks from machine c, from port 5353.
+ask_group() { # NAME TYPE BIT ..
+    on c "$python" "$root/tests/interop/unicast_ask.py" 10.77.0.3 "$@" 2>&1
+}
+
+# A question with the unicast bit, in the second after our second announcement: PTR and SRV come at once, to the asker alone, with the query's ID and their own
+# classes and TTLs; without the bit there is no answer then. After that second a record that some question without the bit asks for too goes to the group.
+a_unicast_answer_as_it_lies() {
+    local seen at=$(($(date +%s%3N) + 1500))
+    start_responder a ours --instance booth --service $service --host dock --port 4000 --draw 0 --at $at
+    # held 750 ms after that, announced again 1,000 ms later
+    export AT=$((at + 1850))
+    seen=$(ask_group $service.local 12 qu booth.$service.local 33 qu , $service.local 12 qm)
+    unset AT
+    has "$seen" '^answer from 10\.77\.0\.1 port 5353 by unicast after [0-9]+ ms$' && has "$seen" '^id repeated flags 8400 counts 0 2 0 0$' &&
+        has "$seen" 'type 12 class 1 ttl 4500 target booth\._voice\._tcp\.local\. cut$' &&
+        has "$seen" 'type 33 class 1 flush ttl 120 target dock\.local\. cut$' && has "$seen" '^ends there$' || return 1
+    has "$(tail -n 2 <<<"$seen")" '^asked .* qm$' && has "$(tail -n 1 <<<"$seen")" '^no answer$' && ! grep 'to the group' <<<"$seen" || return 1
+    sleep 0.5
+    seen=$(ask_group $service.local 12 qu $service.local 12 qm booth.$service.local 33 qu)
+    has "$seen" '^answer from 10\.77\.0\.1 port 5353 by unicast' && has "$seen" '^id repeated flags 8400 counts 0 1 0 0$' &&
+        has "$seen" '^answer from 10\.77\.0\.1 port 5353 to the group after' && has "$seen" '^id 0 flags 8400 counts 0 1 0 0$' &&
+        has "$seen" 'type 12 class 1 ttl 4500'
+}
+
+# Our browser's first query has the bit where it is alone on the port; the answer, which the group doesn't hear, reaches it. Beside Avahi it has not.
+the_browser_asks_for_unicast() {
+    local seen
+    we_hold || return 1
+    start_on b peer "$python" "$root/tests/interop/group_listen.py" 10.77.0.2
+    wait_for 5 peer listening || return 1
+    has "$(on c "$browser" --interface 10.77.0.3 --service $service --count 1 --seconds 8)" '^found +booth$' || return 1
+    seen=$(cat "$work/peer")
+    has "$seen" '^question _voice\._tcp\.local\. type 12 class 1 wants unicast$' && has "$seen" '^question .* type 33 class 1$' || return 1
+    ! grep -E '^record _voice\._tcp\.local\. type 12 ' <<<"$seen" || return 1
+    avahi_is_up other || return 1
+    kill "$last"
+    start_on c peer2 "$python" "$root/tests/interop/group_listen.py" 10.77.0.3
+    wait_for 5 peer2 listening || return 1
+    has "$(on b "$browser" --interface 10.77.0.2 --service $service --count 1 --seconds 8)" '^found +booth$' || return 1
+    seen=$(grep -A 1 '^query from 10\.77\.0\.2' "$work/peer2")
+    has "$seen" '^question _voice\._tcp\.local\. type 12 class 1$'
+}
+
+# On one machine with Avahi, begun before ours and after it, which is bound to all addresses: what defends a name against our probe is sent to us alone, and
+# reaches us.
+yields_beside_avahi() {
+    local at
+    we_hold && avahi_is_up other || return 1
+    start_responder b ours-b --instance booth --service $service --host chest --port 4001
+    wait_for 5 ours-b "lost +$booth" && has "$(cat "$work/ours-b")" "lost +$booth" && ! grep -E "held +$booth" "$work/ours-b" || return 1
+    stop_started
+    rm -f "$work"/*.log
+    we_hold || return 1
+    at=$(($(date +%s%3N) + 4000))
+    start_responder b ours-b --instance booth --service $service --host chest --port 4001 --at $at
+    # it has opened its sockets by now
+    sleep 0.5
+    avahi_is_up other || return 1
+    [ "$(date +%s%3N)" -lt "$at" ] || { echo "    Avahi came up too late"; return 1; }
+    wait_for 9 ours-b "lost +$booth" && has "$(cat "$work/ours-b")" "lost +$booth" && ! grep -E "held +$booth" "$work/ours-b"
 }
 
 # Two of our responders that want the same two names with other data, begun in the same millisecond.

@@ -9,49 +9,18 @@ import socket
 import struct
 import sys
 
-PTR, SRV = 12, 33
+from packet import header, name, records
+
 WAIT = 1.0
 
 
-def name(text):
-    labels = [label.encode() for label in text.strip(".").split(".")]
-    return b"".join(bytes([len(label)]) + label for label in labels) + b"\0"
-
-
-def read_name(packet, at):
-    """The name as text, where what follows it begins, and whether it has a pointer."""
-    labels, end = [], None
-    while packet[at]:
-        if packet[at] >= 0xC0:
-            end = end or at + 2
-            at = struct.unpack_from("!H", packet, at)[0] & 0x3FFF
-        else:
-            labels.append(packet[at + 1 : at + 1 + packet[at]].decode())
-            at += 1 + packet[at]
-    return ".".join(labels) + ".", end or at + 1, end is not None
-
-
-def target(packet, at, kind):
-    if kind not in (PTR, SRV):
-        return ""
-    text, _, is_cut = read_name(packet, at + (6 if kind == SRV else 0))
-    return f" target {text} {'cut' if is_cut else 'whole'}"
-
-
 def show(packet, query, question):
-    number, flags, *counts = struct.unpack_from("!6H", packet)
-    print("id repeated" if packet[:2] == query[:2] else f"id {number}", f"flags {flags:04x} counts", *counts)
+    print(header(packet, query))
     if not packet[12:].startswith(question):
         print("question not repeated")
         return
     print("question repeated byte for byte")
-    at = 12 + len(question)
-    for _ in range(sum(counts[1:])):
-        owner, at, _ = read_name(packet, at)
-        kind, class_, ttl, length = struct.unpack_from("!HHIH", packet, at)
-        print(f"record {owner} type {kind} class {class_} ttl {ttl}{target(packet, at + 10, kind)}")
-        at += 10 + length
-    print("ends there" if at == len(packet) else f"{len(packet) - at} bytes left over")
+    print(*records(packet, 12 + len(question)), sep="\n")
 
 
 def main():

@@ -1,4 +1,4 @@
-# The responder's calls for vectors: `start`, `recv`, `tick`, `claims`, `holds` and `out`, messages for them, and a responder in each state.
+# The responder's calls for vectors: `start`, `recv`, `tick`, `claims`, `holds`, `out` and `unicast`, messages for them, and a responder in each state.
 from packets import *
 
 INSTANCE = name(b"booth", b"_voice", b"_tcp", b"local")
@@ -39,6 +39,10 @@ def holds():
 
 def out(at, n):
     print("out", at, n)
+
+
+def unicast(at, n):
+    print("unicast", at, n)
 
 
 def query(questions, known=(), authority=(), flags=0, ident=0):

@@ -61,7 +61,7 @@ claims()
 
 # --- questions ----------------------------------------------------------------------------------------------------------
 
-show("asked after 249 ms by a probe: omitted; after 250 ms: sent")
+show("asked after 249 ms by a probe without the bit: omitted; after 250 ms: sent")
 for gap in (249, 250):
     now = state("held")
     recv(now + gap, probe(HOST, record(HOST, A, TEN)))

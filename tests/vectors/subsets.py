@@ -52,10 +52,10 @@ hosted host len = record {
   aaaa = 254 ∷ (128 ∷ (0 ∷ (0 ∷ (0 ∷ (0 ∷ (0 ∷ (0 ∷ (0 ∷ (0 ∷ (0 ∷ (0 ∷ (0 ∷ (0 ∷ (0 ∷ (10 ∷ [])))))))))))))));
 }
 
--- the response with PTR, SRV, TXT, A, AAAA, the instance's NSEC, the host's NSEC or without
+-- the response to all, so with ID 0, with PTR, SRV, TXT, A, AAAA, the instance's NSEC, the host's NSEC or without
 abbrev pub written : Setup → Bool → Bool → Bool → Bool → Bool → Bool → Bool → ℕ
 written s ptr srv txt a aaaa INSTANCE HOST =
-    number 1 (responsePacket s (record { ptr = ptr; srv = srv; txt = txt; a = a; aaaa = aaaa; INSTANCE = INSTANCE; HOST = HOST }))
+    number 1 (responsePacket s 0 (record { ptr = ptr; srv = srv; txt = txt; a = a; aaaa = aaaa; INSTANCE = INSTANCE; HOST = HOST }))
 '''.replace("INSTANCE", INSTANCE).replace("HOST", HOST)
 NAMES = {
     "dock": ("plain", "a host label that stands nowhere else"),

@@ -12,12 +12,13 @@ use Rattle.responder.specs.declared.Answer.{Answer}
 use Rattle.responder.specs.declared.Received.{Received}
 use Rattle.responder.specs.declared.Ticked.{Ticked}
 use Rattle.responder.specs.Handed.{Arrival, Tick}
-use Rattle.responder.specs.Calls.{refusalOf, Receives, Ticks}
+use Rattle.responder.specs.Calls as responder
+use Rattle.responder.specs.Calls.{refusalOf, unicastPacket, Ticks}
 use Rattle.responder.specs.Runs.{Call, received, ticked, refusalOfCall, answerTo, moreAfter, stateAfter, packetOf}
 use Rattle.responder.proofs.Refusals.{call-number, refused-keeps}
 use Rattle.capi_responder.specs.codec.Codec.{decode, withProgress, stateWith}
 use Rattle.capi_responder.specs.declared.Called.{Called}
-use Rattle.capi_responder.specs.Exported.{calledWith, bytesAfter, Calls}
+use Rattle.capi_responder.specs.Exported.{calledWith, bytesAfter, Calls, Receives}
 use Rattle.capi_responder.proofs.States.{same-setup, long-enough, with-progress}
 
 -- what a call gives, over an out buffer
@@ -27,7 +28,7 @@ pub record Gives (s : State) (c : Call) (out : List ℕ) (answer : Answer) (more
   pub is-after : after ≡ stateAfter s c
   pub is-out : out′ ≡ laidOver (packetOf s c) out
 
-pub of-receive : {s : State} {a : Arrival} {out out′ : List ℕ} {r : Received} → Receives s a out r out′
+pub of-receive : {s : State} {a : Arrival} {out unicast out′ unicast′ : List ℕ} {r : Received} → responder.Receives s a out unicast r out′ unicast′
     → Gives s (received a) out (r .answer) false (r .state) out′
 of-receive h = record {
   is-answer = ap (λ (x : Received). x .answer) (h .answers);
@@ -35,11 +36,6 @@ of-receive h = record {
   is-after = ap (λ (x : Received). x .state) (h .answers);
   is-out = h .writes;
 }
-
--- a packet from an address that was read of bytes
-pub of-receive-from : {s : State} (a : Address → Arrival) {from source : Address} {out out′ : List ℕ} {r : Received} → from ≡ source → Receives s (a from) out r out′
-    → Gives s (received (a source)) out (r .answer) false (r .state) out′
-of-receive-from {s} a {out = out} {out′} {r} e h = of-receive (subst (λ (x : Address). Receives s (a x) out r out′) e h)
 
 pub of-tick : {s : State} {t : Tick} {out out′ : List ℕ} {r : Ticked} → Ticks s t out r out′ → Gives s (ticked t) out (r .answer) (r .more) (r .state) out′
 of-tick h = record {
@@ -78,3 +74,20 @@ module _ (b out : List ℕ) (c : Call) {s : State} {answer : Answer} {more : Boo
       let g : refusalOfCall (decode b) c ≡ 0 = sym (call-number (decode b) c) ∙ sym number ∙ zero in
       let l : _ = rw (given .is-after) at h in
       calls (simp t (l .0)) (l .1 ∙ with-progress b c (long-enough b c g) (stateAfter (decode b) c) (same-setup (decode b) c))
+
+-- a packet from an address that was read of bytes
+module _ (b out unicast : List ℕ) (arrival : Address → Arrival) {s : State} {from source : Address} {heard : Received} {out′ unicast′ : List ℕ} {n : ℕ} {r : Called}
+    (is-state : s ≡ decode b) (is-source : from ≡ source) (hears : responder.Receives s (arrival from) out unicast heard out′ unicast′)
+    (is-number : n ≡ refusalOf (heard .answer)) (is-called : r ≡ calledWith (heard .answer) false) where
+  here : responder.Receives s (arrival source) out unicast heard out′ unicast′
+  here = subst (λ (x : Address). responder.Receives s (arrival x) out unicast heard out′ unicast′) is-source hears
+
+  replied : unicast′ ≡ laidOver (unicastPacket (decode b) (arrival source)) unicast
+  replied = here .replies ∙ ap (λ (x : State). laidOver (unicastPacket x (arrival source)) unicast) is-state
+
+  pub receive-kept : (n ≡ 0 → ⊥) → Receives b (arrival source) out unicast r b out′ unicast′
+  receive-kept refused = record { calls = call-kept b out (received (arrival source)) is-state (of-receive here) is-number is-called refused; replies = replied }
+
+  pub receive-taken : {b′ : List ℕ} → n ≡ 0 → (b′ ≡ withProgress b (heard .state .progress)) × (decode b′ ≡ stateWith b (heard .state .progress))
+      → Receives b (arrival source) out unicast r b′ out′ unicast′
+  receive-taken zero h = record { calls = call-taken b out (received (arrival source)) is-state (of-receive here) is-number is-called zero h; replies = replied }

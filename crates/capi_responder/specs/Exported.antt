@@ -1,5 +1,5 @@
 -- Start, packet received and tick on lent bytes: the answer in numbers, the bytes that the state then has, and what they say. The contracts are the
--- records `Starts` and `Calls`. Assumes nothing: these are definitions.
+-- records `Starts`, `Calls` and `Receives`. Assumes nothing: these are definitions.
 use Prim.Native.Nat.{ℕ}
 use mathlib.Core.Path.{_≡_}
 use mathlib.Core.Bool.{Bool, false, cond}
@@ -11,15 +11,16 @@ use Rattle.writer.specs.own_packets.Own.{laidOver}
 use Rattle.responder.specs.declared.State.{State}
 use Rattle.responder.specs.declared.Answer.{Answer}
 use Rattle.responder.specs.declared.Started.{Started}
-use Rattle.responder.specs.Calls.{blank, refusalOf, lengthOf, isUnicast, startOf}
-use Rattle.responder.specs.Runs.{Call, answerTo, moreAfter, stateAfter, packetOf}
+use Rattle.responder.specs.Calls.{blank, refusalOf, lengthOf, unicastLengthOf, unicastPacket, startOf}
+use Rattle.responder.specs.Handed.{Arrival}
+use Rattle.responder.specs.Runs.{Call, received, answerTo, moreAfter, stateAfter, packetOf}
 use Rattle.capi_responder.specs.codec.Layout.{stateSize}
 use Rattle.capi_responder.specs.codec.Codec.{setupOf, decode, withProgress, withSetup}
 use Rattle.capi_responder.specs.declared.Called.{Called}
 
 -- The specification's values for an answer
 abbrev pub calledWith : Answer → Bool → Called
-calledWith answer more = record { refusal = refusalOf answer; more = more; unicast = isUnicast answer; length = lengthOf answer }
+calledWith answer more = record { refusal = refusalOf answer; more = more; length = lengthOf answer; unicast = unicastLengthOf answer }
 
 -- "A refusal returns the number alone .. state .. keep every byte."
 abbrev pub unlessRefused : {A : Type 0} → Answer → A → A → A
@@ -58,3 +59,8 @@ pub record Calls (b : List ℕ) (c : Call) (out : List ℕ) (a : Called) (b′ o
   pub bytes : b′ ≡ bytesAfter b c
   pub says : decode b′ ≡ stateAfter (decode b) c
   pub writes : out′ ≡ laidOver (packetOf (decode b) c) out
+
+-- a packet received has a second out buffer, for what goes to where it came from
+pub record Receives (b : List ℕ) (a : Arrival) (out unicast : List ℕ) (r : Called) (b′ out′ unicast′ : List ℕ) : Type 0 where
+  pub calls : Calls b (received a) out r b′ out′
+  pub replies : unicast′ ≡ laidOver (unicastPacket (decode b) a) unicast

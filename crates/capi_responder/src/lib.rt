@@ -8,23 +8,25 @@ pub mod setup_test;
 pub mod state;
 
 ghost use mathlib.Core.Path.{_≡_};
+ghost use mathlib.Core.List.{List};
+ghost use Prim.Native.Nat.{ℕ};
 ghost use lib.ListN.{length};
 ghost use Rattle.responder.specs.Handed.{Arrival, Tick};
 ghost use Rattle.responder.specs.address.Address.{addressOf};
-ghost use Rattle.responder.specs.Calls.{refusalOf, lengthOf, isUnicast};
-ghost use Rattle.responder.specs.Runs.{received, ticked};
-ghost use Rattle.capi_responder.specs.Exported.{calledWith, setupFor, Starts, Calls};
+ghost use Rattle.responder.specs.Calls.{refusalOf, lengthOf, unicastLengthOf};
+ghost use Rattle.responder.specs.Runs.{ticked};
+ghost use Rattle.capi_responder.specs.Exported.{calledWith, setupFor, Starts, Calls, Receives};
 use own::records::Setup;
 use responder::Answer;
 
-// A call's answer: the specification's refusal number, or 0; whether more is due, after a tick; whether the packet that was written goes to where the
-// message came from that it answers, and not to all; and the length of that packet, or 0.
+// A call's answer: the specification's refusal number, or 0; whether more is due, after a tick; the length of the packet that goes to all, or 0; and the
+// length of the one that goes to where the message came from that it answers, or 0.
 #[repr(C)]
 pub struct Called {
     pub refusal: u8,
     pub more: bool,
-    pub unicast: bool,
     pub length: usize,
+    pub unicast: usize,
 }
 
 fn refusal_of(answer: Answer) -> u8
@@ -35,6 +37,7 @@ fn refusal_of(answer: Answer) -> u8
         Answer::Quiet => 0,
         Answer::Sent(_) => 0,
         Answer::Unicast(_) => 0,
+        Answer::Both(_, _) => 0,
     }
 }
 
@@ -45,18 +48,20 @@ fn length_of(answer: Answer) -> usize
         Answer::Refused(_) => 0,
         Answer::Quiet => 0,
         Answer::Sent(length) => length,
-        Answer::Unicast(length) => length,
+        Answer::Unicast(_) => 0,
+        Answer::Both(length, _) => length,
     }
 }
 
-fn is_unicast(answer: Answer) -> bool
-    ensures { λ r. ⌜ r ≡ isUnicast answer ⌝ }
+fn unicast_length(answer: Answer) -> usize
+    ensures { λ r. ⌜ r ≡ unicastLengthOf answer ⌝ }
 {
     match answer {
-        Answer::Refused(_) => false,
-        Answer::Quiet => false,
-        Answer::Sent(_) => false,
-        Answer::Unicast(_) => true,
+        Answer::Refused(_) => 0,
+        Answer::Quiet => 0,
+        Answer::Sent(_) => 0,
+        Answer::Unicast(length) => length,
+        Answer::Both(_, length) => length,
     }
 }
 
@@ -66,8 +71,8 @@ fn answered(answer: Answer, more: bool) -> Called
     Called {
         refusal: refusal_of(answer),
         more,
-        unicast: is_unicast(answer),
         length: length_of(answer),
+        unicast: unicast_length(answer),
     }
 }
 
@@ -100,7 +105,7 @@ pub extern "C" fn kurgashel_start(state: &mut [u8], setup: &[u8], time: u64, dra
 }
 
 // Takes a packet that came from an address (16 bytes, or the 4 of IPv4) and a port, with the draws for a PTR reply and for a query that is held, and writes the
-// answers that go out at once: to all, or to a plain resolver, which asks from another port than 5353.
+// answers that go out at once: to `out` those to all, to `unicast` those to the asker.
 #[no_mangle]
 pub extern "C" fn kurgashel_receive(
     state: &mut [u8],
@@ -111,11 +116,14 @@ pub extern "C" fn kurgashel_receive(
     hold: u64,
     packet: &[u8],
     out: &mut [u8],
+    unicast: &mut [u8],
 ) -> Called
-    ensures { λ r. ⌜ (let room = length (now (out .entry)) in
-        let source = addressOf (now (from .entry)) in
-        let a : Arrival = record { time = time; from = source; port = port; draw = draw; hold = hold; packet = now (packet .entry); room = room } in
-        Calls (now (state .entry)) (received a) (now (out .entry)) r (now (state .exit)) (now (out .exit))) ⌝ }
+    ensures { λ r. ⌜ (let source = addressOf (now (from .entry)) in
+        let p : List ℕ = now (packet .entry) in
+        let room = length (now (out .entry)) in
+        let second = length (now (unicast .entry)) in
+        let a : Arrival = record { time = time; from = source; port = port; draw = draw; hold = hold; packet = p; room = room; unicastroom = second } in
+        Receives (now (state .entry)) a (now (out .entry)) (now (unicast .entry)) r (now (state .exit)) (now (out .exit)) (now (unicast .exit))) ⌝ }
 {
     let heard = responder::receive(
         crate::codec::read_state(state),
@@ -126,6 +134,7 @@ pub extern "C" fn kurgashel_receive(
         hold,
         packet,
         out,
+        unicast,
     );
     let answer = heard.answer;
     if refusal_of(answer) != 0 {

@@ -13,7 +13,7 @@ use Rattle.claims.specs.Claims.{heldNow, claimOf}
 use Rattle.claims.specs.records.Own.{all, claimFor, present, has}
 use Rattle.claims.specs.records.Sets.{someOf, picked, anyOf}
 use Rattle.claims.specs.holds.Holds.{noHold, holdAt, someFrom, someFree}
-use Rattle.claims.specs.answers.Answers.{heardFor, asksOf, asksOfHold, gapFor, isWanted, wantedOf, joined, judgedOf}
+use Rattle.claims.specs.answers.Answers.{heardFor, asksOf, askedBy, multicastAsks, unicastAsks, asksOfHold, gapFor, isWanted, wantedOf, joined, judgedOf}
 use Rattle.claims.specs.answers.Held.{toHold, receiveOf}
 use Rattle.claims.specs.declared.answers.Facts.{Facts}
 use Rattle.claims.specs.declared.answers.Coming.{Coming}
@@ -101,14 +101,14 @@ module _ (s : State) (t : Tick) (place : Place) (ok : tickRefusal s t ≡ 0) whe
   unfolding tickedPacket
   written = simp ok
 
-  packet-is : walkedOf s (t .time) .output ≡ Response set → tickedPacket s t ≡ responsePacket (s .setup) set
+  packet-is : walkedOf s (t .time) .output ≡ Response set → tickedPacket s t ≡ responsePacket (s .setup) 0 set
   unfolding packetFor
   packet-is e = written ∙ ap (packetFor (s .setup)) e
 
   sent-records : walkedOf s (t .time) .output ≡ Response set
-      → answersIn (tickedPacket s t) ≡ map (ownRecord (s .setup) responseStyle) (wantedBy s (t .time) h)
+      → answersIn (tickedPacket s t) ≡ map (ownRecord (s .setup) (responseStyle 0)) (wantedBy s (t .time) h)
   unfolding responseRecords
-  sent-records e = ap answersIn (packet-is e) ∙ (answers-back (s .setup) set right ∙ ap (map (ownRecord (s .setup) responseStyle)) wanted-records)
+  sent-records e = ap answersIn (packet-is e) ∙ (answers-back (s .setup) 0 set right ∙ ap (map (ownRecord (s .setup) (responseStyle 0))) wanted-records)
 
   none-wanted : anyOf set ≡ false → wantedBy s (t .time) h ≡ []
   unfolding anyOf
@@ -131,13 +131,13 @@ in-time time hold now least most due soon = (omega arith, omega arith)
 
 -- what a message says, but for its TC bit
 abbrev pub withoutTc : Facts → Facts
-withoutTc f = record { response = f .response; truncated = false; asked = f .asked; known = f .known; instance = f .instance; host = f .host }
+withoutTc f = record { response = f .response; truncated = false; asked = f .asked; qm = f .qm; known = f .known; instance = f .instance; host = f .host }
 
 -- a message that is not held is judged as if without TC
 pub as-without-tc :
     (progress : Progress) (c : Coming) (f : Facts) (aaaa : Bool) → toHold (progress .holds) c f ≡ false
     → receiveOf progress c f aaaa ≡ receiveOf progress c (withoutTc f) aaaa
-unfolding judgedOf asksOf joined
+unfolding judgedOf multicastAsks unicastAsks askedBy asksOf joined
 as-without-tc progress c f aaaa e =
     judged-is f progress c aaaa e ∙ sym (judged-is (withoutTc f) progress c aaaa (whole-judged (withoutTc f) (progress .holds) c refl))
 

@@ -2,6 +2,7 @@
 -- cause. Assumes nothing.
 use Prim.Native.Nat.{ℕ, _+_, _≤_}
 use mathlib.Core.Path.{_≡_, refl, sym, ap, subst, _∙_}
+use mathlib.Core.Logic.{_≢_, _⊎_, inl, inr}
 use mathlib.Core.Bool.{Bool, true, false, cond, not, _&&_, _||_, and-true, and-false, or-false}
 use mathlib.Core.List.{List, [], _∷_, _++_, map}
 use native.Mathlib.Omega.{arith}
@@ -28,7 +29,7 @@ use Rattle.claims.specs.declared.records.Own.the-variants.{Ptr}
 use Rattle.claims.specs.declared.records.Set.{Set}
 use Rattle.claims.specs.answers.Held as holding
 use Rattle.claims.specs.answers.Held.{toHold, holdOf, heldBack}
-use Rattle.claims.specs.answers.Answers.{asksOf, wantedOf, setReply, joined, judgedOf}
+use Rattle.claims.specs.answers.Answers.{wantedOf, multicastAsks, setReply, joined, judgedOf}
 use Rattle.claims.specs.declared.answers.Facts.{Facts}
 use Rattle.claims.specs.declared.answers.Received.{Received}
 use Rattle.claims.specs.declared.When.{When}
@@ -36,27 +37,29 @@ use Rattle.claims.specs.declared.When.the-variants.{Never, At}
 use Rattle.claims.specs.declared.Progress.{Progress}
 use Rattle.claims.specs.declared.holds.Hold.{Hold}
 use Rattle.claims.specs.declared.records.Claim.the-variants.{Instance, Host}
-use Rattle.claims.specs.Time.{lastTime, lastKept}
+use Rattle.claims.specs.Time.{lastTime, lastKept, sentOf, marked, markedAll}
 use Rattle.claims.specs.holds.Holds.{heldOf, someFrom, someFree, knowing, knowingAll}
 use Rattle.claims.proofs.holds.Lists.{queued-last, knowing-held}
 use Rattle.claims.proofs.answers.Causes.{held-or-judged}
-use Rattle.claims.proofs.answers.Receives.{held-truncated, held-room}
-use Rattle.claims.proofs.records.Sets.{by-record, has-each}
+use Rattle.claims.proofs.answers.Receives.{held-truncated, held-room, receive-sent}
+use Rattle.claims.proofs.records.Sets.{by-record, has-each, sent-each}
 use Rattle.claims.proofs.Times.{after-exact}
 use Rattle.facts.specs.probe.Probe.{isProbe}
 use Rattle.facts.specs.Facts.{factsOf, responseFacts, queryFacts, isAsked, isKnown, claimName, isTruncated}
 use Rattle.writer.specs.own_packets.Styles.{responseStyle, ownRecord}
 use Rattle.writer.specs.own_packets.Own.{responseRecords, responseOf, noneIfEmpty, responsePacket}
+use Rattle.roundtrip.specs.Writable.{layoutOf}
 use Rattle.roundtrip.proofs.OwnPackets.{response-back}
 use Rattle.responder.specs.Handed.{Arrival, comingOf}
 use Rattle.responder.specs.Refusals.{wrongState, receiveRefusal}
-use Rattle.responder.specs.Calls.{packetFor, fromMdns, heardOf, receivedPacket, receiveOf}
-use Rattle.responder.specs.Causes.{isDue, hasCause, isWanted}
+use Rattle.responder.specs.Calls.{packetFor, fromMdns, heardOf, receivedPacket, unicastPacket, receiveOf}
+use Rattle.responder.specs.Causes.{isDue, hasCause, isToAsker, isWanted, isUnicast}
 use Rattle.responder.specs.declared.State.{State}
 use Rattle.responder.proofs.Refusals.{ReceiveAccepted, receive-accepted}
 use Rattle.responder.proofs.Closure.{small-draws, least-hold}
-use Rattle.responder.proofs.Causes.{wanted-exactly}
-use Rattle.causes.specs.Statement.{answersOf, answersIn, Accepted, isHeldBack, wantedNow, goesNow, keptOf, addedTo, standsIn, Exactly, LeftOutExactly}
+use Rattle.responder.proofs.Causes.{wanted-exactly, unicast-exactly, one-way}
+use Rattle.causes.specs.Statement.{answersOf, answersIn, Accepted, isHeldBack, wantedNow, goesNow, unicastNow, unicastAnswer, OneWay, toAll, toAsker, leftOut}
+use Rattle.causes.specs.Statement.{keptOf, addedTo, standsIn, Exactly, LeftOutExactly}
 
 -- ---- lists
 
@@ -105,24 +108,31 @@ filled : (o : Own) (os : List Own) → o ∷ os ≡ [] → ⊥
 filled o os z = let c : _≡_ {A = ℕ} (length (o ∷ os)) 0 = ap length z in omega (arith, c)
 
 -- a response is read back as its records, and none as none
-module _ (s : Setup) (set : Set) (v : validSetup s ≡ true) where
-  none-back : responseRecords s set ≡ [] → answersIn (responsePacket s set) ≡ []
+module _ (s : Setup) (id : ℕ) (set : Set) (v : validSetup s ≡ true) where
+  none-back : responseRecords s set ≡ [] → answersIn (responsePacket s id set) ≡ []
   unfolding responsePacket messageAt
   none-back e = rw e
 
-  some-back : (responseRecords s set ≡ [] → ⊥) → answersIn (responsePacket s set) ≡ map (ownRecord s responseStyle) (responseRecords s set)
+  some-back : (responseRecords s set ≡ [] → ⊥) → answersIn (responsePacket s id set) ≡ map (ownRecord s (responseStyle id)) (responseRecords s set)
   unfolding responseOf
-  some-back nz = ap answersOf (response-back s v set nz)
+  some-back nz = ap answersOf (response-back s v id set nz)
 
-  pub answers-back : answersIn (responsePacket s set) ≡ map (ownRecord s responseStyle) (responseRecords s set)
+  pub answers-back : answersIn (responsePacket s id set) ≡ map (ownRecord s (responseStyle id)) (responseRecords s set)
   answers-back = go (responseRecords s set) refl
     where
-      go : (os : List Own) → responseRecords s set ≡ os → answersIn (responsePacket s set) ≡ map (ownRecord s responseStyle) (responseRecords s set)
-      go [] e = none-back e ∙ sym (ap (map (ownRecord s responseStyle)) e)
+      go : (os : List Own) → responseRecords s set ≡ os → answersIn (responsePacket s id set) ≡ map (ownRecord s (responseStyle id)) (responseRecords s set)
+      go [] e = none-back e ∙ sym (ap (map (ownRecord s (responseStyle id))) e)
       go (o ∷ os) e = some-back (λ z. filled o os (sym e ∙ z))
 
+-- a record that is due is there
+there : (r h t k w : Bool) → (((not r && (h && (t && k))) && w) && t) ≡ ((not r && (h && (t && k))) && w)
+there true h t k w = refl
+there false false t k w = refl
+there false true false k w = refl
+there false true true k w = and-true (k && w)
+
 module _ (s : State) (a : Arrival) (l : Layout) (m : Message) (ok : Accepted s a l m) (port : a .port ≡ 5353) where
-  from : fromMdns a ≡ true
+  from : fromMdns (a .port) ≡ true
   from = eq-eqb (a .port) 5353 port
 
   passed : ReceiveAccepted s a
@@ -140,9 +150,13 @@ module _ (s : State) (a : Arrival) (l : Layout) (m : Message) (ok : Accepted s a
   abbrev heard : Received
   heard = holding.receiveOf (s .progress) (comingOf a) f aaaa
 
-  sent-is : receivedPacket s a ≡ responsePacket (s .setup) (heard .answers)
+  sent-is : receivedPacket s a ≡ responsePacket (s .setup) 0 (heard .answers)
   unfolding receivedPacket packetFor
   sent-is = simp (ok .accepted, ok .message, from)
+
+  back-is : unicastPacket s a ≡ responsePacket (s .setup) (m .id) (heard .unicast)
+  unfolding unicastPacket
+  back-is = simp (ok .accepted, ok .message, from)
 
   left : receiveOf s a .state .progress ≡ heard .progress
   unfolding receiveOf
@@ -166,6 +180,12 @@ module _ (s : State) (a : Arrival) (l : Layout) (m : Message) (ok : Accepted s a
       go true = refl
       go false = refl
 
+  -- a test that takes in that the record is there
+  go : (g n w t : Bool) → (w && t) ≡ w → ((g && (n && w)) && t) ≡ (g && (n && w))
+  go true true w t e = e
+  go true false w t e = refl
+  go false n w t e = refl
+
   -- by cases of what becomes of the message
   by-held : (P : Bool → Received → Type 0)
       → (isHeldBack s a m ≡ true → P true (heldBack (s .progress) (comingOf a) f))
@@ -175,43 +195,106 @@ module _ (s : State) (a : Arrival) (l : Layout) (m : Message) (ok : Accepted s a
       subst (λ (b : Bool). P b heard) held-is
       (held-or-judged (s .progress) (comingOf a) f aaaa P (λ e. held (sym held-is ∙ e)) (λ e. judged (sym held-is ∙ e)))
 
-  -- a record that goes at once has no need of a second look at whether it is there
-  goes-once : (o : Own) → (has o (heard .answers) && hasRecord (s .setup) o) ≡ goesNow s a m o
-  unfolding heldBack judgedOf atOnce isDue
-  goes-once o =
-      by-held (λ b r. (has o (r .answers) && hasRecord (s .setup) o) ≡ (goesAtOnce o && (not b && isWanted s (a .time) m o)))
-      (λ e. ap (λ (v : Bool). v && hasRecord (s .setup) o) (has-each (λ p. false) o) ∙ sym (and-false (goesAtOnce o)))
+  goes-is : (o : Own) → has o (heard .answers) ≡ goesNow s a m o
+  unfolding heldBack judgedOf atOnce
+  goes-is o =
+      by-held (λ b r. has o (r .answers) ≡ (goesAtOnce o && (not b && isWanted s (a .time) m o)))
+      (λ e. has-each (λ p. false) o ∙ sym (and-false (goesAtOnce o)))
       (λ e.
-      ap (λ (v : Bool). v && hasRecord (s .setup) o)
-      (has-each (λ p. goesAtOnce p && has p (wantedOf (s .progress) (asksOf f) (a .time) aaaa)) o
+      has-each (λ p. goesAtOnce p && has p (wantedOf (s .progress) (multicastAsks (s .progress) f (a .time)) (a .time) aaaa)) o
       ∙ ap (λ (v : Bool). goesAtOnce o && v) (wanted-exactly s (a .time) m o))
-      ∙ go (goesAtOnce o) (isResponse (m .flags)) (heldNow (claimOf (claimFor o) (s .progress))) (hasRecord (s .setup) o) (isAsked (s .setup) o m) (hasCause s (a .time) m o))
-    where
-      go : (g r h t k c : Bool) → ((g && ((not r && (h && (t && k))) && not c)) && t) ≡ (g && ((not r && (h && (t && k))) && not c))
-      go false r h t k c = refl
-      go true true h t k c = refl
-      go true false false t k c = refl
-      go true false true false k c = refl
-      go true false true true k c = and-true (k && not c)
 
-  answered : answersIn (receivedPacket s a) ≡ map (ownRecord (s .setup) responseStyle) (picked (goesNow s a m) all)
+  unicast-is : (o : Own) → has o (heard .unicast) ≡ unicastNow s a m o
+  unfolding heldBack judgedOf
+  unicast-is o =
+      by-held (λ b r. has o (r .unicast) ≡ (not b && isUnicast s (a .time) m o)) (λ e. has-each (λ p. false) o) (λ e. unicast-exactly s (a .time) m o)
+
+  -- a record that goes out has no need of a second look at whether it is there
+  goes-once : (o : Own) → (has o (heard .answers) && hasRecord (s .setup) o) ≡ goesNow s a m o
+  unfolding isDue
+  goes-once o =
+      ap (λ (v : Bool). v && hasRecord (s .setup) o) (goes-is o)
+      ∙ go (goesAtOnce o) (not (isHeldBack s a m)) (isWanted s (a .time) m o) (hasRecord (s .setup) o)
+      (there (isResponse (m .flags)) (heldNow (claimOf (claimFor o) (s .progress))) (hasRecord (s .setup) o) (isAsked (s .setup) o m)
+      (not (isToAsker s (a .time) m o) && not (hasCause s (a .time) m o)))
+
+  unicast-once : (o : Own) → (has o (heard .unicast) && hasRecord (s .setup) o) ≡ unicastNow s a m o
+  unfolding isDue
+  unicast-once o =
+      ap (λ (v : Bool). v && hasRecord (s .setup) o) (unicast-is o)
+      ∙ go true (not (isHeldBack s a m)) (isUnicast s (a .time) m o) (hasRecord (s .setup) o)
+      (there (isResponse (m .flags)) (heldNow (claimOf (claimFor o) (s .progress))) (hasRecord (s .setup) o) (isAsked (s .setup) o m)
+      (isToAsker s (a .time) m o && not (isKnown (s .setup) o m)))
+
+  answered : answersIn (receivedPacket s a) ≡ map (ownRecord (s .setup) (responseStyle 0)) (picked (goesNow s a m) all)
   unfolding responseRecords
   answered =
       ap answersIn sent-is
-      ∙ (answers-back (s .setup) (heard .answers) right
-      ∙ ap (map (ownRecord (s .setup) responseStyle)) (picked-same (λ o. has o (heard .answers) && hasRecord (s .setup) o) (goesNow s a m) goes-once all))
+      ∙ (answers-back (s .setup) 0 (heard .answers) right
+      ∙ ap (map (ownRecord (s .setup) (responseStyle 0))) (picked-same (λ o. has o (heard .answers) && hasRecord (s .setup) o) (goesNow s a m) goes-once all))
+
+  replied-back : answersIn (unicastPacket s a) ≡ map (ownRecord (s .setup) (responseStyle (m .id))) (picked (unicastNow s a m) all)
+  unfolding responseRecords
+  replied-back =
+      ap answersIn back-is
+      ∙ (answers-back (s .setup) (m .id) (heard .unicast) right
+      ∙ ap (map (ownRecord (s .setup) (responseStyle (m .id))))
+      (picked-same (λ o. has o (heard .unicast) && hasRecord (s .setup) o) (unicastNow s a m) unicast-once all))
+
+  read-back : picked (unicastNow s a m) all ≢ [] → (n : Layout) × (messageAt (unicastPacket s a) ≡ read n (unicastAnswer s a m))
+  unfolding responseOf responseRecords
+  read-back nz =
+      let same : responseRecords (s .setup) (heard .unicast) ≡ picked (unicastNow s a m) all =
+      picked-same (λ o. has o (heard .unicast) && hasRecord (s .setup) o) (unicastNow s a m) unicast-once all in
+      let n : Layout = layoutOf false (responseOf (s .setup) (m .id) (heard .unicast)) in (
+        n,
+        ap messageAt back-is
+            ∙ (response-back (s .setup) right (m .id) (heard .unicast) (λ z. nz (sym same ∙ z))
+            ∙ ap
+            (λ (os : List Own).
+            read n
+            (record {
+              id = m .id;
+              flags = 0x8400;
+              questions = [];
+              answers = map (ownRecord (s .setup) (responseStyle (m .id))) os;
+              authorities = [];
+              additionals = [];
+            }))
+            same),
+      )
 
   -- of all own records the one of an owner and type
-  goes : (o : Own) → goesAtOnce o ≡ true → standsIn (s .setup) o (answersIn (receivedPacket s a)) ≡ wantedNow s a m o
+  stands : (id : ℕ) (test : Own → Bool) (o : Own) → standsIn (s .setup) o (map (ownRecord (s .setup) (responseStyle id)) (picked test all)) ≡ test o
   unfolding ownRecord
-  goes o g =
-      ap (standsIn (s .setup) o) answered
-      ∙ (some-picked (λ (r : Record). sameName (r .owner) (ownName (s .setup) o) && eqb (r .rtype) (ownType o)) (ownRecord (s .setup) responseStyle)
-      (goesNow s a m) all
-      ∙ (some-same (λ p. goesNow s a m p && (sameName (ownName (s .setup) p) (ownName (s .setup) o) && eqb (ownType p) (ownType o)))
-      (λ p. goesNow s a m p && eqb (indexOf p) (indexOf o))
-      (λ p. ap (λ (v : Bool). goesNow s a m p && v) (apart (s .setup) (valid (s .setup) right) p o)) all
-      ∙ (one-of-all (goesNow s a m) o ∙ ap (λ (v : Bool). v && wantedNow s a m o) g)))
+  stands id test o =
+      some-picked (λ (r : Record). sameName (r .owner) (ownName (s .setup) o) && eqb (r .rtype) (ownType o)) (ownRecord (s .setup) (responseStyle id)) test all
+      ∙ (some-same (λ p. test p && (sameName (ownName (s .setup) p) (ownName (s .setup) o) && eqb (ownType p) (ownType o)))
+      (λ p. test p && eqb (indexOf p) (indexOf o))
+      (λ p. ap (λ (v : Bool). test p && v) (apart (s .setup) (valid (s .setup) right) p o)) all
+      ∙ one-of-all test o)
+
+  goes : (o : Own) → goesAtOnce o ≡ true → standsIn (s .setup) o (answersIn (receivedPacket s a)) ≡ wantedNow s a m o
+  goes o g = ap (standsIn (s .setup) o) answered ∙ (stands 0 (goesNow s a m) o ∙ ap (λ (v : Bool). v && wantedNow s a m o) g)
+
+  tells : (o : Own) → standsIn (s .setup) o (answersIn (unicastPacket s a)) ≡ unicastNow s a m o
+  tells o = ap (standsIn (s .setup) o) replied-back ∙ stands (m .id) (unicastNow s a m) o
+
+  one : isHeldBack s a m ≡ false → (o : Own) → isDue s m o ≡ true → OneWay (wantedNow s a m o) (unicastNow s a m o) (hasCause s (a .time) m o)
+  one e o d = rw e (ways (one-way s (a .time) m o d))
+    where
+      ways : {w u c : Bool} → ((w ≡ true) × (u ≡ false)) ⊎ (((w ≡ false) × (u ≡ true)) ⊎ ((w ≡ false) × (u ≡ false) × (c ≡ true))) → OneWay w u c
+      ways (inl x) = toAll (x .0) (x .1)
+      ways (inr (inl x)) = toAsker (x .0) (x .1)
+      ways (inr (inr x)) = leftOut (x .0) (x .1) (x .2)
+
+  marked-then : (o : Own) → sentOf o (receiveOf s a .state .progress .sent) ≡ cond (goesNow s a m o) (At (a .time)) (sentOf o (s .progress .sent))
+  unfolding markedAll
+  marked-then o =
+      ap (λ (p : Progress). sentOf o (p .sent)) left
+      ∙ (receive-sent (comingOf a) f aaaa (s .progress) o
+      ∙ (sent-each (λ p. marked (has p (heard .answers)) (sentOf p (s .progress .sent)) (a .time)) o
+      ∙ ap (λ (b : Bool). cond b (At (a .time)) (sentOf o (s .progress .sent))) (goes-is o)))
 
   late : a .time ≤ lastTime
   unfolding wrongTime
@@ -285,6 +368,11 @@ left-out-exactly s a l m ok port = record {
   answers = answered s a l m ok port;
   goes = goes s a l m ok port;
   reply = replied s a l m ok port;
+  back = replied-back s a l m ok port;
+  reads = read-back s a l m ok port;
+  tells = tells s a l m ok port;
+  oneWay = one s a l m ok port;
+  marks = marked-then s a l m ok port;
   holds = held-then s a l m ok port;
   soonest = least s a l m ok port;
   latest = omega (arith, small s a l m ok port .1);

@@ -36,12 +36,12 @@ use Rattle.claims.specs.answers.Answers as answers
 use Rattle.claims.proofs.records.Sets.{has-each}
 use Rattle.facts.specs.Facts.{factsOf, isAsked}
 use Rattle.writer.specs.own_packets.Styles.{plainStyle, ownRecord}
-use Rattle.writer.specs.own_packets.Own.{responseRecords, plainRecords, plainReplyOf, noneIfEmpty, plainPacket}
+use Rattle.writer.specs.own_packets.Own.{responseRecords, responsePacket, plainRecords, plainReplyOf, noneIfEmpty, plainPacket}
 use Rattle.roundtrip.specs.Writable.{layoutOf}
 use Rattle.roundtrip.proofs.OwnPackets.{plain-fits, plain-back}
 use Rattle.responder.specs.Handed.{Arrival}
 use Rattle.responder.specs.Refusals.{wrongState, receiveRefusal}
-use Rattle.responder.specs.Calls.{unicast, parcels, fromMdns, destinationOf, plainFor, broughtOut, heardOf, receivedPacket, receiveOf}
+use Rattle.responder.specs.Calls.{unicast, parcels, packetFor, fromMdns, plainFor, heardOf, receivedPacket, unicastPacket, receiveOf}
 use Rattle.responder.specs.Causes.{isDue}
 use Rattle.responder.specs.Runs.{received, sentBy}
 use Rattle.responder.specs.declared.State.{State}
@@ -93,7 +93,7 @@ module _ (s : Setup) (v : validSetup s ≡ true) (set : Set) (id : ℕ) (q : Que
           ∙ map-same (ownRecord s (plainStyle id (q .rtype) (q .class))) (plainRecord s) record-is (plainRecords s set)
 
 module _ (s : State) (a : Arrival) (l : Layout) (m : Message) (ok : Accepted s a l m) (port : a .port ≢ 5353) where
-  from : fromMdns a ≡ false
+  from : fromMdns (a .port) ≡ false
   from = ne-eqb (a .port) 5353 port
 
   passed : ReceiveAccepted s a
@@ -125,8 +125,8 @@ module _ (s : State) (a : Arrival) (l : Layout) (m : Message) (ok : Accepted s a
   unfolding answers.dueTo
   has-due o = has-each (answers.isDue (s .progress) (answers.asksOf (factsOf (s .setup) m)) (s .setup .hasaaaa)) o ∙ due-is s (a .time) m query o
 
-  sent-is : receivedPacket s a ≡ plainFor (s .setup) due (m .id) (m .questions)
-  unfolding receivedPacket answers.plainOf
+  sent-is : unicastPacket s a ≡ plainFor (s .setup) due (m .id) (m .questions)
+  unfolding unicastPacket answers.plainOf
   sent-is = simp (ok .accepted, ok .message, from)
 
   -- one that is due is there
@@ -156,7 +156,7 @@ module _ (s : State) (a : Arrival) (l : Layout) (m : Message) (ok : Accepted s a
   named : (q : Question) → m .questions ≡ q ∷ [] → isName (q .name) ≡ true
   named q e = first-named (a .packet) l m (ok .message) q [] e
 
-  answered : answersIn (receivedPacket s a) ≡ map (plainRecord (s .setup)) (picked (isReplied s m) all)
+  answered : answersIn (unicastPacket s a) ≡ map (plainRecord (s .setup)) (picked (isReplied s m) all)
   answered = ap answersIn sent-is ∙ go (m .questions) refl
     where
       go : (qs : List Question) → m .questions ≡ qs → answersIn (plainFor (s .setup) due (m .id) qs) ≡ map (plainRecord (s .setup)) (picked (isReplied s m) all)
@@ -176,7 +176,7 @@ module _ (s : State) (a : Arrival) (l : Layout) (m : Message) (ok : Accepted s a
       go true true false = refl
       go true true true = refl
 
-  goes : (o : Own) → carriesData o ≡ true → hasRecord (s .setup) o ≡ true → standsIn (s .setup) o (answersIn (receivedPacket s a)) ≡ not (plainCause s m o)
+  goes : (o : Own) → carriesData o ≡ true → hasRecord (s .setup) o ≡ true → standsIn (s .setup) o (answersIn (unicastPacket s a)) ≡ not (plainCause s m o)
   goes o d t =
       ap (standsIn (s .setup) o) answered
       ∙ (some-picked (λ (r : Record). sameName (r .owner) (ownName (s .setup) o) && eqb (r .rtype) (ownType o)) (plainRecord (s .setup)) (isReplied s m) all
@@ -185,10 +185,10 @@ module _ (s : State) (a : Arrival) (l : Layout) (m : Message) (ok : Accepted s a
       (λ p. ap (λ (v : Bool). isReplied s m p && v) (apart (s .setup) (valid (s .setup) right) p o)) all
       ∙ (one-of-all (isReplied s m) o ∙ replied-is o d t)))
 
-  whole : (q : Question) → m .questions ≡ q ∷ [] → picked (isReplied s m) all ≢ [] → (n : Layout) × (messageAt (receivedPacket s a) ≡ read n (plainReply s m q))
+  whole : (q : Question) → m .questions ≡ q ∷ [] → picked (isReplied s m) all ≢ [] → (n : Layout) × (messageAt (unicastPacket s a) ≡ read n (plainReply s m q))
   unfolding plainReplyOf
   whole q e nz =
-      let is : receivedPacket s a ≡ plainPacket (s .setup) due (m .id) q = sent-is ∙ ap (plainFor (s .setup) due (m .id)) e in
+      let is : unicastPacket s a ≡ plainPacket (s .setup) due (m .id) q = sent-is ∙ ap (plainFor (s .setup) due (m .id)) e in
       let rs = records-are q e in
       let n : Layout = layoutOf true (plainReplyOf (s .setup) due (m .id) q) in
       let answers : map (ownRecord (s .setup) (plainStyle (m .id) (q .rtype) (q .class))) (plainRecords (s .setup) due) ≡ map (plainRecord (s .setup)) (picked (isReplied s m) all) =
@@ -199,12 +199,12 @@ module _ (s : State) (a : Arrival) (l : Layout) (m : Message) (ok : Accepted s a
       )
 
   question : (q : Question) → m .questions ≡ q ∷ [] → picked (isReplied s m) all ≢ []
-      → take (length (q .name)) (drop 12 (receivedPacket s a)) ≡ take (length (q .name)) (drop 12 (a .packet))
+      → take (length (q .name)) (drop 12 (unicastPacket s a)) ≡ take (length (q .name)) (drop 12 (a .packet))
   question q e nz =
       let w = whole q e nz in
-      first-lies (receivedPacket s a) (w .0) (plainReply s m q) (w .1) q [] refl ∙ sym (first-lies (a .packet) l m (ok .message) q [] e)
+      first-lies (unicastPacket s a) (w .0) (plainReply s m q) (w .1) q [] refl ∙ sym (first-lies (a .packet) l m (ok .message) q [] e)
 
-  fits : length (receivedPacket s a) ≤ 1268
+  fits : length (unicastPacket s a) ≤ 1268
   fits = rw sent-is (go (m .questions))
     where
       go : (qs : List Question) → length (plainFor (s .setup) due (m .id) qs) ≤ 1268
@@ -212,8 +212,12 @@ module _ (s : State) (a : Arrival) (l : Layout) (m : Message) (ok : Accepted s a
       go (q ∷ []) = plain-fits (s .setup) right due (m .id) q
       go (q ∷ (r ∷ rs)) = omega arith
 
-  private : sentBy s (received a) ≡ parcels unicast (receivedPacket s a)
-  private = simp from
+  none-to-all : receivedPacket s a ≡ []
+  unfolding receivedPacket answers.plainOf packetFor responsePacket responseRecords picked
+  none-to-all = simp (ok .accepted, ok .message, from)
+
+  private : sentBy s (received a) ≡ parcels unicast (unicastPacket s a)
+  private = simp none-to-all
 
   state-is : receiveOf s a .state ≡ record { setup = s .setup; progress = withLast (a .time) (s .progress) }
   unfolding receiveOf answers.plainOf

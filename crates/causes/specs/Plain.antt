@@ -19,7 +19,7 @@ use Rattle.claims.specs.declared.records.Claim.{Claim}
 use Rattle.claims.specs.declared.records.Own.{Own}
 use Rattle.facts.specs.Facts.{isAsked}
 use Rattle.responder.specs.Handed.{Arrival}
-use Rattle.responder.specs.Calls.{unicast, parcels, receivedPacket, receiveOf}
+use Rattle.responder.specs.Calls.{unicast, parcels, unicastPacket, receiveOf}
 use Rattle.responder.specs.Causes.{isDue}
 use Rattle.responder.specs.Runs.{received, sentBy}
 use Rattle.responder.specs.declared.State.{State}
@@ -56,17 +56,17 @@ plainReply s m q = record {
 
 pub record ExactlyReplied (s : State) (a : Arrival) (m : Message) : Type 0 where
   -- the answers read back from the packet that the call sends are the own records, each whole, that are due, in the specification's order
-  pub answers : answersIn (receivedPacket s a) ≡ map (plainRecord (s .setup)) (picked (isReplied s m) all)
+  pub answers : answersIn (unicastPacket s a) ≡ map (plainRecord (s .setup)) (picked (isReplied s m) all)
   -- so a record that the set-up has is among them exactly where it has no cause
-  pub goes : (o : Own) → carriesData o ≡ true → hasRecord (s .setup) o ≡ true → standsIn (s .setup) o (answersIn (receivedPacket s a)) ≡ not (plainCause s m o)
+  pub goes : (o : Own) → carriesData o ≡ true → hasRecord (s .setup) o ≡ true → standsIn (s .setup) o (answersIn (unicastPacket s a)) ≡ not (plainCause s m o)
   -- where there is a record to send, the whole packet is read as the reply
-  pub reads : (q : Question) → m .questions ≡ q ∷ [] → picked (isReplied s m) all ≢ [] → (n : Layout) × (messageAt (receivedPacket s a) ≡ read n (plainReply s m q))
+  pub reads : (q : Question) → m .questions ≡ q ∷ [] → picked (isReplied s m) all ≢ [] → (n : Layout) × (messageAt (unicastPacket s a) ≡ read n (plainReply s m q))
   -- and the name in its question has the bytes that lie in the query
   pub question : (q : Question) → m .questions ≡ q ∷ [] → picked (isReplied s m) all ≢ []
-      → take (length (q .name)) (drop 12 (receivedPacket s a)) ≡ take (length (q .name)) (drop 12 (a .packet))
+      → take (length (q .name)) (drop 12 (unicastPacket s a)) ≡ take (length (q .name)) (drop 12 (a .packet))
   -- it fits, and goes to where the query came from and to no other
-  pub fits : length (receivedPacket s a) ≤ 1268
-  pub private : sentBy s (received a) ≡ parcels unicast (receivedPacket s a)
+  pub fits : length (unicastPacket s a) ≤ 1268
+  pub private : sentBy s (received a) ≡ parcels unicast (unicastPacket s a)
   -- nothing but the last time changes in the state
   pub state : receiveOf s a .state ≡ record { setup = s .setup; progress = withLast (a .time) (s .progress) }
   -- "Probes from such a port have no effect on any claim", and the reply "neither starts nor obeys" the gaps: no claim moves, and no time of a multicast

@@ -3,7 +3,8 @@
 -- proofs/Answered.antt under the names that the comments give. Assumes nothing.
 use Prim.Native.Nat.{ℕ, _+_, _≤_}
 use mathlib.Core.Path.{_≡_}
-use mathlib.Core.Bool.{Bool, true, cond, not, _&&_, _||_}
+use mathlib.Core.Logic.{_≢_}
+use mathlib.Core.Bool.{Bool, true, false, cond, not, _&&_, _||_}
 use mathlib.Core.List.{List, [], _∷_, _++_, map}
 use lib.Dec.{eqb}
 use Rattle.wire.specs.Lists.{some}
@@ -30,8 +31,8 @@ use Rattle.facts.specs.Facts.{isAsked, isKnown, claimName, isTruncated}
 use Rattle.writer.specs.own_packets.Styles.{responseStyle, ownRecord}
 use Rattle.responder.specs.Handed.{Arrival, Tick}
 use Rattle.responder.specs.Refusals.{receiveRefusal, tickRefusal}
-use Rattle.responder.specs.Calls.{receivedPacket, receiveOf, tickedPacket, tickOf}
-use Rattle.responder.specs.Causes.{isWanted}
+use Rattle.responder.specs.Calls.{receivedPacket, unicastPacket, receiveOf, tickedPacket, tickOf}
+use Rattle.responder.specs.Causes.{isDue, hasCause, isWanted, isUnicast}
 use Rattle.responder.specs.declared.State.{State}
 
 -- the answers that a packet is read as; in none there are none
@@ -63,6 +64,27 @@ wantedNow s a m o = not (isHeldBack s a m) && isWanted s (a .time) m o
 abbrev pub goesNow : State → Arrival → Message → Own → Bool
 goesNow s a m o = goesAtOnce o && wantedNow s a m o
 
+-- the records that go to the asker, at once: "PTR too"; "A query held .. is answered by multicast"
+abbrev pub unicastNow : State → Arrival → Message → Own → Bool
+unicastNow s a m o = not (isHeldBack s a m) && isUnicast s (a .time) m o
+
+-- "Unicast answers carry the query's ID": a response of these records
+abbrev pub unicastAnswer : State → Arrival → Message → Message
+unicastAnswer s a m = record {
+  id = m .id;
+  flags = 0x8400;
+  questions = [];
+  answers = map (ownRecord (s .setup) (responseStyle (m .id))) (picked (unicastNow s a m) all);
+  authorities = [];
+  additionals = [];
+}
+
+-- a record goes to all, or to the asker, or is left out for a cause, and never two of these
+pub data OneWay (multicast unicast cause : Bool) : Type 0 where
+  toAll : multicast ≡ true → unicast ≡ false → OneWay multicast unicast cause
+  toAsker : multicast ≡ false → unicast ≡ true → OneWay multicast unicast cause
+  leftOut : multicast ≡ false → unicast ≡ false → cause ≡ true → OneWay multicast unicast cause
+
 -- what is kept of a query that is held: "what it asked for and knows, for each own record"
 abbrev pub keptOf : State → Arrival → Message → Hold
 keptOf s a m = record {
@@ -82,11 +104,20 @@ standsIn s o rs = some (λ r. sameName (r .owner) (ownName s o) && eqb (r .rtype
 
 pub record Exactly (s : State) (a : Arrival) (m : Message) : Type 0 where
   -- the answers read back from the packet that the call sends are the own records, each whole, that are due and have no cause, in the specification's order
-  pub answers : answersIn (receivedPacket s a) ≡ map (ownRecord (s .setup) responseStyle) (picked (goesNow s a m) all)
+  pub answers : answersIn (receivedPacket s a) ≡ map (ownRecord (s .setup) (responseStyle 0)) (picked (goesNow s a m) all)
   -- so a record other than PTR is among them exactly where the message is not held, the record is due and no cause of the specification holds
   pub goes : (o : Own) → goesAtOnce o ≡ true → standsIn (s .setup) o (answersIn (receivedPacket s a)) ≡ wantedNow s a m o
   -- "PTR is set for a reply at now plus the draw, unless one is already set", exactly where it is due and no cause holds
   pub reply : receiveOf s a .state .progress .reply ≡ setReply (wantedNow s a m Ptr) (s .progress .reply) (a .time + a .draw)
+  -- the answers read back from the packet that goes to the asker are the own records that are due, asked for by no question without the unicast bit, multicast less
+  -- than a quarter of their TTL ago, and not known; the whole packet is read as that answer; and a record is among them exactly so
+  pub back : answersIn (unicastPacket s a) ≡ map (ownRecord (s .setup) (responseStyle (m .id))) (picked (unicastNow s a m) all)
+  pub reads : picked (unicastNow s a m) all ≢ [] → (n : Layout) × (messageAt (unicastPacket s a) ≡ read n (unicastAnswer s a m))
+  pub tells : (o : Own) → standsIn (s .setup) o (answersIn (unicastPacket s a)) ≡ unicastNow s a m o
+  -- of a message that is not held, each record that is due goes one way
+  pub oneWay : isHeldBack s a m ≡ false → (o : Own) → isDue s m o ≡ true → OneWay (wantedNow s a m o) (unicastNow s a m o) (hasCause s (a .time) m o)
+  -- what goes to all counts as multicast then; what goes to the asker does not
+  pub marks : (o : Own) → sentOf o (receiveOf s a .state .progress .sent) ≡ cond (goesNow s a m o) (At (a .time)) (sentOf o (s .progress .sent))
   -- a message that is held is the last of the held queries; any other is none, and a query's known answers go to those of its address
   pub holds :
       heldOf (receiveOf s a .state .progress .holds)
@@ -120,7 +151,7 @@ pub data Step (s : State) (t : Tick) (place : Place) : Type 0 where
       → holdAt place (s .progress .holds) .due ≡ At due
       → due ≤ t .time
       → holdAt place (tickOf s t .state .progress .holds) ≡ noHold
-      → answersIn (tickedPacket s t) ≡ map (ownRecord (s .setup) responseStyle) (wantedBy s (t .time) (holdAt place (s .progress .holds)))
+      → answersIn (tickedPacket s t) ≡ map (ownRecord (s .setup) (responseStyle 0)) (wantedBy s (t .time) (holdAt place (s .progress .holds)))
       → Step s t place
   -- "One with nothing to send is taken and passed."
   passed :

@@ -1,8 +1,9 @@
 // A packet received, on facts alone (specification, 'A claim's life' and 'Which answers go out'): what a message does to the two claims, and which own
 // records go out for it. The crate `facts` reads a message into them, `writer` writes the packet.
 ghost use mathlib.Core.Path.{_≡_};
+ghost use mathlib.Core.Bool.{cond, not, _&&_};
 ghost use Rattle.claims.specs.answers.Answers.{heardOf, asksOf, asksOfHold, gapOf, gapFor, isDue, isOmitted, isWanted, wantedOf, setReply, joined};
-ghost use Rattle.claims.specs.answers.Answers.{judgedOf, dueTo, plainOf};
+ghost use Rattle.claims.specs.answers.Answers.{quarterTtl, isToAsker, askedBy, multicastAsks, unicastAsks, judgedOf, dueTo, plainOf};
 ghost use Rattle.claims.specs.answers.Held.{toHold, holdOf, heldBack, receiveOf};
 use crate::ClaimState;
 use crate::Progress;
@@ -21,6 +22,9 @@ const DEFERRAL: u64 = 1000;
 // To a probe for its name a claim is defended with a record that was multicast 250 ms ago or more.
 const DEFENCE_GAP: u64 = 250;
 
+// A record goes by unicast to one who asks for that where it was multicast less than a quarter of its TTL ago: so many ms for each second of the TTL.
+const QUARTER_OF_A_SECOND: u64 = 250;
+
 // What a message says to one claim: it is a probe for its name, that probe's records are later than its own, it has a record that conflicts.
 pub struct Heard {
     pub probe: bool,
@@ -28,12 +32,14 @@ pub struct Heard {
     pub conflict: bool,
 }
 
-// What a message says to the responder: it is a response; more known answers follow it (the TC bit); a question asks for the record; an Answer record is the
-// record, with at least half its TTL; and what it says to each claim. Of a query the conflicts do not count, and of a response only they do.
+// What a message says to the responder: it is a response; more known answers follow it (the TC bit); a question asks for the record, and one without the
+// unicast bit does (a QM question); an Answer record is the record, with at least half its TTL; and what it says to each claim. Of a query the conflicts do not
+// count, and of a response only they do.
 pub struct Facts {
     pub response: bool,
     pub truncated: bool,
     pub asked: Set,
+    pub qm: Set,
     pub known: Set,
     pub instance: Heard,
     pub host: Heard,
@@ -55,10 +61,11 @@ pub struct Asks {
     pub hostgap: u64,
 }
 
-// A packet received: the progress after it, and the records that go out at once.
+// A packet received: the progress after it, and the records that go out at once, to all and to its sender alone.
 pub struct Received {
     pub progress: Progress,
     pub answers: Set,
+    pub unicast: Set,
 }
 
 // A claim after a message, where a conflict sends it back to probe at `again`, and a later probe at `deferred`.
@@ -191,6 +198,80 @@ pub fn wanted(progress: Progress, q: Asks, now: u64, aaaa: bool) -> Set
     crate::records::set_of(flags)
 }
 
+// Does a record that a message asks for go to its sender alone, if it goes at all?
+fn is_to_asker(progress: Progress, f: Facts, now: u64, o: Own) -> bool
+    ensures { λ r. ⌜ r ≡ isToAsker progress f now o ⌝ }
+{
+    let qm = f.qm;
+    let sent = progress.sent;
+    if crate::records::is_in(o, qm) {
+        return false;
+    }
+    let quarter = QUARTER_OF_A_SECOND * crate::records::own_ttl(o) as u64;
+    crate::was_recent(crate::sent_of(o, sent), now, quarter)
+}
+
+// Does a record that a message asks for, or not, go the one way or the other?
+fn goes_by(unicast: bool, asked: bool, toasker: bool) -> bool
+    ensures { λ r. ⌜ r ≡ asked && cond unicast toasker (not toasker) ⌝ }
+{
+    if asked {
+        if unicast {
+            return toasker;
+        }
+        return !toasker;
+    }
+    false
+}
+
+// Of the records that a message asks for those that go by unicast, if they go at all, or those that go by multicast.
+fn asked_by(unicast: bool, progress: Progress, f: Facts, now: u64) -> Set
+    ensures { λ r. ⌜ r ≡ askedBy unicast progress f now ⌝ }
+{
+    let q = asks_of(f);
+    let asked = q.asked;
+    let mut flags = [false; RECORDS];
+    let mut i = 0;
+    while i < RECORDS {
+        let o = crate::records::record_at(i);
+        flags[i] = goes_by(
+            unicast,
+            crate::records::is_in(o, asked),
+            is_to_asker(progress, f, now, o),
+        );
+        i += 1;
+    }
+    crate::records::set_of(flags)
+}
+
+// What a message asks of all on the link.
+fn multicast_asks(progress: Progress, f: Facts, now: u64) -> Asks
+    ensures { λ r. ⌜ r ≡ multicastAsks progress f now ⌝ }
+{
+    let known = f.known;
+    let instance = f.instance;
+    let host = f.host;
+    Asks {
+        asked: asked_by(false, progress, f, now),
+        known,
+        instancegap: gap_of(instance.probe),
+        hostgap: gap_of(host.probe),
+    }
+}
+
+// What a message asks for its sender alone: there is no gap.
+fn unicast_asks(progress: Progress, f: Facts, now: u64) -> Asks
+    ensures { λ r. ⌜ r ≡ unicastAsks progress f now ⌝ }
+{
+    let known = f.known;
+    Asks {
+        asked: asked_by(true, progress, f, now),
+        known,
+        instancegap: 0,
+        hostgap: 0,
+    }
+}
+
 // The PTR reply after a message that asks for it or not; a reply that is set stays.
 fn set_reply(asks: bool, reply: When, due: u64) -> When
     ensures { λ r. ⌜ r ≡ setReply asks reply due ⌝ }
@@ -221,8 +302,9 @@ fn judge(progress: Progress, c: Coming, f: Facts, aaaa: bool) -> Received
     let now = c.now;
     let again = crate::after(now, progress.draw);
     let deferred = crate::after(now, DEFERRAL);
-    let go = wanted(progress, asks_of(f), now, aaaa);
+    let go = wanted(progress, multicast_asks(progress, f, now), now, aaaa);
     let answers = crate::records::at_once(go);
+    let unicast = wanted(progress, unicast_asks(progress, f, now), now, aaaa);
     Received {
         progress: Progress {
             instance: heard_by(instance, f.response, told, again, deferred),
@@ -238,6 +320,7 @@ fn judge(progress: Progress, c: Coming, f: Facts, aaaa: bool) -> Received
             last: now,
         },
         answers,
+        unicast,
     }
 }
 
@@ -313,6 +396,7 @@ fn hold_back(progress: Progress, c: Coming, f: Facts) -> Received
             last: c.now,
         },
         answers: crate::records::no_record(),
+        unicast: crate::records::no_record(),
     }
 }
 
@@ -360,6 +444,7 @@ pub fn plain(progress: Progress, now: u64, f: Facts, aaaa: bool) -> Received
             draw: progress.draw,
             last: now,
         },
-        answers: due(progress, asks_of(f), aaaa),
+        answers: crate::records::no_record(),
+        unicast: due(progress, asks_of(f), aaaa),
     }
 }

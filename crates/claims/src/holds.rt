@@ -196,7 +196,7 @@ fn either(a: bool, b: bool) -> bool
 }
 
 // The records of either set.
-fn union(a: Set, b: Set) -> Set
+pub fn union(a: Set, b: Set) -> Set
     ensures { λ r. ⌜ r ≡ union a b ⌝ }
 {
     let mut flags = [false; RECORDS];

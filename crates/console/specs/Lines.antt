@@ -1,4 +1,4 @@
--- What a line makes of all that the console holds between lines: the responder, the table of the cache with its sizes, its byte store and the out buffer.
+-- What a line makes of all that the console holds between lines: the responder, the table of the cache with its sizes, its byte store and the out buffers.
 -- Assumes nothing: these are definitions.
 use Prim.Native.Nat.{ℕ}
 use mathlib.Core.List.{List}
@@ -9,14 +9,15 @@ use Rattle.console_table.specs.Table.{zeros}
 use Rattle.console_text.specs.fields.Numbers.{fieldAt}
 use Rattle.console_calls.specs.cache_calls.Lines.{isCacheCall, cacheAfter}
 use Rattle.console_responder.specs.Forms.{isResponderCall}
-use Rattle.console_responder.specs.Lines.{unstarted, responderAfter}
+use Rattle.console_responder.specs.Lines.{Responder, having, unstarted, responderAfter}
 use Rattle.console.specs.declared.calls.Held.{Held}
 
--- what is held, with the store and the out buffer
+-- what is held, with the store and the out buffers
 pub record Console : Type 0 where
   pub held : Held
   pub store : List ℕ
   pub out : List ℕ
+  pub unicast : List ℕ
 
 -- before the first line: no responder has started, and the table is 64 entries of zeros, with a slot for each
 unfoldable pub heldAtFirst : Held
@@ -24,17 +25,16 @@ heldAtFirst = record { state = unstarted; table = zeros 64 65536 }
 
 -- after a call on the responder, and after one on the cache
 abbrev pub byResponder : List ℕ → Console → Console
-byResponder line c = record {
-  held = record { state = responderAfter line (c .held .state) (c .out) .state; table = c .held .table };
-  store = c .store;
-  out = responderAfter line (c .held .state) (c .out) .out;
-}
+byResponder line c =
+    let r : Responder = responderAfter line (having (c .held .state) (c .out) (c .unicast)) in
+    record { held = record { state = r .state; table = c .held .table }; store = c .store; out = r .out; unicast = r .unicast }
 
 abbrev pub byCache : List ℕ → Console → Console
 byCache line c = record {
   held = record { state = c .held .state; table = cacheAfter line (c .held .table) (c .store) .table };
   store = cacheAfter line (c .held .table) (c .store) .store;
   out = c .out;
+  unicast = c .unicast;
 }
 
 -- after a call, by its first word: those that hold nothing, and words that are no call, leave all

@@ -4,7 +4,7 @@ ghost use Rattle.console.specs.Lines.{Console, heldAtFirst, afterCall};
 use console_table::Table;
 use responder::State;
 
-// What the console holds between calls, beside the out buffer and the cache's byte store: a responder, and the table of the cache with its sizes.
+// What the console holds between calls, beside the out buffers and the cache's byte store: a responder, and the table of the cache with its sizes.
 pub struct Held {
     state: State,
     table: Table,
@@ -26,21 +26,24 @@ pub fn call(
     held: Held,
     store: &mut [u8; 525312],
     out: &mut [u8; 4096],
+    unicast: &mut [u8; 4096],
     text: &mut [u8; 4096],
 ) -> Held
-    ensures held { λ r. ⌜ (let c : Console = record { held = held; store = now (store .entry); out = now (out .entry) } in
+    ensures held { λ r. ⌜ (let c : Console = record { held = held; store = now (store .entry); out = now (out .entry); unicast = now (unicast .entry) } in
         r ≡ afterCall (now (line .entry)) c .held) ⌝ }
-    ensures store { λ _. ⌜ (let c : Console = record { held = held; store = now (store .entry); out = now (out .entry) } in
+    ensures store { λ _. ⌜ (let c : Console = record { held = held; store = now (store .entry); out = now (out .entry); unicast = now (unicast .entry) } in
         now (store .exit) ≡ afterCall (now (line .entry)) c .store) ⌝ }
-    ensures out { λ _. ⌜ (let c : Console = record { held = held; store = now (store .entry); out = now (out .entry) } in
+    ensures out { λ _. ⌜ (let c : Console = record { held = held; store = now (store .entry); out = now (out .entry); unicast = now (unicast .entry) } in
         now (out .exit) ≡ afterCall (now (line .entry)) c .out) ⌝ }
+    ensures unicast { λ _. ⌜ (let c : Console = record { held = held; store = now (store .entry); out = now (out .entry); unicast = now (unicast .entry) } in
+        now (unicast .exit) ≡ afterCall (now (line .entry)) c .unicast) ⌝ }
 {
     let word = console_text::lines::field(line, 0);
     if console_responder::is_call(word) {
         let state = held.state;
         let table = held.table;
         return Held {
-            state: console_responder::call(line, state, out, text),
+            state: console_responder::call(line, state, out, unicast, text),
             table,
         };
     }

@@ -53,14 +53,17 @@ fn answer_line(
     held: Held,
     store: &mut [u8; 525312],
     out: &mut [u8; 4096],
+    unicast: &mut [u8; 4096],
     text: &mut [u8; 4096],
 ) -> Held
-    ensures held { λ r. ⌜ (let c : Console = record { held = held; store = now (store .entry); out = now (out .entry) } in
+    ensures held { λ r. ⌜ (let c : Console = record { held = held; store = now (store .entry); out = now (out .entry); unicast = now (unicast .entry) } in
         r ≡ afterLine (now (line .entry)) c .held) ⌝ }
-    ensures store { λ _. ⌜ (let c : Console = record { held = held; store = now (store .entry); out = now (out .entry) } in
+    ensures store { λ _. ⌜ (let c : Console = record { held = held; store = now (store .entry); out = now (out .entry); unicast = now (unicast .entry) } in
         now (store .exit) ≡ afterLine (now (line .entry)) c .store) ⌝ }
-    ensures out { λ _. ⌜ (let c : Console = record { held = held; store = now (store .entry); out = now (out .entry) } in
+    ensures out { λ _. ⌜ (let c : Console = record { held = held; store = now (store .entry); out = now (out .entry); unicast = now (unicast .entry) } in
         now (out .exit) ≡ afterLine (now (line .entry)) c .out) ⌝ }
+    ensures unicast { λ _. ⌜ (let c : Console = record { held = held; store = now (store .entry); out = now (out .entry); unicast = now (unicast .entry) } in
+        now (unicast .exit) ≡ afterLine (now (line .entry)) c .unicast) ⌝ }
 {
     if line.len() == 0 {
         return held;
@@ -72,12 +75,18 @@ fn answer_line(
         console_calls::output::bad_line(text);
         return held;
     }
-    calls::call(line, held, store, out, text)
+    calls::call(line, held, store, out, unicast, text)
 }
 
 // Reads and answers line by line until the input ends. Of the buffer's first `filled` bytes the line begins at `start`, and no LF stands before
 // `seen`. Nothing says that the input ends, so the loop counts its turns down, from a number of lines and reads that no run uses up.
-fn serve(input: &mut [u8], store: &mut [u8; 525312], out: &mut [u8; 4096], text: &mut [u8; 4096]) {
+fn serve(
+    input: &mut [u8],
+    store: &mut [u8; 525312],
+    out: &mut [u8; 4096],
+    unicast: &mut [u8; 4096],
+    text: &mut [u8; 4096],
+) {
     let mut held = calls::at_first();
     let mut start = 0;
     let mut seen = 0;
@@ -88,7 +97,7 @@ fn serve(input: &mut [u8], store: &mut [u8; 525312], out: &mut [u8; 4096], text:
         let end = bytes::scan::find(input, seen, filled, b'\n');
         if end < filled {
             let next = end + 1;
-            held = answer_line(&input[start..end], held, store, out, text);
+            held = answer_line(&input[start..end], held, store, out, unicast, text);
             start = next;
             seen = start;
         } else {
@@ -107,6 +116,7 @@ fn main() {
     let mut input = [0u8; 65536];
     let mut store = [0u8; 525312];
     let mut out = [0u8; 4096];
+    let mut unicast = [0u8; 4096];
     let mut text = [0u8; 4096];
-    serve(&mut input, &mut store, &mut out, &mut text);
+    serve(&mut input, &mut store, &mut out, &mut unicast, &mut text);
 }

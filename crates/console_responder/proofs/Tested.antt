@@ -12,7 +12,7 @@ use Rattle.console_text.specs.hex.Bytes.{bytesOf, isBytes}
 use Rattle.console_text.specs.lines.Fields.{fieldsOf}
 use Rattle.console_text.specs.fields.Numbers.{fieldAt, isNumberAt, numberAt}
 use Rattle.console_text.specs.fields.Forms.{argumentsOf, hasArguments, areBytesAt}
-use Rattle.console_responder.specs.Forms.{startWord, recvWord, tickWord, claimsWord, holdsWord, outWord, isResponderCall, isBytesOf, isAaaa, isAddress, areNames, areNumbers, isStart, isNumberOrMissing, isRecv, isTick, lentBy}
+use Rattle.console_responder.specs.Forms.{startWord, recvWord, tickWord, claimsWord, holdsWord, outWord, unicastWord, isResponderCall, isBytesOf, isAaaa, isAddress, areNames, areNumbers, isStart, isNumberOrMissing, isRecv, isTick, lentBy}
 
 -- how many fields follow the first, against a bound
 module _ (line : List ℕ) (r n : ℕ) (e : r + 1 ≡ length (fieldsOf line)) where
@@ -95,9 +95,15 @@ module _ (word : List ℕ) where
   unfolding isResponderCall
   word-5 h0 h1 h2 h3 h = simp (h0, h1, h2, h3, h)
 
-  pub word-6 : sameBytes word startWord ≡ false → sameBytes word recvWord ≡ false → sameBytes word tickWord ≡ false → sameBytes word claimsWord ≡ false → sameBytes word holdsWord ≡ false → (r : Bool) → r ≡ sameBytes word outWord → r ≡ isResponderCall word
+  pub word-6 : sameBytes word startWord ≡ false → sameBytes word recvWord ≡ false → sameBytes word tickWord ≡ false → sameBytes word claimsWord ≡ false
+      → sameBytes word holdsWord ≡ false → sameBytes word outWord ≡ true → true ≡ isResponderCall word
   unfolding isResponderCall
-  word-6 h0 h1 h2 h3 h4 r e = e ∙ sym (simp (h0, h1, h2, h3, h4))
+  word-6 h0 h1 h2 h3 h4 h = simp (h0, h1, h2, h3, h4, h)
+
+  pub word-7 : sameBytes word startWord ≡ false → sameBytes word recvWord ≡ false → sameBytes word tickWord ≡ false → sameBytes word claimsWord ≡ false
+      → sameBytes word holdsWord ≡ false → sameBytes word outWord ≡ false → (r : Bool) → r ≡ sameBytes word unicastWord → r ≡ isResponderCall word
+  unfolding isResponderCall
+  word-7 h0 h1 h2 h3 h4 h5 r e = e ∙ sym (simp (h0, h1, h2, h3, h4, h5))
 
 -- the fields of labels and strings
 module _ (line : List ℕ) where
@@ -184,11 +190,11 @@ module _ (line : List ℕ) where
   recv-1 h = simp h
 
   module _ (h0 : ltb (argumentsOf line) 6 ≡ false) where
-    pub recv-2 : ltb 7 (argumentsOf line) ≡ true → false ≡ isRecv line
+    pub recv-2 : ltb 8 (argumentsOf line) ≡ true → false ≡ isRecv line
     unfolding isRecv
     recv-2 h = simp (h0, h)
 
-    module _ (h1 : ltb 7 (argumentsOf line) ≡ false) where
+    module _ (h1 : ltb 8 (argumentsOf line) ≡ false) where
       pub recv-3 : areNumbers line ≡ false → false ≡ isRecv line
       unfolding isRecv
       recv-3 h = simp (h0, h1, h)
@@ -201,9 +207,14 @@ module _ (line : List ℕ) where
       unfolding isRecv
       recv-5 h2 h3 h = simp (h0, h1, h2, h3, h)
 
-      pub recv-6 : areNumbers line ≡ true → isAddress (fieldAt line 2) ≡ true → areBytesAt line 6 ≡ true → (r : Bool) → r ≡ isNumberOrMissing line 7 → r ≡ isRecv line
+      pub recv-6 : areNumbers line ≡ true → isAddress (fieldAt line 2) ≡ true → areBytesAt line 6 ≡ true → isNumberOrMissing line 7 ≡ false → false ≡ isRecv line
       unfolding isRecv
-      recv-6 h2 h3 h4 r e = e ∙ sym (simp (h0, h1, h2, h3, h4))
+      recv-6 h2 h3 h4 h = simp (h0, h1, h2, h3, h4, h)
+
+      pub recv-7 : areNumbers line ≡ true → isAddress (fieldAt line 2) ≡ true → areBytesAt line 6 ≡ true → isNumberOrMissing line 7 ≡ true
+          → (r : Bool) → r ≡ isNumberOrMissing line 8 → r ≡ isRecv line
+      unfolding isRecv
+      recv-7 h2 h3 h4 h5 r e = e ∙ sym (simp (h0, h1, h2, h3, h4, h5))
 
 -- the form of `tick`
 module _ (line : List ℕ) where

@@ -1,5 +1,6 @@
 -- The forms of the calls on the responder, and what their lines tell: `start NOW DRAW INSTANCE SERVICE PROTOCOL HOST DOMAIN PORT TXT A AAAA`,
--- `recv NOW FROM PORT DRAW HOLD PACKET` and `tick NOW`, both with OUT or without. Assumes nothing: these are definitions.
+-- `recv NOW FROM PORT DRAW HOLD PACKET` and `tick NOW`, both with OUT or without, and behind it `recv` with UNICAST or without. Assumes nothing: these are
+-- definitions.
 use Prim.Native.Nat.{ℕ}
 use mathlib.Core.List.{List, [], _∷_}
 use mathlib.Core.Bool.{Bool, true, cond, not, _&&_, _||_}
@@ -15,7 +16,7 @@ use Rattle.console_text.specs.hex.Bytes.{bytesOf, isBytes}
 use Rattle.console_text.specs.fields.Numbers.{fieldAt, isNumberAt, numberAt, number16At}
 use Rattle.console_text.specs.fields.Forms.{argumentsOf, hasArguments, areBytesAt}
 
--- the words `start`, `recv`, `tick`, `claims`, `holds` and `out`
+-- the words `start`, `recv`, `tick`, `claims`, `holds`, `out` and `unicast`
 abbrev pub startWord : List ℕ
 startWord = 115 ∷ (116 ∷ (97 ∷ (114 ∷ (116 ∷ []))))
 
@@ -34,11 +35,14 @@ holdsWord = 104 ∷ (111 ∷ (108 ∷ (100 ∷ (115 ∷ []))))
 abbrev pub outWord : List ℕ
 outWord = 111 ∷ (117 ∷ (116 ∷ []))
 
+abbrev pub unicastWord : List ℕ
+unicastWord = 117 ∷ (110 ∷ (105 ∷ (99 ∷ (97 ∷ (115 ∷ (116 ∷ []))))))
+
 -- a word is one of these calls
 unfoldable pub isResponderCall : List ℕ → Bool
 isResponderCall word =
     sameBytes word startWord || (sameBytes word recvWord || (sameBytes word tickWord || (sameBytes word claimsWord
-    || (sameBytes word holdsWord || sameBytes word outWord))))
+    || (sameBytes word holdsWord || (sameBytes word outWord || sameBytes word unicastWord)))))
 
 -- ---- a set-up
 
@@ -94,7 +98,7 @@ isStart line =
     hasArguments line 11 && (isNumberAt line 1 && (isNumberAt line 2 && (areNames line && (isNumberAt line 8 && (not (ltb 65535 (numberAt line 8))
     && (isBytesOf (fieldAt line 10) 4 && isAaaa (fieldAt line 11)))))))
 
--- the last field, which may be missing, is a number
+-- a field at the end of a line, which may be missing, is a number
 unfoldable pub isNumberOrMissing : List ℕ → ℕ → Bool
 isNumberOrMissing line index = cond (ltb (argumentsOf line) index) true (isNumberAt line index)
 
@@ -108,12 +112,12 @@ areNumbers line = isNumberAt line 1 && (isNumberAt line 3 && (isNumberAt line 4 
 
 unfoldable pub isRecv : List ℕ → Bool
 isRecv line =
-    not (ltb (argumentsOf line) 6) && (not (ltb 7 (argumentsOf line)) && (areNumbers line && (isAddress (fieldAt line 2)
-    && (areBytesAt line 6 && isNumberOrMissing line 7))))
+    not (ltb (argumentsOf line) 6) && (not (ltb 8 (argumentsOf line)) && (areNumbers line && (isAddress (fieldAt line 2)
+    && (areBytesAt line 6 && (isNumberOrMissing line 7 && isNumberOrMissing line 8)))))
 
 unfoldable pub isTick : List ℕ → Bool
 isTick line = not (ltb (argumentsOf line) 1) && (not (ltb 2 (argumentsOf line)) && (isNumberAt line 1 && isNumberOrMissing line 2))
 
--- how many bytes of the out buffer a line lends: 1,452 where it does not say
+-- how many bytes of an out buffer a line lends: 1,452 where it does not say
 unfoldable pub lentBy : List ℕ → ℕ → ℕ
 lentBy line index = cond (ltb (argumentsOf line) index) 1452 (numberAt line index)

@@ -1,5 +1,5 @@
--- What a line makes of the console's responder and of its out buffer: `start` puts another responder in its place, `recv` and `tick` call it over the first bytes
--- of the out buffer, and every other line leaves both. Assumes nothing: these are definitions.
+-- What a line makes of the console's responder and of its out buffers: `start` puts another responder in its place, `recv` calls it over the first bytes of both
+-- buffers, `tick` over those of the first, and every other line leaves all. Assumes nothing: these are definitions.
 use Prim.Native.Nat.{ℕ}
 use mathlib.Core.List.{List, [], _++_}
 use mathlib.Core.Bool.{cond, _&&_}
@@ -8,22 +8,23 @@ use lib.Dec.{leb}
 use Rattle.writer.specs.own_packets.Own.{laidOver}
 use Rattle.responder.specs.Handed.{Arrival, Tick}
 use Rattle.responder.specs.address.Address.{addressOf}
-use Rattle.responder.specs.Calls.{startOf, receiveOf, receivedPacket, tickOf, tickedPacket}
+use Rattle.responder.specs.Calls.{startOf, receiveOf, receivedPacket, unicastPacket, tickOf, tickedPacket}
 use Rattle.responder.specs.declared.State.{State}
 use Rattle.responder.specs.declared.Answer.{Answer}
-use Rattle.responder.specs.declared.Answer.the-variants.{Refused, Quiet, Sent, Unicast}
+use Rattle.responder.specs.declared.Answer.the-variants.{Refused, Quiet, Sent, Unicast, Both}
 use Rattle.responder.specs.declared.Started.{Started}
 use Rattle.console_text.specs.fields.Numbers.{numberAt, number16At}
 use Rattle.console_text.specs.fields.Forms.{isWord, bytesIn}
 use Rattle.console_responder.specs.Forms.{startWord, recvWord, tickWord, setupTold, isStart, isRecv, isTick, lentBy}
 
--- the responder's state and the out buffer
+-- the responder's state and the out buffers, for what goes to all and for what goes to the asker
 pub record Responder : Type 0 where
   pub state : State
   pub out : List ℕ
+  pub unicast : List ℕ
 
-abbrev pub left : State → List ℕ → Responder
-left s out = record { state = s; out = out }
+abbrev pub having : State → List ℕ → List ℕ → Responder
+having s out unicast = record { state = s; out = out; unicast = unicast }
 
 -- before the first start: the state of a start that is refused, as one from an empty line is
 unfoldable pub unstarted : State
@@ -35,6 +36,7 @@ startedOr s (Refused n) begun = s
 startedOr s Quiet begun = begun
 startedOr s (Sent n) begun = begun
 startedOr s (Unicast n) begun = begun
+startedOr s (Both n m) begun = begun
 
 abbrev pub begunOr : State → Started → State
 begunOr s r = startedOr s (r .answer) (r .state)
@@ -42,7 +44,7 @@ begunOr s r = startedOr s (r .answer) (r .state)
 unfoldable pub afterStart : List ℕ → State → State
 afterStart line s = cond (isStart line) (begunOr s (startOf (setupTold line) (numberAt line 1) (numberAt line 2))) s
 
--- the out buffer where a packet is written over the first `n` bytes of it, which were lent: the others stay
+-- an out buffer where a packet is written over the first `n` bytes of it, which were lent: the others stay
 abbrev pub lentOver : ℕ → List ℕ → List ℕ → List ℕ
 lentOver n packet out = laidOver packet (take n out) ++ drop n out
 
@@ -56,28 +58,38 @@ arrivalTold line = record {
   hold = numberAt line 5;
   packet = bytesIn 20000 line 6;
   room = lentBy line 7;
+  unicastroom = lentBy line 8;
 }
 
 -- what a tick is handed
 abbrev pub tickAt : ℕ → ℕ → Tick
 tickAt time n = record { time = time; room = n }
 
--- both over the first bytes of the out buffer
-abbrev pub received : State → List ℕ → Arrival → Responder
-received s out a = record { state = receiveOf s a .state; out = lentOver (a .room) (receivedPacket s a) out }
+-- both over the first bytes of the out buffers
+abbrev pub received : Responder → Arrival → Responder
+received r a = record {
+  state = receiveOf (r .state) a .state;
+  out = lentOver (a .room) (receivedPacket (r .state) a) (r .out);
+  unicast = lentOver (a .unicastroom) (unicastPacket (r .state) a) (r .unicast);
+}
 
-abbrev pub ticked : State → List ℕ → ℕ → ℕ → Responder
-ticked s out time n = record { state = tickOf s (tickAt time n) .state; out = lentOver n (tickedPacket s (tickAt time n)) out }
+abbrev pub ticked : Responder → ℕ → ℕ → Responder
+ticked r time n = record {
+  state = tickOf (r .state) (tickAt time n) .state;
+  out = lentOver n (tickedPacket (r .state) (tickAt time n)) (r .out);
+  unicast = r .unicast;
+}
 
 -- A line that would lend more than there is changes nothing.
-unfoldable pub afterRecv : List ℕ → State → List ℕ → Responder
-afterRecv line s out = cond (isRecv line && leb (lentBy line 7) (length out)) (received s out (arrivalTold line)) (left s out)
+unfoldable pub afterRecv : List ℕ → Responder → Responder
+afterRecv line r =
+    cond (isRecv line && (leb (lentBy line 7) (length (r .out)) && leb (lentBy line 8) (length (r .unicast)))) (received r (arrivalTold line)) r
 
-unfoldable pub afterTick : List ℕ → State → List ℕ → Responder
-afterTick line s out = cond (isTick line && leb (lentBy line 2) (length out)) (ticked s out (numberAt line 1) (lentBy line 2)) (left s out)
+unfoldable pub afterTick : List ℕ → Responder → Responder
+afterTick line r = cond (isTick line && leb (lentBy line 2) (length (r .out))) (ticked r (numberAt line 1) (lentBy line 2)) r
 
 -- the responder after a line, by its first word
-unfoldable pub responderAfter : List ℕ → State → List ℕ → Responder
-responderAfter line s out =
-    cond (isWord startWord line) (left (afterStart line s) out)
-    (cond (isWord recvWord line) (afterRecv line s out) (cond (isWord tickWord line) (afterTick line s out) (left s out)))
+unfoldable pub responderAfter : List ℕ → Responder → Responder
+responderAfter line r =
+    cond (isWord startWord line) (having (afterStart line (r .state)) (r .out) (r .unicast))
+    (cond (isWord recvWord line) (afterRecv line r) (cond (isWord tickWord line) (afterTick line r) r))

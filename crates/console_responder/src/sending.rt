@@ -1,5 +1,5 @@
 // The calls by which the responder goes on, each with the state after it: `recv NOW FROM PORT DRAW HOLD PACKET` and `tick NOW`, both with OUT, the length of
-// the part of the out buffer that is lent, or without. What they send is shown.
+// the part of the out buffer that is lent, or without; behind it `recv` may have UNICAST, that of the second out buffer. What they send is shown.
 use claims::holds::Address;
 use console_calls::output::bad_line;
 use console_calls::output::bytes;
@@ -17,16 +17,16 @@ use responder::Received;
 use responder::State;
 use responder::Ticked;
 ghost use mathlib.Core.Path.{_≡_};
-ghost use mathlib.Core.List.{List};
-ghost use Prim.Native.Nat.{_≤_};
+ghost use mathlib.Core.List.{List, []};
+ghost use Prim.Native.Nat.{ℕ, _≤_};
 ghost use lib.ListN.{length};
 ghost use Rattle.responder.specs.Handed.{Arrival};
 ghost use Rattle.responder.specs.address.Address.{addressOf};
 ghost use Rattle.console_text.specs.fields.Forms.{bytesIn};
 ghost use Rattle.console_responder.specs.Forms.{isNumberOrMissing, isAddress, areNumbers, isRecv, isTick, lentBy};
-ghost use Rattle.console_responder.specs.Lines.{Responder, received, ticked, afterRecv, afterTick};
+ghost use Rattle.console_responder.specs.Lines.{Responder, having, received, ticked, afterRecv, afterTick};
 
-// The bytes of the out buffer that are lent where a line does not say how many.
+// The bytes of an out buffer that are lent where a line does not say how many.
 const USUAL_OUT: usize = writer::own_packets::LEAST_OUT;
 
 // Whether the last field of a line, which may be missing, is a number.
@@ -39,7 +39,7 @@ fn is_number_or_missing(line: &[u8], index: usize) -> bool
     is_number(line, index)
 }
 
-// How many bytes of the out buffer a line asks to lend.
+// How many bytes of an out buffer a line asks to lend.
 fn lent(line: &[u8], index: usize) -> usize
     ensures { λ r. ⌜ r ≡ lentBy (now (line .entry)) index ⌝ }
 {
@@ -68,17 +68,31 @@ fn sent(packet: &[u8], more: bool, text: &mut [u8; 4096]) {
     finish(text, used);
 }
 
-// The answer of a call that may send what stands at the start of the out buffer.
-fn shown(answer: Answer, more: bool, out: &[u8], text: &mut [u8; 4096]) {
+// Shows both packets: the one that goes to all, and the one that goes to where the message came from.
+fn sent_and_replied(to_all: &[u8], to_asker: &[u8], text: &mut [u8; 4096]) {
+    let used = first(text, b"sent");
+    let used = bytes(text, used, to_all);
+    let used = word(text, used, b"unicast");
+    let used = bytes(text, used, to_asker);
+    finish(text, used);
+}
+
+// The answer of a call that may send what stands at the start of the out buffers.
+fn shown(answer: Answer, more: bool, out: &[u8], unicast: &[u8], text: &mut [u8; 4096]) {
     match answer {
         Answer::Refused(n) => refused(text, n as u64),
         Answer::Quiet => only(text, b"quiet"),
         Answer::Sent(n) => sent(console_text::lines::front(out, n), more, text),
-        Answer::Unicast(n) => replied(console_text::lines::front(out, n), text),
+        Answer::Unicast(m) => replied(console_text::lines::front(unicast, m), text),
+        Answer::Both(n, m) => sent_and_replied(
+            console_text::lines::front(out, n),
+            console_text::lines::front(unicast, m),
+            text,
+        ),
     }
 }
 
-// Takes a packet over the first bytes of the out buffer, `n` of them.
+// Takes a packet over the first bytes of the out buffers, `n` of the one and `m` of the other.
 fn receive(
     held: State,
     time: u64,
@@ -89,19 +103,32 @@ fn receive(
     packet: &[u8],
     out: &mut [u8],
     n: usize,
+    unicast: &mut [u8],
+    m: usize,
 ) -> Received
-    requires { ⌜ n ≤ length (now out) ⌝ }
-    ensures { λ r. ⌜ (let a : Arrival = record { time = time; from = from; port = port; draw = draw; hold = hold; packet = now (packet .entry); room = n } in
-        let after : Responder = received held (now (out .entry)) a in
-        (r .state ≡ after .state) × (now (out .exit) ≡ after .out)) ⌝ }
+    requires { ⌜ (n ≤ length (now out)) × (m ≤ length (now unicast)) ⌝ }
+    ensures { λ r. ⌜ (let p : List ℕ = now (packet .entry) in
+        let a : Arrival = record { time = time; from = from; port = port; draw = draw; hold = hold; packet = p; room = n; unicastroom = m } in
+        let after : Responder = received (having held (now (out .entry)) (now (unicast .entry))) a in
+        (r .state ≡ after .state) × ((now (out .exit) ≡ after .out) × (now (unicast .exit) ≡ after .unicast))) ⌝ }
 {
-    responder::receive(held, time, from, port, draw, hold, packet, &mut out[..n])
+    responder::receive(
+        held,
+        time,
+        from,
+        port,
+        draw,
+        hold,
+        packet,
+        &mut out[..n],
+        &mut unicast[..m],
+    )
 }
 
 // Ticks over the first bytes of the out buffer, `n` of them.
 fn step(held: State, time: u64, out: &mut [u8], n: usize) -> Ticked
     requires { ⌜ n ≤ length (now out) ⌝ }
-    ensures { λ r. ⌜ (let after : Responder = ticked held (now (out .entry)) time n in
+    ensures { λ r. ⌜ (let after : Responder = ticked (having held (now (out .entry)) []) time n in
         (r .state ≡ after .state) × (now (out .exit) ≡ after .out)) ⌝ }
 {
     responder::tick(held, time, &mut out[..n])
@@ -149,7 +176,7 @@ fn is_recv(line: &[u8]) -> bool
     if console_text::lines::arguments(line) < 6 {
         return false;
     }
-    if 7 < console_text::lines::arguments(line) {
+    if 8 < console_text::lines::arguments(line) {
         return false;
     }
     if !are_numbers(line) {
@@ -161,13 +188,23 @@ fn is_recv(line: &[u8]) -> bool
     if !are_bytes(line, 6) {
         return false;
     }
-    is_number_or_missing(line, 7)
+    if !is_number_or_missing(line, 7) {
+        return false;
+    }
+    is_number_or_missing(line, 8)
 }
 
-// `recv NOW FROM PORT DRAW HOLD PACKET`, with OUT or without. A port that is too great is no 5353, as 0 is none.
-pub fn recv(line: &[u8], held: State, out: &mut [u8], text: &mut [u8; 4096]) -> State
-    ensures state { λ r. ⌜ r ≡ afterRecv (now (line .entry)) held (now (out .entry)) .state ⌝ }
-    ensures out { λ _. ⌜ now (out .exit) ≡ afterRecv (now (line .entry)) held (now (out .entry)) .out ⌝ }
+// `recv NOW FROM PORT DRAW HOLD PACKET`, with OUT or without, and with UNICAST behind it or without. A port that is too great is no 5353, as 0 is none.
+pub fn recv(
+    line: &[u8],
+    held: State,
+    out: &mut [u8],
+    unicast: &mut [u8],
+    text: &mut [u8; 4096],
+) -> State
+    ensures state { λ r. ⌜ r ≡ afterRecv (now (line .entry)) (having held (now (out .entry)) (now (unicast .entry))) .state ⌝ }
+    ensures out { λ _. ⌜ now (out .exit) ≡ afterRecv (now (line .entry)) (having held (now (out .entry)) (now (unicast .entry))) .out ⌝ }
+    ensures unicast { λ _. ⌜ now (unicast .exit) ≡ afterRecv (now (line .entry)) (having held (now (out .entry)) (now (unicast .entry))) .unicast ⌝ }
 {
     if !is_recv(line) {
         bad_line(text);
@@ -181,7 +218,12 @@ pub fn recv(line: &[u8], held: State, out: &mut [u8], text: &mut [u8; 4096]) -> 
     let mut packet = [0u8; 20000];
     let k = console_text::hex::fill(console_text::lines::field(line, 6), &mut packet);
     let n = lent(line, 7);
+    let m = lent(line, 8);
     if out.len() < n {
+        bad_line(text);
+        return held;
+    }
+    if unicast.len() < m {
         bad_line(text);
         return held;
     }
@@ -195,9 +237,11 @@ pub fn recv(line: &[u8], held: State, out: &mut [u8], text: &mut [u8; 4096]) -> 
         console_text::lines::front(&packet, k),
         out,
         n,
+        unicast,
+        m,
     );
     let answer = received.answer;
-    shown(answer, false, out, text);
+    shown(answer, false, out, unicast, text);
     received.state
 }
 
@@ -219,8 +263,8 @@ fn is_tick(line: &[u8]) -> bool
 
 // `tick NOW` or `tick NOW OUT`
 pub fn tick(line: &[u8], held: State, out: &mut [u8], text: &mut [u8; 4096]) -> State
-    ensures state { λ r. ⌜ r ≡ afterTick (now (line .entry)) held (now (out .entry)) .state ⌝ }
-    ensures out { λ _. ⌜ now (out .exit) ≡ afterTick (now (line .entry)) held (now (out .entry)) .out ⌝ }
+    ensures state { λ r. ⌜ r ≡ afterTick (now (line .entry)) (having held (now (out .entry)) []) .state ⌝ }
+    ensures out { λ _. ⌜ now (out .exit) ≡ afterTick (now (line .entry)) (having held (now (out .entry)) []) .out ⌝ }
 {
     if !is_tick(line) {
         bad_line(text);
@@ -234,6 +278,6 @@ pub fn tick(line: &[u8], held: State, out: &mut [u8], text: &mut [u8; 4096]) -> 
     }
     let ticked = step(held, time, out, n);
     let answer = ticked.answer;
-    shown(answer, ticked.more, out, text);
+    shown(answer, ticked.more, out, b"", text);
     ticked.state
 }

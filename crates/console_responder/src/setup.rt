@@ -194,5 +194,9 @@ pub fn start(line: &[u8], held: State, text: &mut [u8; 4096]) -> State
             only(text, b"started");
             started.state
         }
+        Answer::Both(_, _) => {
+            only(text, b"started");
+            started.state
+        }
     }
 }

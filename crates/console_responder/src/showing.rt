@@ -1,5 +1,5 @@
-// The calls that only show what is held: `claims`, the times and states of the responder; `holds`, its held queries; and `out AT LEN`, a part of the
-// out buffer.
+// The calls that only show what is held: `claims`, the times and states of the responder; `holds`, its held queries; and `out AT LEN` and `unicast AT LEN`, a
+// part of an out buffer.
 use claims::ClaimState;
 use claims::When;
 use claims::holds::Address;
@@ -148,8 +148,8 @@ pub fn holds(line: &[u8], held: State, text: &mut [u8; 4096]) {
     finish(text, used);
 }
 
-// The answer `out BYTES`, of bytes of the out buffer from an offset on.
-fn part(out: &[u8], at: usize, n: usize, text: &mut [u8; 4096]) {
+// The answer `WORD BYTES`, of bytes of an out buffer from an offset on.
+fn bytes_from(word: &[u8], out: &[u8], at: usize, n: usize, text: &mut [u8; 4096]) {
     if out.len() < at {
         return bad_line(text);
     }
@@ -157,13 +157,13 @@ fn part(out: &[u8], at: usize, n: usize, text: &mut [u8; 4096]) {
         return bad_line(text);
     }
     let end = at + n;
-    let used = first(text, b"out");
+    let used = first(text, word);
     let used = bytes(text, used, &out[at..end]);
     finish(text, used);
 }
 
-// Whether a line is of the form `out AT LEN`.
-fn is_out(line: &[u8]) -> bool {
+// Whether a line is of the form `WORD AT LEN`.
+fn is_part(line: &[u8]) -> bool {
     if console_text::lines::arguments(line) != 2 {
         return false;
     }
@@ -173,13 +173,14 @@ fn is_out(line: &[u8]) -> bool {
     is_number(line, 2)
 }
 
-// `out AT LEN`
-pub fn out(line: &[u8], lent: &[u8], text: &mut [u8; 4096]) {
-    if !is_out(line) {
+// `out AT LEN` or `unicast AT LEN`, by the word of the line
+pub fn part(line: &[u8], word: &[u8], out: &[u8], text: &mut [u8; 4096]) {
+    if !is_part(line) {
         return bad_line(text);
     }
-    part(
-        lent,
+    bytes_from(
+        word,
+        out,
         number(line, 1) as usize,
         number(line, 2) as usize,
         text,

@@ -1,40 +1,43 @@
 -- What the contracts of the responder's calls, and of the exported ones, give is what the record answers. Assumes nothing.
-use mathlib.Core.Path.{_≡_, refl, sym, ap, _∙_}
+use mathlib.Core.Path.{_≡_, refl, sym, ap, subst, _∙_}
 use mathlib.Core.Bool.{Bool, true, false, cond}
 use mathlib.Core.Option.{none, some}
-use mathlib.Core.List.{List, [], _∷_}
+use mathlib.Core.List.{List, [], _∷_, _++_}
 use Prim.Native.Nat.{ℕ, zero, suc}
 use native.Mathlib.Omega.{arith}
-use lib.ListN.{length, drop}
+use lib.ListN.{length, take, drop}
 use lib.Dec.{eqb}
 use lib.Seq.{take-at, drop-at}
 use borrow.Author.Tests.{ne-eqb}
-use Rattle.wire.specs.message.Layout.{messageAt}
 use Rattle.own.specs.declared.records.Setup.{Setup}
-use Rattle.claims.specs.declared.Progress.{Progress}
-use Rattle.writer.specs.own_packets.Own.{unlessRefused, laidOver}
+use Rattle.writer.specs.own_packets.Own.{laidOver}
 use Rattle.responder.specs.Handed.{Arrival, Tick}
 use Rattle.responder.specs.Refusals.{startRefusal, receiveRefusal, tickRefusal}
-use Rattle.responder.specs.Calls.{refusalOf, lengthOf, isUnicast, Destination, multicast, unicast, answerOf, stateOf, startState, startOf, packetFor, heardOf, broughtOut, destinationOf, receivedPacket, receiveOf, Receives, walkedOf, tickedPacket, tickOf, Ticks}
-use Rattle.responder.specs.Runs.{Call, received, ticked, answerTo, stateAfter, packetOf}
+use Rattle.responder.specs.Calls as calls
+use Rattle.responder.specs.Calls.{refusalOf, lengthOf, unicastLengthOf, answerOf, startState, startOf, receivedPacket, unicastPacket, receiveOf, tickedPacket, tickOf}
+use Rattle.responder.specs.Runs.{Call, received, ticked, refusalOfCall, answerTo, stateAfter, packetOf, unicastOf}
 use Rattle.responder.specs.declared.State.{State}
 use Rattle.responder.specs.declared.Started.{Started}
 use Rattle.responder.specs.declared.Received.{Received}
 use Rattle.responder.specs.declared.Ticked.{Ticked}
+use Rattle.responder.proofs.Refusals.{call-number, call-length, call-reply, refused-keeps}
 use Rattle.capi_responder.specs.codec.Codec.{decode}
 use Rattle.capi_responder.specs.declared.Called.{Called}
-use Rattle.capi_responder.specs.Exported.{setupFor, started, startedState, Starts, Calls}
+use Rattle.capi_responder.specs.Exported as exported
+use Rattle.capi_responder.specs.Exported.{setupFor, started, startedState, Starts}
 use Rattle.link.specs.Responder as link
+use Rattle.link.specs.Responder.{Parcel, everyone}
 use Rattle.link.specs.Entries.{returned}
-use Rattle.uniqueness.specs.Responder.{sends, begunBy, answeredBy, start, tick, receive, responder}
-use Rattle.demand3.specs.Seen.{begunAs, Answers}
+use Rattle.uniqueness.specs.Responder.{sends, backTo, sentFor, begunBy, answeredBy, start, tick, receive, responder}
+use Rattle.uniqueness.proofs.Calls.{accepted-with}
+use Rattle.demand3.specs.Seen.{begunAs, Answers, Ticks, Receives}
 
 positive : (n : ℕ) → eqb (suc n) 0 ≡ false
 positive n = ne-eqb (suc n) 0 (λ e. absurd (omega arith))
 
 -- ---- a start
 
-begun-as : (n : ℕ) (x : State) → begunBy (answerOf n multicast []) x ≡ begunAs (refusalOf (answerOf n multicast [])) x
+begun-as : (n : ℕ) (x : State) → begunBy (answerOf n [] []) x ≡ begunAs (refusalOf (answerOf n [] [])) x
 begun-as zero x = refl
 begun-as (suc n) x = rw (positive n) (rw (positive n) refl)
 
@@ -45,65 +48,90 @@ start-as s time draw = begun-as (startRefusal s time draw) (startState (startRef
 pub start-seen : (s : Setup) (time draw : ℕ) (r : Started) → r ≡ startOf s time draw → start s time draw ≡ begunAs (refusalOf (r .answer)) (r .state)
 start-seen s time draw r e = start-as s time draw ∙ ap (λ (v : Started). begunAs (refusalOf (v .answer)) (v .state)) (sym e)
 
--- ---- a call that may send, by its refusal n, the packet q that it would send, and the progress that it would leave
+-- ---- a call that may send, by its refusal n, its packets p and q, what it sends and the state y that it leaves
 
 shown :
-    (x : State) (out : List ℕ) (to : Destination) (progress : Progress) (n : ℕ) (q : List ℕ)
-    → (let a = answerOf n to (unlessRefused n q) in
-    Answers (answeredBy a (stateOf n x progress) (unlessRefused n q)) x out (refusalOf a) (isUnicast a) (lengthOf a) (stateOf n x progress)
-    (laidOver (unlessRefused n q) out))
+    (x : State) (n : ℕ) (p q : List ℕ) (y : State) (ps : List Parcel) → (eqb n 0 ≡ false → y ≡ x) → Answers (answeredBy (answerOf n p q) y ps) x n y ps
 unfolding returned
-shown x out to progress zero [] = record { seen = refl; next = refl; kept = refl }
-shown x out multicast progress zero (b ∷ bs) =
-    let p : List ℕ = b ∷ bs in
-    record {
-      seen = ap (λ (l : List ℕ). link.accepted (stateOf 0 x progress) (sends multicast l)) (sym (take-at p (drop (length p) out) (length p) refl));
-      next = refl;
-      kept = drop-at p (drop (length p) out) (length p) refl;
-    }
-shown x out unicast progress zero (b ∷ bs) =
-    let p : List ℕ = b ∷ bs in
-    record {
-      seen = ap (λ (l : List ℕ). link.accepted (stateOf 0 x progress) (sends unicast l)) (sym (take-at p (drop (length p) out) (length p) refl));
-      next = refl;
-      kept = drop-at p (drop (length p) out) (length p) refl;
-    }
-shown x out to progress (suc n) q = record { seen = rw (positive n) (rw (positive n) refl); next = rw (positive n) refl; kept = rw (positive n) refl }
+shown x zero p q y ps keeps =
+    let e : answeredBy (answerOf zero p q) y ps ≡ link.accepted y ps = accepted-with (length p) (length q) y ps in
+    record { seen = e; next = ap (returned responder x) e }
+shown x (suc n) p q y ps keeps =
+    let e : answeredBy (answerOf (suc n) p q) y ps ≡ link.refused = rw (positive n) refl in
+    record { seen = e ∙ rw (positive n) refl; next = ap (returned responder x) e ∙ sym (keeps (positive n)) }
 
--- the record's answer to a call
+-- the record's answer to a call, and what it sends
 abbrev answered : State → Call → link.Answer State
 answered x (received a) = responder .receive x a
 answered x (ticked t) = responder .tick x t
 
-call-as :
-    (x : State) (c : Call) (out : List ℕ)
-    → Answers (answered x c) x out (refusalOf (answerTo x c)) (isUnicast (answerTo x c)) (lengthOf (answerTo x c)) (stateAfter x c) (laidOver (packetOf x c) out)
-unfolding receive receiveOf receivedPacket tick tickOf tickedPacket
-call-as x (received a) out =
-    let said = heardOf x a (messageAt (a .packet)) in
-    shown x out (destinationOf a) (said .progress) (receiveRefusal x a) (broughtOut x a (said .answers) (messageAt (a .packet)))
-call-as x (ticked t) out = shown x out multicast (walkedOf x (t .time) .progress) (tickRefusal x t) (packetFor (x .setup) (walkedOf x (t .time) .output))
+abbrev sentBy : State → Call → List Parcel
+sentBy x (received a) = sentFor x a
+sentBy x (ticked t) = sends everyone (tickedPacket x t)
 
-module _ (x : State) (c : Call) (out : List ℕ) where
-  call-seen :
-      (n : ℕ) (v : Bool) (size : ℕ) (y : State) (out′ : List ℕ) → n ≡ refusalOf (answerTo x c) → v ≡ isUnicast (answerTo x c)
-      → size ≡ lengthOf (answerTo x c) → y ≡ stateAfter x c → out′ ≡ laidOver (packetOf x c) out → Answers (answered x c) x out n v size y out′
-  call-seen n v size y out′ e u f g h = rw (e, u, f, g, h) (call-as x c out)
+call-as : (x : State) (c : Call) → Answers (answered x c) x (refusalOf (answerTo x c)) (stateAfter x c) (sentBy x c)
+unfolding receive receiveOf tick tickOf
+call-as x (received a) =
+    subst (λ (n : ℕ). Answers (receive x a) x n (receiveOf x a .state) (sentFor x a)) (sym (call-number x (received a)))
+    (shown x (receiveRefusal x a) (receivedPacket x a) (unicastPacket x a) (receiveOf x a .state) (sentFor x a) (λ h. refused-keeps x (received a) h .0))
+call-as x (ticked t) =
+    subst (λ (n : ℕ). Answers (tick x t) x n (tickOf x t .state) (sends everyone (tickedPacket x t))) (sym (call-number x (ticked t)))
+    (shown x (tickRefusal x t) (tickedPacket x t) [] (tickOf x t .state) (sends everyone (tickedPacket x t)) (λ h. refused-keeps x (ticked t) h .0))
+
+-- ---- a packet in a buffer
+
+module _ (p out : List ℕ) (size : ℕ) (out′ : List ℕ) (e : size ≡ length p) (h : out′ ≡ laidOver p out) where
+  first-bytes : take size out′ ≡ p
+  first-bytes = rw h (take-at p (drop (length p) out) size (sym e))
+
+  rest-kept : drop size out′ ≡ drop size out
+  rest-kept = ap (drop size) h ∙ drop-at p (drop (length p) out) size (sym e) ∙ ap (λ (n : ℕ). drop n out) (sym e)
+
+-- ---- a tick, and a packet received
+
+tick-shown :
+    (x : State) (t : Tick) (out : List ℕ) (n size : ℕ) (y : State) (out′ : List ℕ) → n ≡ refusalOf (tickOf x t .answer)
+    → size ≡ lengthOf (tickOf x t .answer) → y ≡ tickOf x t .state → out′ ≡ laidOver (tickedPacket x t) out → Ticks (tick x t) x out n size y out′
+tick-shown x t out n size y out′ e f g h =
+    let size-is : size ≡ length (tickedPacket x t) = f ∙ call-length x (ticked t) in
+    record {
+      answers =
+          subst (λ (p : List ℕ). Answers (tick x t) x n y (sends everyone p)) (sym (first-bytes (tickedPacket x t) out size out′ size-is h))
+          (rw (e, g) (call-as x (ticked t)));
+      kept = rest-kept (tickedPacket x t) out size out′ size-is h;
+    }
+
+receive-shown :
+    (x : State) (a : Arrival) (out back : List ℕ) (n size replied : ℕ) (y : State) (out′ back′ : List ℕ) → n ≡ refusalOf (receiveOf x a .answer)
+    → size ≡ lengthOf (receiveOf x a .answer) → replied ≡ unicastLengthOf (receiveOf x a .answer) → y ≡ receiveOf x a .state
+    → out′ ≡ laidOver (receivedPacket x a) out → back′ ≡ laidOver (unicastPacket x a) back
+    → Receives (receive x a) x a out back n size replied y out′ back′
+receive-shown x a out back n size replied y out′ back′ e f u g h k =
+    let size-is : size ≡ length (receivedPacket x a) = f ∙ call-length x (received a) in
+    let replied-is : replied ≡ length (unicastPacket x a) = u ∙ call-reply x (received a) in
+    record {
+      answers =
+          subst (λ (p : List ℕ). Answers (receive x a) x n y (sends everyone p ++ sends (backTo a) (take replied back′)))
+          (sym (first-bytes (receivedPacket x a) out size out′ size-is h))
+          (subst (λ (p : List ℕ). Answers (receive x a) x n y (sends everyone (receivedPacket x a) ++ sends (backTo a) p))
+          (sym (first-bytes (unicastPacket x a) back replied back′ replied-is k)) (rw (e, g) (call-as x (received a))));
+      kept = rest-kept (receivedPacket x a) out size out′ size-is h;
+      keptBack = rest-kept (unicastPacket x a) back replied back′ replied-is k;
+    }
 
 pub receive-seen :
-    (x : State) (a : Arrival) (out : List ℕ) (r : Received) (out′ : List ℕ) → Receives x a out r out′
-    → Answers (receive x a) x out (refusalOf (r .answer)) (isUnicast (r .answer)) (lengthOf (r .answer)) (r .state) out′
-receive-seen x a out r out′ h =
-    call-seen x (received a) out (refusalOf (r .answer)) (isUnicast (r .answer)) (lengthOf (r .answer)) (r .state) out′
-    (ap (λ (v : Received). refusalOf (v .answer)) (h .answers)) (ap (λ (v : Received). isUnicast (v .answer)) (h .answers))
-    (ap (λ (v : Received). lengthOf (v .answer)) (h .answers)) (ap (λ (v : Received). v .state) (h .answers)) (h .writes)
+    (x : State) (a : Arrival) (out back : List ℕ) (r : Received) (out′ back′ : List ℕ) → calls.Receives x a out back r out′ back′
+    → Receives (receive x a) x a out back (refusalOf (r .answer)) (lengthOf (r .answer)) (unicastLengthOf (r .answer)) (r .state) out′ back′
+receive-seen x a out back r out′ back′ h =
+    receive-shown x a out back (refusalOf (r .answer)) (lengthOf (r .answer)) (unicastLengthOf (r .answer)) (r .state) out′ back′
+    (ap (λ (v : Received). refusalOf (v .answer)) (h .answers)) (ap (λ (v : Received). lengthOf (v .answer)) (h .answers))
+    (ap (λ (v : Received). unicastLengthOf (v .answer)) (h .answers)) (ap (λ (v : Received). v .state) (h .answers)) (h .writes) (h .replies)
 
 pub tick-seen :
-    (x : State) (t : Tick) (out : List ℕ) (r : Ticked) (out′ : List ℕ) → Ticks x t out r out′
-    → Answers (tick x t) x out (refusalOf (r .answer)) (isUnicast (r .answer)) (lengthOf (r .answer)) (r .state) out′
+    (x : State) (t : Tick) (out : List ℕ) (r : Ticked) (out′ : List ℕ) → calls.Ticks x t out r out′
+    → Ticks (tick x t) x out (refusalOf (r .answer)) (lengthOf (r .answer)) (r .state) out′
 tick-seen x t out r out′ h =
-    call-seen x (ticked t) out (refusalOf (r .answer)) (isUnicast (r .answer)) (lengthOf (r .answer)) (r .state) out′
-    (ap (λ (v : Ticked). refusalOf (v .answer)) (h .answers)) (ap (λ (v : Ticked). isUnicast (v .answer)) (h .answers))
+    tick-shown x t out (refusalOf (r .answer)) (lengthOf (r .answer)) (r .state) out′ (ap (λ (v : Ticked). refusalOf (v .answer)) (h .answers))
     (ap (λ (v : Ticked). lengthOf (v .answer)) (h .answers)) (ap (λ (v : Ticked). v .state) (h .answers)) (h .writes)
 
 -- ---- on bytes
@@ -126,10 +154,17 @@ start-exported b setup time draw a b′ h =
     start-as (setupFor setup (length b)) time draw ∙ begun-bytes n (started b setup time draw .state) (decode b)
     ∙ ap (begunAs n) (sym (h .says)) ∙ ap (λ (v : ℕ). begunAs v (decode b′)) (sym e)
 
-pub call-exported :
-    (b : List ℕ) (c : Call) (out : List ℕ) (a : Called) (b′ out′ : List ℕ) → Calls b c out a b′ out′
-    → Answers (answered (decode b) c) (decode b) out (a .refusal) (a .unicast) (a .length) (decode b′) out′
-call-exported b c out a b′ out′ h =
-    call-seen (decode b) c out (a .refusal) (a .unicast) (a .length) (decode b′) out′ (ap (λ (v : Called). v .refusal) (h .answers))
-    (ap (λ (v : Called). v .unicast) (h .answers))
+pub tick-exported :
+    (b : List ℕ) (t : Tick) (out : List ℕ) (a : Called) (b′ out′ : List ℕ) → exported.Calls b (ticked t) out a b′ out′
+    → Ticks (tick (decode b) t) (decode b) out (a .refusal) (a .length) (decode b′) out′
+tick-exported b t out a b′ out′ h =
+    tick-shown (decode b) t out (a .refusal) (a .length) (decode b′) out′ (ap (λ (v : Called). v .refusal) (h .answers))
     (ap (λ (v : Called). v .length) (h .answers)) (h .says) (h .writes)
+
+pub receive-exported :
+    (b : List ℕ) (a : Arrival) (out back : List ℕ) (r : Called) (b′ out′ back′ : List ℕ) → exported.Receives b a out back r b′ out′ back′
+    → Receives (receive (decode b) a) (decode b) a out back (r .refusal) (r .length) (r .unicast) (decode b′) out′ back′
+receive-exported b a out back r b′ out′ back′ h =
+    receive-shown (decode b) a out back (r .refusal) (r .length) (r .unicast) (decode b′) out′ back′ (ap (λ (v : Called). v .refusal) (h .calls .answers))
+    (ap (λ (v : Called). v .length) (h .calls .answers)) (ap (λ (v : Called). v .unicast) (h .calls .answers)) (h .calls .says) (h .calls .writes)
+    (h .replies)

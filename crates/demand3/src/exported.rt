@@ -1,12 +1,14 @@
 // The exported calls, on a state in bytes: the state that its bytes say before the call, those after it, and the answer in numbers.
 ghost use mathlib.Core.Path.{_≡_};
+ghost use mathlib.Core.List.{List};
+ghost use Prim.Native.Nat.{ℕ};
 ghost use lib.ListN.{length};
 ghost use Rattle.responder.specs.Handed.{Arrival, Tick};
 ghost use Rattle.responder.specs.address.Address.{addressOf};
 ghost use Rattle.capi_responder.specs.codec.Codec.{decode};
 ghost use Rattle.capi_responder.specs.Exported.{setupFor};
 ghost use Rattle.uniqueness.specs.Responder.{responder};
-ghost use Rattle.demand3.specs.Seen.{begunAs, Answers};
+ghost use Rattle.demand3.specs.Seen.{begunAs, Ticks, Receives};
 use capi_responder::Called;
 
 pub fn start(state: &mut [u8], setup: &[u8], time: u64, draw: u64) -> Called
@@ -25,20 +27,24 @@ pub fn receive(
     hold: u64,
     packet: &[u8],
     out: &mut [u8],
+    unicast: &mut [u8],
 ) -> Called
     ensures { λ r. ⌜ (let x = decode (now (state .entry)) in
         let room = length (now (out .entry)) in
+        let second = length (now (unicast .entry)) in
         let source = addressOf (now (from .entry)) in
-        let a : Arrival = record { time = time; from = source; port = port; draw = draw; hold = hold; packet = now (packet .entry); room = room } in
-        Answers (responder .receive x a) x (now (out .entry)) (r .refusal) (r .unicast) (r .length) (decode (now (state .exit))) (now (out .exit))) ⌝ }
+        let p : List ℕ = now (packet .entry) in
+        let a : Arrival = record { time = time; from = source; port = port; draw = draw; hold = hold; packet = p; room = room; unicastroom = second } in
+        Receives (responder .receive x a) x a (now (out .entry)) (now (unicast .entry))
+        (r .refusal) (r .length) (r .unicast) (decode (now (state .exit))) (now (out .exit)) (now (unicast .exit))) ⌝ }
 {
-    capi_responder::kurgashel_receive(state, time, from, port, draw, hold, packet, out)
+    capi_responder::kurgashel_receive(state, time, from, port, draw, hold, packet, out, unicast)
 }
 
 pub fn tick(state: &mut [u8], time: u64, out: &mut [u8]) -> Called
     ensures { λ r. ⌜ (let x = decode (now (state .entry)) in
         let t : Tick = record { time = time; room = length (now (out .entry)) } in
-        Answers (responder .tick x t) x (now (out .entry)) (r .refusal) (r .unicast) (r .length) (decode (now (state .exit))) (now (out .exit))) ⌝ }
+        Ticks (responder .tick x t) x (now (out .entry)) (r .refusal) (r .length) (decode (now (state .exit))) (now (out .exit))) ⌝ }
 {
     capi_responder::kurgashel_tick(state, time, out)
 }

@@ -8,9 +8,9 @@ ghost use mathlib.Core.List.{List};
 ghost use Prim.Native.Nat.{ℕ};
 ghost use lib.ListN.{length};
 ghost use Rattle.responder.specs.Handed.{Arrival, Tick};
-ghost use Rattle.responder.specs.Calls.{refusalOf, lengthOf, isUnicast};
+ghost use Rattle.responder.specs.Calls.{refusalOf, lengthOf, unicastLengthOf};
 ghost use Rattle.uniqueness.specs.Responder.{responder};
-ghost use Rattle.demand3.specs.Seen.{begunAs, Answers};
+ghost use Rattle.demand3.specs.Seen.{begunAs, Ticks, Receives};
 use claims::holds::Address;
 use own::records::Setup;
 use responder::Received;
@@ -33,20 +33,21 @@ pub fn receive(
     hold: u64,
     packet: &[u8],
     out: &mut [u8],
+    unicast: &mut [u8],
 ) -> Received
     ensures { λ r. ⌜ (let room = length (now (out .entry)) in
+        let second = length (now (unicast .entry)) in
         let p : List ℕ = now (packet .entry) in
-        let a : Arrival = record { time = time; from = from; port = port; draw = draw; hold = hold; packet = p; room = room } in
-        Answers (responder .receive state a) state (now (out .entry))
-        (refusalOf (r .answer)) (isUnicast (r .answer)) (lengthOf (r .answer)) (r .state) (now (out .exit))) ⌝ }
+        let a : Arrival = record { time = time; from = from; port = port; draw = draw; hold = hold; packet = p; room = room; unicastroom = second } in
+        Receives (responder .receive state a) state a (now (out .entry)) (now (unicast .entry))
+        (refusalOf (r .answer)) (lengthOf (r .answer)) (unicastLengthOf (r .answer)) (r .state) (now (out .exit)) (now (unicast .exit))) ⌝ }
 {
-    responder::receive(state, time, from, port, draw, hold, packet, out)
+    responder::receive(state, time, from, port, draw, hold, packet, out, unicast)
 }
 
 pub fn tick(state: State, time: u64, out: &mut [u8]) -> Ticked
     ensures { λ r. ⌜ (let t : Tick = record { time = time; room = length (now (out .entry)) } in
-        Answers (responder .tick state t) state (now (out .entry))
-        (refusalOf (r .answer)) (isUnicast (r .answer)) (lengthOf (r .answer)) (r .state) (now (out .exit))) ⌝ }
+        Ticks (responder .tick state t) state (now (out .entry)) (refusalOf (r .answer)) (lengthOf (r .answer)) (r .state) (now (out .exit))) ⌝ }
 {
     responder::tick(state, time, out)
 }

@@ -2,20 +2,21 @@
 -- folded, class by its low 15 bits, rdata equal with names expanded. Assumes nothing: these are definitions.
 use Prim.Native.Nat.{ℕ, _*_, _/_, _%_}
 use mathlib.Core.List.{List}
-use mathlib.Core.Bool.{Bool, true, false, cond, not, _&&_}
+use mathlib.Core.Bool.{Bool, true, false, cond, not, _&&_, _||_}
 use lib.Dec.{leb, eqb}
 use Rattle.wire.specs.case_folding.Fold.{sameName}
 use Rattle.wire.specs.expansion.Equal.{sameBytes}
 use Rattle.wire.specs.message.Message.{Question, Record, Message, classOf, isResponse, allRecords}
-use Rattle.claims.specs.records.Own.{ownType, ownTtl, claimFor, carriesData, firstOf, secondOf, claimed, each}
+use Rattle.claims.specs.records.Own.{ownType, ownTtl, claimFor, carriesData, firstOf, secondOf, claimed, has, each}
 use Rattle.claims.specs.records.Sets.{noRecord}
 use Rattle.claims.specs.declared.records.Claim.{Claim}
 use Rattle.claims.specs.declared.records.Claim.the-variants.{Instance, Host}
 use Rattle.claims.specs.declared.records.Own.{Own}
+use Rattle.claims.specs.declared.records.Set.{Set}
 use Rattle.own.specs.declared.records.Setup.{Setup}
 use Rattle.own.specs.records.Records.{hasRecord, ownName, ownRdata}
 use Rattle.wire.specs.Lists.{some}
-use Rattle.facts.specs.Questions.{takesIn, asksBy}
+use Rattle.facts.specs.Questions.{takesIn, asksBy, isQm}
 use Rattle.facts.specs.tiebreak.Later.{TieRecord, tie, isLater}
 use Rattle.facts.specs.probe.Probe.{isProbe}
 use Rattle.facts.specs.tiebreak.Lists.{theirs, ownList}
@@ -34,8 +35,16 @@ typeAsks s o rtype = cond (carriesData o) (takesIn rtype (ownType o)) (absent s 
 abbrev pub asksOwn : Setup → Own → Question → Bool
 asksOwn s o q = asksBy (ownName s o) (typeAsks s o (q .rtype)) q
 
+-- those asked for before, and those that a question asks for
+abbrev pub askedWith : Setup → Question → Set → Set
+askedWith s q before = each (λ o. has o before || asksOwn s o q)
+
 unfoldable pub isAsked : Setup → Own → Message → Bool
 isAsked s o m = some (asksOwn s o) (m .questions)
+
+-- a question of a kind asks for the record
+unfoldable pub isAskedAs : (Question → Bool) → Setup → Own → Message → Bool
+isAskedAs kind s o m = some (λ q. kind q && asksOwn s o q) (m .questions)
 
 -- "an Answer record in the query has equal name, class, type and rdata and twice its TTL is at least our own TTL"; the class of own records is 1
 abbrev pub suppresses : List ℕ → ℕ → List ℕ → ℕ → Record → Bool
@@ -86,6 +95,7 @@ responseFacts s m = record {
   response = true;
   truncated = false;
   asked = noRecord;
+  qm = noRecord;
   known = noRecord;
   instance = responseTo s Instance m;
   host = responseTo s Host m;
@@ -96,6 +106,7 @@ queryFacts s m = record {
   response = false;
   truncated = isTruncated (m .flags);
   asked = each (λ o. isAsked s o m);
+  qm = each (λ o. isAskedAs isQm s o m);
   known = each (λ o. isKnown s o m);
   instance = queryTo s Instance m;
   host = queryTo s Host m;

@@ -5,18 +5,18 @@ pub mod probe;
 pub mod tiebreak;
 
 ghost use mathlib.Core.Path.{_≡_};
-ghost use mathlib.Core.Bool.{Bool, _&&_, _||_};
+ghost use mathlib.Core.Bool.{Bool, cond, _&&_, _||_};
 ghost use Rattle.wire.specs.Lists.{some};
-ghost use Rattle.wire.specs.message.Message.{Record, allRecords};
+ghost use Rattle.wire.specs.message.Message.{Question, Record, allRecords, topBit};
 ghost use Rattle.wire.specs.message.Layout.{recordAt};
 ghost use Rattle.wire.specs.message.Readable.{readable, messageIn, questionShown, recordShown};
 ghost use Rattle.claims.specs.records.Own.{ownType, has, each};
 ghost use Rattle.own.specs.records.Records.{hasRecord};
-ghost use Rattle.facts.specs.Questions.{takesIn, asksBy};
+ghost use Rattle.facts.specs.Questions.{takesIn, asksBy, isQm, isQu};
 ghost use Rattle.facts.specs.Found.{QuestionFound, RecordFound};
 ghost use Rattle.facts.specs.tiebreak.Later.{isLater};
 ghost use Rattle.facts.specs.Types.{canConflict, someType, mayConflict};
-ghost use Rattle.facts.specs.Facts.{typeAsks, asksOwn, isAsked, isKnown, suppresses, conflicts, conflicted, theirsLater, responseTo, queryTo};
+ghost use Rattle.facts.specs.Facts.{typeAsks, asksOwn, askedWith, isAskedAs, isKnown, suppresses, conflicts, conflicted, theirsLater, responseTo, queryTo};
 ghost use Rattle.facts.specs.Facts.{isTruncated, factsOf};
 use claims::answers::Facts;
 use claims::answers::Heard;
@@ -25,6 +25,12 @@ use claims::records::Own;
 use claims::records::RECORDS;
 use claims::records::Set;
 use own::records::Setup;
+
+// The own records that QM questions ask for, and those that QU questions do, which want the answer by unicast.
+pub struct AskedFor {
+    pub qm: Set,
+    pub qu: Set,
+}
 
 // Own records are of class 1.
 const INTERNET: u16 = 1;
@@ -101,7 +107,7 @@ fn is_asked(p: &[u8], q: wire::message::QuestionAt, setup: Setup, asked: Set, o:
 // The own records asked for before, and those that a question asks for.
 fn asked_with(p: &[u8], q: wire::message::QuestionAt, setup: Setup, asked: Set) -> Set
     requires { ⌜ QuestionFound (now p) q ⌝ }
-    ensures { λ r. ⌜ r ≡ each (λ o. has o asked || asksOwn setup o (questionShown (now (p .entry)) q)) ⌝ }
+    ensures { λ r. ⌜ r ≡ askedWith setup (questionShown (now (p .entry)) q) asked ⌝ }
 {
     let mut flags = [false; RECORDS];
     let mut i = 0;
@@ -112,18 +118,48 @@ fn asked_with(p: &[u8], q: wire::message::QuestionAt, setup: Setup, asked: Set) 
     claims::records::set_of(flags)
 }
 
-// The own records that the questions ask for, in one pass over them.
-fn asked_for(p: &[u8], l: wire::message::Layout, setup: Setup) -> Set
-    ensures { λ r. ⌜ r ≡ each (λ o. isAsked setup o (messageIn (now (p .entry)) l)) ⌝ }
+// Whether the top bit of a class is set: in a question, that the answer is wanted by unicast.
+fn is_qu(class: u16) -> bool
+    ensures { λ r. ⌜ r ≡ topBit class ⌝ }
+{
+    32768 <= class
+}
+
+// The own records asked for before by questions of each kind, and those that a question asks for.
+fn asked_too(p: &[u8], q: wire::message::QuestionAt, setup: Setup, asked: AskedFor) -> AskedFor
+    requires { ⌜ QuestionFound (now p) q ⌝ }
+    ensures { λ r. ⌜ (let shown : Question = questionShown (now (p .entry)) q in
+        let by : Set → Set = askedWith setup shown in
+        r ≡ record { qm = cond (isQm shown) (by (asked .qm)) (asked .qm); qu = cond (isQu shown) (by (asked .qu)) (asked .qu) }) ⌝ }
+{
+    let qm = asked.qm;
+    let qu = asked.qu;
+    if is_qu(q.class) {
+        return AskedFor {
+            qm,
+            qu: asked_with(p, q, setup, qu),
+        };
+    }
+    AskedFor {
+        qm: asked_with(p, q, setup, qm),
+        qu,
+    }
+}
+
+// The own records that the questions ask for, by the kind of question, in one pass over them.
+fn asked_for(p: &[u8], l: wire::message::Layout, setup: Setup) -> AskedFor
+    ensures { λ r. ⌜ r .qm ≡ each (λ o. isAskedAs isQm setup o (messageIn (now (p .entry)) l)) ⌝ }
+    ensures { λ r. ⌜ r .qu ≡ each (λ o. isAskedAs isQu setup o (messageIn (now (p .entry)) l)) ⌝ }
 {
     let s = l.questions;
-    let mut asked = claims::records::no_record();
+    let none = claims::records::no_record();
+    let mut asked = AskedFor { qm: none, qu: none };
     let mut here = s.at;
     let mut left = s.count;
     while 0 < left {
         match wire::message::question_at(p, here) {
             wire::message::QuestionRead::Found(q) => {
-                asked = asked_with(p, q, setup, asked);
+                asked = asked_too(p, q, setup, asked);
                 here = q.next;
             }
             wire::message::QuestionRead::Malformed => {
@@ -440,6 +476,7 @@ pub fn facts(p: &[u8], l: wire::message::Layout, setup: Setup) -> Facts
                 response: true,
                 truncated: false,
                 asked: claims::records::no_record(),
+                qm: claims::records::no_record(),
                 known: claims::records::no_record(),
                 instance: Heard {
                     probe: false,
@@ -457,15 +494,19 @@ pub fn facts(p: &[u8], l: wire::message::Layout, setup: Setup) -> Facts
             response: true,
             truncated: false,
             asked: claims::records::no_record(),
+            qm: claims::records::no_record(),
             known: claims::records::no_record(),
             instance: response_to(p, l, setup, Claim::Instance),
             host: response_to(p, l, setup, Claim::Host),
         };
     }
+    let asked = asked_for(p, l, setup);
+    let qm = asked.qm;
     Facts {
         response: false,
         truncated: is_truncated(l.flags),
-        asked: asked_for(p, l, setup),
+        asked: claims::holds::union(qm, asked.qu),
+        qm,
         known: known_in(p, l, setup),
         instance: query_to(p, l, setup, Claim::Instance),
         host: query_to(p, l, setup, Claim::Host),

@@ -87,6 +87,7 @@ asked o ttl = record {
   hold = 400;
   packet = packetOf false (asking o ttl);
   room = 1452;
+  unicastroom = 1452;
 }
 
 -- "dock.local" as it stands in a packet

@@ -1,5 +1,6 @@
 pub mod Examples
 pub mod Starred
 pub mod States
+pub mod Unicast
 pub mod Subsets
 pub mod Labels

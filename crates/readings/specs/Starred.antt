@@ -33,7 +33,7 @@ use Rattle.claims.specs.answers.Held as holds
 use Rattle.claims.specs.holds.Holds as queries
 use Rattle.responder.specs.Refusals.{wrongState, receiveRefusal}
 use Rattle.responder.specs.Calls.{packetFor, receivedPacket, receiveOf}
-use Rattle.facts.specs.Facts.{isAsked, isKnown, theirsLater, queryFacts, factsOf}
+use Rattle.facts.specs.Facts.{isAsked, isAskedAs, isKnown, theirsLater, queryFacts, factsOf}
 use Rattle.cache.specs.entries.Tables.{each}
 use Rattle.cache.specs.entries.Entries.{isOf, liveOf, soon, flushed}
 use Rattle.cache.specs.entries.Cache.{rule1}
@@ -70,8 +70,8 @@ Starred =
     -- "Pointer at 12 to 12: refusal 6."
     × (messageAt selfPointing ≡ refused 6)
     -- "dock.local, 10.0.0.7 announced, 38 bytes"
-    × (responsePacket example (recordsOf Host true) ≡ announcement)
+    × (responsePacket example 0 (recordsOf Host true) ≡ announcement)
 
 pub starred : Starred
-unfolding example asking cached announced tie sortBy insertBy compareRecords inTurn compareNumbers some isProbe listUnder isAsked isKnown theirsLater queryFacts factsOf holding sameName sameBytes hasRecord ownLabels ownName srvRdata ownRdata serviceLabels instanceLabels hostLabels rule1 each flushed liveOf isOf soon lookupOf refusalOf badKey stringsFill inTxt firstWith stringsFrom hasKey keyOf valueOf givenBy messageAt andThen listFrom questionAt questionRead recordAt recordRead nameAt fromRun readFrom pieceAt rdataAt rdataIn responsePacket responseRecords picked responseOf styles.ownRecord receiveOf receivedPacket packetFor receiveRefusal wrongState wrongTime kept multicastsKept holdsKept everyOf someOf validSetup labelFits instanceFits utf8.isShown utf8.shownFrom utf8.mayStand utf8.behind utf8.starts utf8.following utf8.within isLetter isNameByte allNameBytes someLetter hyphensApart serviceRule serviceFits protocolFits domainFits txtFits answers.asksOf answers.wantedOf answers.joined answers.judgedOf holds.toHold holds.heldBack holds.receiveOf queries.someFrom queries.someFree queries.union queries.knowing queries.knowingAll queries.queued answers.heardOf atOnce markedAll afterMs packetOf putName dataBytes dataPlaces putFields nameBytes namePlaces starts cutFrom placeOf standsAt formIn formFor recordsOf
+unfolding example asking cached announced tie sortBy insertBy compareRecords inTurn compareNumbers some isProbe listUnder isAsked isAskedAs isKnown theirsLater queryFacts factsOf holding sameName sameBytes hasRecord ownLabels ownName srvRdata ownRdata serviceLabels instanceLabels hostLabels rule1 each flushed liveOf isOf soon lookupOf refusalOf badKey stringsFill inTxt firstWith stringsFrom hasKey keyOf valueOf givenBy messageAt andThen listFrom questionAt questionRead recordAt recordRead nameAt fromRun readFrom pieceAt rdataAt rdataIn responsePacket responseRecords picked responseOf styles.ownRecord receiveOf receivedPacket packetFor receiveRefusal wrongState wrongTime kept multicastsKept holdsKept everyOf someOf validSetup labelFits instanceFits utf8.isShown utf8.shownFrom utf8.mayStand utf8.behind utf8.starts utf8.following utf8.within isLetter isNameByte allNameBytes someLetter hyphensApart serviceRule serviceFits protocolFits domainFits txtFits answers.asksOf answers.askedBy answers.multicastAsks answers.unicastAsks answers.wantedOf answers.joined answers.judgedOf holds.toHold holds.heldBack holds.receiveOf queries.someFrom queries.someFree queries.union queries.knowing queries.knowingAll queries.queued answers.heardOf atOnce markedAll afterMs packetOf putName dataBytes dataPlaces putFields nameBytes namePlaces starts cutFrom placeOf standsAt formIn formFor recordsOf
 starred = (refl, refl, refl, refl, refl, refl, refl, refl, refl, refl, refl, refl)

@@ -14,6 +14,7 @@ use Rattle.claims.specs.records.Own.{has}
 use Rattle.claims.specs.records.Sets.{noRecord, only, someOf, everyOf, atOnce}
 use Rattle.claims.specs.Time.{neverSent, markedAll}
 use Rattle.claims.specs.declared.records.Own.the-variants.{A}
+use Rattle.claims.specs.declared.records.Set.{Set}
 use Rattle.claims.specs.declared.ClaimState.{ClaimState}
 use Rattle.claims.specs.declared.ClaimState.the-variants.{Waiting, Held}
 use Rattle.claims.specs.declared.When.{When}
@@ -21,7 +22,7 @@ use Rattle.claims.specs.declared.When.the-variants.{Never, At}
 use Rattle.claims.specs.declared.Multicasts.{Multicasts}
 use Rattle.claims.specs.declared.Progress.{Progress}
 use Rattle.claims.specs.declared.answers.Facts.{Facts}
-use Rattle.claims.specs.answers.Answers.{asksOf, wantedOf, joined, judgedOf}
+use Rattle.claims.specs.answers.Answers.{asksOf, wantedOf, askedBy, multicastAsks, unicastAsks, joined, judgedOf}
 use Rattle.claims.specs.answers.Held.{toHold, heldBack, receiveOf}
 use Rattle.claims.specs.declared.answers.Coming.{Coming}
 use Rattle.claims.specs.holds.Holds.{noHolds, withHold, someFrom, someFree, union, knowing, knowingAll, queued}
@@ -63,16 +64,24 @@ held due = withHold Second (record { from = somewhere; due = due; asked = only A
 abbrev pub handed : ClaimState → When → When → ℕ → ℕ → State
 handed host a reply draw last = record { setup = example; progress = lived host a reply draw last }
 
--- a query that asks for A alone; `probe` where it is a probe for the host's name, with our own data
-abbrev pub asksA : Bool → Facts
-asksA probe = record {
+-- a query that asks for A alone, of which some question is without the unicast bit or none; `probe` where it is a probe for the host's name, with our own data
+abbrev pub asksFor : Set → Bool → Facts
+asksFor qm probe = record {
   response = false;
   truncated = false;
   asked = only A;
+  qm = qm;
   known = noRecord;
   instance = record { probe = false; later = false; conflict = false };
   host = record { probe = probe; later = false; conflict = false };
 }
+
+-- without the bit, and with it
+abbrev pub asksA : Bool → Facts
+asksA probe = asksFor (only A) probe
+
+abbrev pub wantsA : Bool → Facts
+wantsA probe = asksFor noRecord probe
 
 -- a query with no question and no record
 abbrev pub bare : List ℕ
@@ -82,12 +91,12 @@ bare = 0 ∷ (0 ∷ (0 ∷ (0 ∷ (0 ∷ (0 ∷ (0 ∷ (0 ∷ (0 ∷ (0 ∷ (0 �
 abbrev pub bareResponse : List ℕ
 bareResponse = 0 ∷ (0 ∷ (0x84 ∷ (0 ∷ (0 ∷ (0 ∷ (0 ∷ (0 ∷ (0 ∷ (0 ∷ (0 ∷ (0 ∷ [])))))))))))
 
--- a tick at a time, and a packet that comes at 0 ms from a port with a draw; both with an out buffer of so many bytes
+-- a tick at a time, and a packet that comes at 0 ms from a port with a draw; both with an out buffer of so many bytes for what goes to all
 abbrev pub tickAt : ℕ → ℕ → Tick
 tickAt time room = record { time = time; room = room }
 
 abbrev pub fromWith : ℕ → ℕ → ℕ → List ℕ → ℕ → Arrival
-fromWith port draw hold packet room = record { time = 0; from = somewhere; port = port; draw = draw; hold = hold; packet = packet; room = room }
+fromWith port draw hold packet room = record { time = 0; from = somewhere; port = port; draw = draw; hold = hold; packet = packet; room = room; unicastroom = 1452 }
 
 abbrev pub from : ℕ → ℕ → List ℕ → ℕ → Arrival
 from port draw packet room = fromWith port draw 400 packet room
@@ -132,7 +141,7 @@ HandedIn =
     × (tickRefusal (handed Held Never Never 0 latest) (tickAt latest 1452) ≡ 0)
     × (tickRefusal (handed Held Never Never 0 latest) (tickAt 4611686018427387905 1452) ≡ 1)
     × (tickRefusal (handed Held Never Never 0 latest) (tickAt 4611686018427387903 1452) ≡ 1)
-    -- "A kept time ahead of now counts as 0 ms ago": A multicast at 5,000 is not sent at 4,000, nor to a probe
+    -- "A kept time ahead of now counts as 0 ms ago": A multicast at 5,000 is not sent at 4,000, nor to a probe, all without the unicast bit
     × (has A (receiveOf (lived Held (At 5000) Never 0 0) (coming 4000) (asksA false) false .answers) ≡ false)
     × (has A (receiveOf (lived Held (At 5000) Never 0 0) (coming 4000) (asksA true) false .answers) ≡ false)
     × (has A (receiveOf (lived Held (At 5000) Never 0 0) (coming 5249) (asksA true) false .answers) ≡ false)
@@ -141,5 +150,5 @@ HandedIn =
     × (has A (receiveOf (lived Held (At 5000) Never 0 0) (coming 6000) (asksA false) false .answers) ≡ true)
 
 pub handed-in : HandedIn
-unfolding example tickRefusal receiveRefusal startRefusal wrongState wrongTime kept multicastsKept holdsKept validSetup labelFits instanceFits utf8.isShown utf8.shownFrom utf8.mayStand utf8.behind utf8.starts utf8.following utf8.within isLetter isNameByte allNameBytes someLetter hyphensApart serviceRule serviceFits protocolFits domainFits txtFits stringsFill sameBytes messageAt andThen listFrom receiveOf toHold heldBack judgedOf joined asksOf someFrom someFree someOf union knowing knowingAll queued wantedOf only markedAll atOnce everyOf
+unfolding example tickRefusal receiveRefusal startRefusal wrongState wrongTime kept multicastsKept holdsKept validSetup labelFits instanceFits utf8.isShown utf8.shownFrom utf8.mayStand utf8.behind utf8.starts utf8.following utf8.within isLetter isNameByte allNameBytes someLetter hyphensApart serviceRule serviceFits protocolFits domainFits txtFits stringsFill sameBytes messageAt andThen listFrom receiveOf toHold heldBack judgedOf joined askedBy multicastAsks unicastAsks asksOf someFrom someFree someOf union knowing knowingAll queued wantedOf only markedAll atOnce everyOf
 handed-in = (refl, refl, refl, refl, refl, refl, refl, refl, refl, refl, refl, refl, refl, refl, refl, refl, refl, refl, refl, refl, refl, refl, refl, refl, refl, refl, refl, refl, refl, refl, refl, refl, refl, refl, refl)

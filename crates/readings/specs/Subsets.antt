@@ -44,10 +44,10 @@ hosted host len = record {
   aaaa = 254 ∷ (128 ∷ (0 ∷ (0 ∷ (0 ∷ (0 ∷ (0 ∷ (0 ∷ (0 ∷ (0 ∷ (0 ∷ (0 ∷ (0 ∷ (0 ∷ (0 ∷ (10 ∷ [])))))))))))))));
 }
 
--- the response with PTR, SRV, TXT, A, AAAA, the instance's NSEC, the host's NSEC or without
+-- the response to all, so with ID 0, with PTR, SRV, TXT, A, AAAA, the instance's NSEC, the host's NSEC or without
 abbrev pub written : Setup → Bool → Bool → Bool → Bool → Bool → Bool → Bool → ℕ
 written s ptr srv txt a aaaa instancensec hostnsec =
-    number 1 (responsePacket s (record { ptr = ptr; srv = srv; txt = txt; a = a; aaaa = aaaa; instancensec = instancensec; hostnsec = hostnsec }))
+    number 1 (responsePacket s 0 (record { ptr = ptr; srv = srv; txt = txt; a = a; aaaa = aaaa; instancensec = instancensec; hostnsec = hostnsec }))
 
 -- a host label that stands nowhere else
 abbrev pub plain : Setup

@@ -25,7 +25,7 @@ use Rattle.claims.proofs.steps.Ticks.{tick-kept, tick-draw}
 use Rattle.claims.proofs.answers.Receives.{receive-kept, receive-draw, plain-kept, plain-draw}
 use Rattle.facts.specs.Facts.{factsOf}
 use Rattle.responder.specs.Handed.{Arrival, comingOf, Tick}
-use Rattle.responder.specs.Refusals.{smallBuffer, wrongState, startRefusal, receiveRefusal, tickRefusal}
+use Rattle.responder.specs.Refusals.{smallBuffer, smallBuffers, wrongState, startRefusal, receiveRefusal, tickRefusal}
 use Rattle.responder.specs.Calls.{startOf, fromMdns, heardOf, receiveOf, tickOf}
 use Rattle.responder.specs.Runs.{Call, received, ticked, refusalOfCall, stateAfter, run}
 use Rattle.responder.specs.declared.State.{State}
@@ -70,7 +70,7 @@ never-7 false false false false false false e = omega (arith, e)
 pub sound-never-7 : (s : State) (c : Call) → Sound s → refusalOfCall s c ≡ 7 → ⊥
 unfolding receiveRefusal tickRefusal
 sound-never-7 s (received a) h e =
-    never-7 (wrongTime (s .progress) (a .time)) (wrongDraws (a .draw) (a .hold)) (smallBuffer (a .room)) (wrongLength (a .packet))
+    never-7 (wrongTime (s .progress) (a .time)) (wrongDraws (a .draw) (a .hold)) (smallBuffers a) (wrongLength (a .packet))
     (wrongHeader (a .packet) || wrongPort (a .port) (a .packet)) (isMalformed (a .packet)) (rw (h .right) at e)
 sound-never-7 s (ticked t) h e = never-7 (wrongTime (s .progress) (t .time)) false (smallBuffer (t .room)) false false false (rw (h .right) at e)
 
@@ -137,7 +137,7 @@ module _ (most : ℕ) (l : 4611686018427388904 ≤ most) where
       → kept most (s .progress) ≡ true
       → wrongState s ≡ false
       → Within most (record { setup = s .setup; progress = heardOf s a x .progress })
-  heard-within s a (read _ m) n d k w = go (fromMdns a)
+  heard-within s a (read _ m) n d k w = go (fromMdns (a .port))
     where
       f : Facts
       f = factsOf (s .setup) m

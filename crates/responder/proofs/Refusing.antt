@@ -18,7 +18,7 @@ use Rattle.own.specs.records.Setups.{validSetup}
 use Rattle.claims.specs.Refusals.{lateStart, wrongTime, wrongStartDraw, wrongDraws}
 use Rattle.writer.specs.own_packets.Own.{refusal}
 use Rattle.responder.specs.Handed.{Arrival, Tick}
-use Rattle.responder.specs.Refusals.{smallBuffer, wrongState, startRefusal, receiveRefusal, tickRefusal, admitted}
+use Rattle.responder.specs.Refusals.{smallBuffer, smallBuffers, wrongState, startRefusal, receiveRefusal, tickRefusal, admitted}
 use Rattle.responder.specs.declared.State.{State}
 use Rattle.responder.proofs.Refusals.{in-order, receive-accepted}
 
@@ -48,6 +48,14 @@ right-setup s h = valid-in (validSetup (s .setup)) (wrongStartDraw (s .progress 
 pub can-send : (s : State) (out : List ℕ) → smallBuffer (length out) ≡ false → wrongState s ≡ false → refusal (s .setup) out ≡ 0
 unfolding refusal
 can-send s out room h = simp (room, right-setup s h)
+
+-- neither buffer is too small
+pub both-large : (room unicastroom : ℕ) → (smallBuffer room || smallBuffer unicastroom) ≡ false → (smallBuffer room ≡ false) × (smallBuffer unicastroom ≡ false)
+both-large room unicastroom h = go (smallBuffer room) (smallBuffer unicastroom) h
+  where
+    go : (x y : Bool) → (x || y) ≡ false → (x ≡ false) × (y ≡ false)
+    go true y e = let z : _≡_ {A = ℕ} 0 1 = cc in absurd (omega arith)
+    go false y e = (refl, e)
 
 -- ---- a start
 
@@ -106,26 +114,26 @@ module _ (s : State) (a : Arrival) where
     receive-2 d = refuses 2 (in-order s a ∙ simp (t, d)) (λ e. omega arith)
 
     module _ (d : wrongDraws (a .draw) (a .hold) ≡ false) where
-      pub receive-3 : a .room < 1452 → Refused 3 ≡ readOf (admitted s a)
-      receive-3 r = refuses 3 (in-order s a ∙ simp (t, d, lt-ltb (a .room) 1452 r)) (λ e. omega arith)
+      pub receive-3 : smallBuffers a ≡ true → Refused 3 ≡ readOf (admitted s a)
+      receive-3 r = refuses 3 (in-order s a ∙ simp (t, d, r)) (λ e. omega arith)
 
-      module _ (r : 1452 ≤ a .room) (m : MessageRead) (is : m ≡ readOf (messageFrom (a .port) (a .packet))) where
+      module _ (r : smallBuffers a ≡ false) (m : MessageRead) (is : m ≡ readOf (messageFrom (a .port) (a .packet))) where
         pub receive-message : (n : ℕ) → m ≡ Refused n → Refused n ≡ readOf (admitted s a)
         receive-message n e =
             let f = refused-from (a .packet) (a .port) m is n e in
-            refuses n (in-order s a ∙ simp (t, d, le-ltb (a .room) 1452 r, f .0, ne-eqb n 0 (f .1))) (f .1)
+            refuses n (in-order s a ∙ simp (t, d, r, f .0, ne-eqb n 0 (f .1))) (f .1)
 
         module _ (l : Layout) (e : m ≡ Read l) where
           pub receive-7 : wrongState s ≡ true → Refused 7 ≡ readOf (admitted s a)
           receive-7 w =
               let z = taken-from (a .packet) (a .port) m is l e .0 in
-              refuses 7 (in-order s a ∙ simp (t, d, le-ltb (a .room) 1452 r, z, w)) (λ e. omega arith)
+              refuses 7 (in-order s a ∙ simp (t, d, r, z, w)) (λ e. omega arith)
 
           pub receive-read : wrongState s ≡ false → Read l ≡ readOf (admitted s a)
           unfolding admitted
           receive-read w =
               let f = taken-from (a .packet) (a .port) m is l e in
-              reading (receiveRefusal s a) (messageAt (a .packet)) (Read l) (in-order s a ∙ simp (t, d, le-ltb (a .room) 1452 r, f .0, w))
+              reading (receiveRefusal s a) (messageAt (a .packet)) (Read l) (in-order s a ∙ simp (t, d, r, f .0, w))
               (sym (ap readOf (f .2)))
 
   -- what the answer says of the call

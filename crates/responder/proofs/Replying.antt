@@ -23,12 +23,10 @@ use Rattle.wire.proofs.message.Cursor.{Step, step, done, QuestionHere, question
 use Rattle.wire.proofs.message.Walk.{layout-shows}
 use Rattle.own.specs.declared.records.Setup.{Setup}
 use Rattle.claims.specs.declared.records.Set.{Set}
-use Rattle.writer.specs.own_packets.Own.{plainPacket, refusal, unlessRefused, writtenOf, laidOver}
+use Rattle.writer.specs.own_packets.Own.{plainPacket, lengthOf, refusal, unlessRefused, writtenOf, laidOver}
 use Rattle.writer.specs.Writer.{questionOf}
 use Rattle.writer.specs.declared.own_packets.Written.{Written}
-use Rattle.responder.specs.Calls.{unicast, answerFor, plainFor}
-use Rattle.responder.specs.declared.Answer.{Answer}
-use Rattle.responder.specs.declared.Answer.the-variants.{Quiet}
+use Rattle.responder.specs.Calls.{plainFor}
 use Rattle.responder.proofs.Sending.{Wrote, wrote}
 
 -- a section has as many items as its count says
@@ -107,8 +105,8 @@ module _ (setup : Setup) (set : Set) where
     abbrev m : Message
     m = messageIn p l
 
-    abbrev Replies : Answer → List ℕ → Type 0
-    Replies a o = Wrote unicast (plainFor setup set (m .id) (m .questions)) out a o
+    abbrev Replies : ℕ → List ℕ → Type 0
+    Replies n o = Wrote (plainFor setup set (m .id) (m .questions)) out n o
 
     same : m ≡ known .0
     same = layout-shows p l (known .0) (known .1)
@@ -116,11 +114,11 @@ module _ (setup : Setup) (set : Set) where
     parts : Sections p l (known .0)
     parts = sections p l (known .0) (known .1)
 
-    silent : plainFor setup set (m .id) (m .questions) ≡ [] → Replies Quiet out
+    silent : plainFor setup set (m .id) (m .questions) ≡ [] → Replies 0 out
     silent e = (simp e, simp e)
 
     -- "Only a query of exactly one question is answered."
-    pub not-one : (l .questions .count ≡ 1 → ⊥) → Replies Quiet out
+    pub not-one : (l .questions .count ≡ 1 → ⊥) → Replies 0 out
     not-one h =
         silent
         (ap (λ (x : Message). plainFor setup set (x .id) (x .questions)) same
@@ -128,7 +126,7 @@ module _ (setup : Setup) (set : Set) where
         (λ e. h (sym (section-length (questionAt p) (l .questions .count) (l .questions .at) (known .0 .questions) (l .answers .at) (parts .questions)) ∙ e)))
 
     module _ (one : l .questions .count ≡ 1) (a : QuestionRead) (is : a ≡ questionRead p (l .questions .at)) where
-      pub unbroken : a ≡ q.Malformed → Replies Quiet out
+      pub unbroken : a ≡ q.Malformed → Replies 0 out
       unbroken e =
           absurd
           (question-never-malformed p (l .questions .count) (l .questions .at) (known .0 .questions) (l .answers .at) (parts .questions) (omega (arith, one)) a is e)
@@ -166,13 +164,13 @@ module _ (setup : Setup) (set : Set) where
 
         pub replied :
             refusal setup out ≡ 0
-            → (w : Written) (o : List ℕ) (r : Answer)
+            → (w : Written) (o : List ℕ) (r : ℕ)
             → (w ≡ writtenOf (refusal setup out) (plainPacket setup set (l .id) (questionOf bs (f .rtype) (f .class))))
             × (o ≡ laidOver (unlessRefused (refusal setup out) (plainPacket setup set (l .id) (questionOf bs (f .rtype) (f .class)))) out)
-            → r ≡ answerFor unicast w
+            → r ≡ lengthOf w
             → Replies r o
         replied fine w o r h e =
             let met =
             question-met p (l .questions .count) (l .questions .at) (known .0 .questions) (l .answers .at) (parts .questions) (omega (arith, one)) a is f found in
             rw (is-packet (met .0) (met .1) (met .2) (met .3))
-            (wrote setup unicast out (plainPacket setup set (l .id) (questionOf bs (f .rtype) (f .class))) w o r fine h e)
+            (wrote setup out (plainPacket setup set (l .id) (questionOf bs (f .rtype) (f .class))) w o r fine h e)

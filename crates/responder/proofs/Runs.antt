@@ -83,7 +83,7 @@ pub run-lost : (k : Claim) (s : State) (cs : List Call) → claimOf k (s .progre
 run-lost k s cs q = run-keeps (λ x. claimOf k (x .progress) ≡ Lost) keep s cs q
   where
     heard : (x : State) (a : Arrival) (m : Reads) → claimOf k (x .progress) ≡ Lost → claimOf k (heardOf x a m .progress) ≡ Lost
-    heard x a (read l m) e = go (fromMdns a)
+    heard x a (read l m) e = go (fromMdns (a .port))
       where
         f : Facts
         f = factsOf (x .setup) m
@@ -111,7 +111,7 @@ pub run-once : (s : State) (cs : List Call) → OncePerAddress s → OncePerAddr
 run-once s cs q = run-keeps OncePerAddress keep s cs q
   where
     heard : (x : State) (a : Arrival) (m : Reads) → OncePerAddress x → oncePerAddress (heldOf (heardOf x a m .progress .holds)) ≡ true
-    heard x a (read l m) e = go (fromMdns a)
+    heard x a (read l m) e = go (fromMdns (a .port))
       where
         f : Facts
         f = factsOf (x .setup) m
@@ -159,7 +159,7 @@ module _ (k : Claim) where
 
   heard-ready : (from : ℕ) (s : State) (a : Arrival) (x : Reads) → ReceiveAccepted s a → Ready from (s .progress) → Ready from (heardOf s a x .progress)
   heard-ready from s a (refused n) p q = q
-  heard-ready from s a (read l m) p q = go (fromMdns a)
+  heard-ready from s a (read l m) p q = go (fromMdns (a .port))
     where
       f : Facts
       f = factsOf (s .setup) m

@@ -8,9 +8,10 @@ use Rattle.claims.specs.Time.{recently, sentOf}
 use Rattle.claims.specs.Claims.{heldNow, claimOf}
 use Rattle.claims.specs.records.Own.{claimFor}
 use Rattle.claims.specs.declared.records.Own.{Own}
-use Rattle.claims.specs.answers.Answers.{gapOf}
+use Rattle.claims.specs.answers.Answers.{gapOf, quarterTtl}
 use Rattle.facts.specs.probe.Probe.{isProbe}
-use Rattle.facts.specs.Facts.{isAsked, isKnown, claimName}
+use Rattle.facts.specs.Questions.{isQm}
+use Rattle.facts.specs.Facts.{isAsked, isAskedAs, isKnown, claimName}
 use Rattle.responder.specs.declared.State.{State}
 
 -- "A record is due when its claim is held (PTR: the instance claim), a question of a query has its name, its type or 255, and class 1 or 255."
@@ -23,6 +24,14 @@ unfoldable pub hasCause : State → ℕ → Message → Own → Bool
 hasCause s time m o =
     isKnown (s .setup) o m || recently (sentOf o (s .progress .sent)) time (gapOf (isProbe (claimName (s .setup) (claimFor o)) m))
 
--- due, and not omitted
+-- "A record or NSEC asked for from port 5353 only by questions with" the top bit of their class "goes to the asker by unicast if it was multicast less than a quarter
+-- of its TTL ago, else by multicast."
+unfoldable pub isToAsker : State → ℕ → Message → Own → Bool
+isToAsker s time m o = not (isAskedAs isQm (s .setup) o m) && recently (sentOf o (s .progress .sent)) time (quarterTtl o)
+
+-- due and not omitted, by multicast; and by unicast, for which there is no gap
 abbrev pub isWanted : State → ℕ → Message → Own → Bool
-isWanted s time m o = isDue s m o && not (hasCause s time m o)
+isWanted s time m o = isDue s m o && (not (isToAsker s time m o) && not (hasCause s time m o))
+
+abbrev pub isUnicast : State → ℕ → Message → Own → Bool
+isUnicast s time m o = isDue s m o && (isToAsker s time m o && not (isKnown (s .setup) o m))

@@ -18,6 +18,10 @@ use Rattle.responder.specs.declared.State.{State}
 unfoldable pub wrongState : State → Bool
 wrongState s = not (validSetup (s .setup)) || wrongStartDraw (s .progress .draw)
 
+-- 3 of a packet received: either buffer is too small
+abbrev pub smallBuffers : Arrival → Bool
+smallBuffers a = smallBuffer (a .room) || smallBuffer (a .unicastroom)
+
 unfoldable pub startRefusal : Setup → ℕ → ℕ → ℕ
 startRefusal setup time draw =
     firstRefusal ((TIME, lateStart time) ∷ ((DRAW, wrongStartDraw draw) ∷ ((SETUP, not (validSetup setup)) ∷ [])))
@@ -25,7 +29,7 @@ startRefusal setup time draw =
 unfoldable pub receiveRefusal : State → Arrival → ℕ
 receiveRefusal s a =
     firstRefusal
-    ((TIME, wrongTime (s .progress) (a .time)) ∷ ((DRAW, wrongDraws (a .draw) (a .hold)) ∷ ((BUFFER, smallBuffer (a .room)) ∷
+    ((TIME, wrongTime (s .progress) (a .time)) ∷ ((DRAW, wrongDraws (a .draw) (a .hold)) ∷ ((BUFFER, smallBuffers a) ∷
     (messageTests (a .port) (a .packet) ++ ((SETUP, wrongState s) ∷ [])))))
 
 unfoldable pub tickRefusal : State → Tick → ℕ

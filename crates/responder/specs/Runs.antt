@@ -3,12 +3,12 @@
 use Prim.Native.Nat.{ℕ, _+_, _≤_}
 use mathlib.Core.Bool.{Bool, false, cond, _&&_}
 use lib.Dec.{eqb}
-use mathlib.Core.List.{List, [], _∷_}
+use mathlib.Core.List.{List, [], _∷_, _++_}
 use Rattle.claims.specs.declared.records.Claim.{Claim}
 use Rattle.claims.specs.steps.Tick.{probesFor}
 use Rattle.responder.specs.Handed.{Arrival, Tick}
 use Rattle.responder.specs.Refusals.{receiveRefusal, tickRefusal}
-use Rattle.responder.specs.Calls.{receivedPacket, destinationOf, receiveOf, walkedOf, tickedPacket, tickOf, Destination, multicast, Parcel, parcels}
+use Rattle.responder.specs.Calls.{receivedPacket, unicastPacket, receiveOf, walkedOf, tickedPacket, tickOf, multicast, unicast, Parcel, parcels}
 use Rattle.responder.specs.declared.State.{State}
 use Rattle.responder.specs.declared.Answer.{Answer}
 
@@ -34,19 +34,18 @@ abbrev pub stateAfter : State → Call → State
 stateAfter s (received a) = receiveOf s a .state
 stateAfter s (ticked t) = tickOf s t .state
 
--- the packet that a call writes, empty where there is none
+-- the packets that a call writes, to all and to the asker, empty where there is none
 abbrev pub packetOf : State → Call → List ℕ
 packetOf s (received a) = receivedPacket s a
 packetOf s (ticked t) = tickedPacket s t
 
--- and where it goes
-abbrev pub goesTo : Call → Destination
-goesTo (received a) = destinationOf a
-goesTo (ticked t) = multicast
+abbrev pub unicastOf : State → Call → List ℕ
+unicastOf s (received a) = unicastPacket s a
+unicastOf s (ticked t) = []
 
 -- what a call sends
 abbrev pub sentBy : State → Call → List Parcel
-sentBy s c = parcels (goesTo c) (packetOf s c)
+sentBy s c = parcels multicast (packetOf s c) ++ parcels unicast (unicastOf s c)
 
 -- the state after a list of calls
 abbrev pub run : State → List Call → State

@@ -9,14 +9,16 @@ ghost use lib.ListN.{length};
 ghost use Rattle.wire.specs.message.Message.{Message};
 ghost use Rattle.wire.specs.message.Layout.{read, messageAt, readOf};
 ghost use Rattle.wire.specs.message.Readable.{messageIn};
-ghost use Rattle.writer.specs.own_packets.Own.{refusal, laidOver};
+ghost use mathlib.Core.Bool.{_||_};
+ghost use Rattle.writer.specs.own_packets.Own.{lengthOf, refusal, laidOver};
 ghost use Rattle.responder.specs.Handed.{Arrival, Tick};
-ghost use Rattle.responder.specs.Refusals.{wrongState, startRefusal, tickRefusal, admitted};
-ghost use Rattle.responder.specs.Calls.{refusalOf, multicast, unicast, blank, answerFor, sentOr, packetFor, plainFor, startOf, Receives, Ticks};
+ghost use Rattle.responder.specs.Refusals.{smallBuffer, wrongState, startRefusal, tickRefusal, admitted};
+ghost use Rattle.responder.specs.Calls.{refusalOf, answerWith, blank, packetFor, plainFor, replyTo, heardBy, startOf, Receives, Ticks};
 use claims::ClaimState;
 use claims::Progress;
 use claims::When;
 use claims::answers::Coming;
+use claims::answers::Facts;
 use claims::holds::Address;
 use claims::records::Set;
 use claims::steps::Output;
@@ -37,13 +39,14 @@ pub struct State {
     pub progress: Progress,
 }
 
-// What a call answers: the number of its refusal, that it sends nothing, or the length of the packet that it wrote: to all on the link, or to where the
-// message came from that it answers.
+// What a call answers: the number of its refusal, that it sends nothing, or the lengths of the packets that it wrote: of the one to all on the link, of the
+// one to where the message came from that it answers, or of both.
 pub enum Answer {
     Refused(u8),
     Quiet,
     Sent(usize),
     Unicast(usize),
+    Both(usize, usize),
 }
 
 pub struct Started {
@@ -153,56 +156,63 @@ fn state_refused(state: State) -> bool
     true
 }
 
-fn answer_for(w: Written) -> Answer
-    ensures { λ r. ⌜ r ≡ answerFor multicast w ⌝ }
+// The answer for packets of these lengths, to all and to the asker.
+fn answer_with(sent: usize, replied: usize) -> Answer
+    ensures { λ r. ⌜ r ≡ answerWith sent replied ⌝ }
+{
+    if sent == 0 {
+        if replied == 0 {
+            return Answer::Quiet;
+        }
+        return Answer::Unicast(replied);
+    }
+    if replied == 0 {
+        return Answer::Sent(sent);
+    }
+    Answer::Both(sent, replied)
+}
+
+// The length of what was written.
+fn length_of(w: Written) -> usize
+    ensures { λ r. ⌜ r ≡ lengthOf w ⌝ }
 {
     match w {
-        Written::Sent(n) => Answer::Sent(n),
-        Written::Nothing => Answer::Quiet,
-        Written::Refused(n) => Answer::Refused(n),
+        Written::Sent(n) => n,
+        Written::Nothing => 0,
+        Written::Refused(_) => 0,
     }
 }
 
-fn unicast_for(w: Written) -> Answer
-    ensures { λ r. ⌜ r ≡ answerFor unicast w ⌝ }
-{
-    match w {
-        Written::Sent(n) => Answer::Unicast(n),
-        Written::Nothing => Answer::Quiet,
-        Written::Refused(n) => Answer::Refused(n),
-    }
-}
-
-// Writes what a call sends, if anything.
-fn send(setup: Setup, output: Output, out: &mut [u8]) -> Answer
+// Writes what a call sends to all, if anything, and gives its length.
+fn send(setup: Setup, output: Output, out: &mut [u8]) -> usize
     requires { ⌜ refusal setup (now out) ≡ 0 ⌝ }
-    ensures { λ r. ⌜ r ≡ sentOr multicast (packetFor setup output) ⌝ }
+    ensures { λ r. ⌜ r ≡ length (packetFor setup output) ⌝ }
     ensures { λ _. ⌜ now (out .exit) ≡ laidOver (packetFor setup output) (now (out .entry)) ⌝ }
 {
     match output {
-        Output::Nothing => Answer::Quiet,
+        Output::Nothing => 0,
         Output::Probe(k) => {
             let w = writer::own_packets::probe(setup, k, out);
-            answer_for(w)
+            length_of(w)
         }
         Output::Response(set) => {
-            let w = writer::own_packets::respond(setup, set, out);
-            answer_for(w)
+            let w = writer::own_packets::respond(setup, 0, set, out);
+            length_of(w)
         }
     }
 }
 
-// Writes the reply to the question of a plain resolver, where its query has just one and there is a record to send.
-fn reply(setup: Setup, set: Set, packet: &[u8], l: Layout, out: &mut [u8]) -> Answer
+// Writes the reply to the question of a plain resolver, where its query has just one and there is a record to send, and gives its length.
+fn plain_reply(setup: Setup, set: Set, packet: &[u8], l: Layout, out: &mut [u8]) -> usize
     requires { ⌜ refusal setup (now out) ≡ 0 ⌝ }
     requires { ⌜ ((says : Message) × (messageAt (now packet) ≡ read l says)) ⌝ }
-    ensures { λ r. ⌜ (let m = messageIn (now (packet .entry)) l in r ≡ sentOr unicast (plainFor setup set (m .id) (m .questions))) ⌝ }
+    ensures { λ r. ⌜ (let m = messageIn (now (packet .entry)) l in r ≡ length (plainFor setup set (m .id) (m .questions))) ⌝ }
     ensures { λ _. ⌜ (let m = messageIn (now (packet .entry)) l in
         now (out .exit) ≡ laidOver (plainFor setup set (m .id) (m .questions)) (now (out .entry))) ⌝ }
 {
     let questions = l.questions;
     if questions.count != 1 {
-        return Answer::Quiet;
+        return 0;
     }
     match wire::message::question_at(packet, questions.at) {
         QuestionRead::Found(q) => {
@@ -219,10 +229,34 @@ fn reply(setup: Setup, set: Set, packet: &[u8], l: Layout, out: &mut [u8]) -> An
                 q.class,
                 out,
             );
-            unicast_for(w)
+            length_of(w)
         }
-        QuestionRead::Malformed => Answer::Quiet,
+        QuestionRead::Malformed => 0,
     }
+}
+
+// Writes what goes to where a message came from, if anything, and gives its length.
+fn reply(setup: Setup, set: Set, port: u16, packet: &[u8], l: Layout, out: &mut [u8]) -> usize
+    requires { ⌜ refusal setup (now out) ≡ 0 ⌝ }
+    requires { ⌜ ((says : Message) × (messageAt (now packet) ≡ read l says)) ⌝ }
+    ensures { λ r. ⌜ r ≡ length (replyTo setup port set (messageIn (now (packet .entry)) l)) ⌝ }
+    ensures { λ _. ⌜ now (out .exit) ≡ laidOver (replyTo setup port set (messageIn (now (packet .entry)) l)) (now (out .entry)) ⌝ }
+{
+    if port != MDNS_PORT {
+        return plain_reply(setup, set, packet, l, out);
+    }
+    let w = writer::own_packets::respond(setup, l.id, set, out);
+    length_of(w)
+}
+
+// Refusal 3 of a packet received: either out buffer is too small.
+fn rooms_refused(room: usize, unicastroom: usize) -> bool
+    ensures { λ r. ⌜ r ≡ smallBuffer room || smallBuffer unicastroom ⌝ }
+{
+    if room < LEAST_OUT {
+        return true;
+    }
+    unicastroom < LEAST_OUT
 }
 
 // Where the sections of a packet received lie, or the refusal of the call.
@@ -235,9 +269,11 @@ fn admit(
     hold: u64,
     packet: &[u8],
     room: usize,
+    unicastroom: usize,
 ) -> MessageRead
     ensures { λ r. ⌜ (let p : List ℕ = now (packet .entry) in
-        let a : Arrival = record { time = time; from = from; port = port; draw = draw; hold = hold; packet = p; room = room } in
+        let a : Arrival =
+        record { time = time; from = from; port = port; draw = draw; hold = hold; packet = p; room = room; unicastroom = unicastroom } in
         r ≡ readOf (admitted state a)) ⌝ }
 {
     let progress = state.progress;
@@ -247,7 +283,7 @@ fn admit(
     if claims::refusal_tests::draws_refused(draw, hold) {
         return MessageRead::Refused(wire::refusals::DRAW);
     }
-    if room < LEAST_OUT {
+    if rooms_refused(room, unicastroom) {
         return MessageRead::Refused(wire::refusals::BUFFER);
     }
     match wire::message::read_from(packet, port) {
@@ -261,8 +297,24 @@ fn admit(
     }
 }
 
-// Takes a packet that came from an address and port, with the draws for a PTR reply and for a hold, and writes the answers that go out at once: to all, or to a
-// plain resolver, which asks from another port than 5353.
+// What a message that came by a port does to the claims, and which records go out for it.
+fn hear(
+    progress: Progress,
+    port: u16,
+    coming: Coming,
+    facts: Facts,
+    aaaa: bool,
+) -> claims::answers::Received
+    ensures { λ r. ⌜ r ≡ heardBy progress port coming facts aaaa ⌝ }
+{
+    if port != MDNS_PORT {
+        return claims::answers::plain(progress, coming.now, facts, aaaa);
+    }
+    claims::answers::receive(progress, coming, facts, aaaa)
+}
+
+// Takes a packet that came from an address and port, with the draws for a PTR reply and for a hold, and writes the answers that go out at once: to all into
+// the first buffer; into the second to where the packet came from, a plain resolver, which asks from another port than 5353, or one that wants unicast.
 pub fn receive(
     state: State,
     time: u64,
@@ -272,39 +324,43 @@ pub fn receive(
     hold: u64,
     packet: &[u8],
     out: &mut [u8],
+    unicast: &mut [u8],
 ) -> Received
     ensures { λ r. ⌜ (let room = length (now (out .entry)) in
+        let unicastroom = length (now (unicast .entry)) in
         let p : List ℕ = now (packet .entry) in
-        let a : Arrival = record { time = time; from = from; port = port; draw = draw; hold = hold; packet = p; room = room } in
-        Receives state a (now (out .entry)) r (now (out .exit))) ⌝ }
+        let a : Arrival =
+        record { time = time; from = from; port = port; draw = draw; hold = hold; packet = p; room = room; unicastroom = unicastroom } in
+        Receives state a (now (out .entry)) (now (unicast .entry)) r (now (out .exit)) (now (unicast .exit))) ⌝ }
 {
-    match admit(state, time, from, port, draw, hold, packet, out.len()) {
+    match admit(
+        state,
+        time,
+        from,
+        port,
+        draw,
+        hold,
+        packet,
+        out.len(),
+        unicast.len(),
+    ) {
         MessageRead::Read(l) => {
             let setup = state.setup;
             let facts = facts::facts(packet, l, setup);
-            if port != MDNS_PORT {
-                let asked = claims::answers::plain(state.progress, time, facts, setup.hasaaaa);
-                let due = asked.answers;
-                let kept = asked.progress;
-                return Received {
-                    answer: reply(setup, due, packet, l, out),
-                    state: State {
-                        setup,
-                        progress: kept,
-                    },
-                };
-            }
             let coming = Coming {
                 now: time,
                 from,
                 draw,
                 hold,
             };
-            let heard = claims::answers::receive(state.progress, coming, facts, setup.hasaaaa);
-            let set = heard.answers;
+            let heard = hear(state.progress, port, coming, facts, setup.hasaaaa);
+            let answers = heard.answers;
+            let back = heard.unicast;
             let after = heard.progress;
+            let sent = send(setup, Output::Response(answers), out);
+            let replied = reply(setup, back, port, packet, l, unicast);
             Received {
-                answer: send(setup, Output::Response(set), out),
+                answer: answer_with(sent, replied),
                 state: State {
                     setup,
                     progress: after,
@@ -353,8 +409,9 @@ pub fn tick(state: State, time: u64, out: &mut [u8]) -> Ticked
     let output = walked.output;
     let after = walked.progress;
     let more = walked.more;
+    let sent = send(setup, output, out);
     Ticked {
-        answer: send(setup, output, out),
+        answer: answer_with(sent, 0),
         more,
         state: State {
             setup,

@@ -88,8 +88,8 @@ module _ (s : Setup) (ok : Valid s) (style : Style) where
 unasked : false ≡ true → isName [] ≡ true
 unasked e = let z : _≡_ {A = ℕ} 0 1 = cc in absurd (omega arith)
 
-response-long : (s : Setup) → Valid s → (chosen : Set) → length (packetIn s responseStyle [] (responseRecords s chosen)) ≤ 1370
-response-long s ok chosen = omega (arith, style-long s ok responseStyle [] unasked (responseRecords s chosen), response-size s ok chosen)
+response-long : (s : Setup) → Valid s → (id : ℕ) (chosen : Set) → length (packetIn s (responseStyle id) [] (responseRecords s chosen)) ≤ 1370
+response-long s ok id chosen = omega (arith, style-long s ok (responseStyle id) [] unasked (responseRecords s chosen), response-size s ok chosen)
 
 probe-long : (s : Setup) → Valid s → (claim : Claim) → length (packetIn s probeStyle (ownName s (firstOf claim)) (probeRecords s claim)) ≤ 1370
 probe-long s ok claim =
@@ -106,11 +106,11 @@ some (o ∷ os) packet h = refl
 
 pub packets-fit : PacketsFit
 unfolding responsePacket probePacket
-packets-fit s h chosen claim = (go (responseRecords s chosen), probe-long s (valid s h) claim)
+packets-fit s h id chosen claim = (go (responseRecords s chosen), probe-long s (valid s h) claim)
   where
-    go : (os : List Own) → length (noneIfEmpty os (packetIn s responseStyle [] (responseRecords s chosen))) ≤ 1370
+    go : (os : List Own) → length (noneIfEmpty os (packetIn s (responseStyle id) [] (responseRecords s chosen))) ≤ 1370
     go [] = omega arith
-    go (o ∷ os) = response-long s (valid s h) chosen
+    go (o ∷ os) = response-long s (valid s h) id chosen
 
 pub style-back : StyleBack
 style-back s h style ttls plain name named os most =
@@ -120,9 +120,9 @@ style-back s h style ttls plain name named os most =
 
 pub response-back : ResponseBack
 unfolding responsePacket responseOf
-response-back s h chosen nz =
-    ap messageAt (some (responseRecords s chosen) (packetIn s responseStyle [] (responseRecords s chosen)) nz)
-    ∙ style-back s h responseStyle each refl [] unasked (responseRecords s chosen) (omega (arith, response-long s (valid s h) chosen))
+response-back s h id chosen nz =
+    ap messageAt (some (responseRecords s chosen) (packetIn s (responseStyle id) [] (responseRecords s chosen)) nz)
+    ∙ style-back s h (responseStyle id) each refl [] unasked (responseRecords s chosen) (omega (arith, response-long s (valid s h) id chosen))
 
 pub probe-back : ProbeBack
 unfolding probePacket probeOf
@@ -132,8 +132,8 @@ probe-back s h claim =
 
 pub own-composed : OwnComposed
 unfolding responseOf probeOf
-own-composed s h chosen claim = (
-  composed false _ (style-writable s (valid s h) responseStyle [] unasked (responseRecords s chosen) each refl) .0,
+own-composed s h id chosen claim = (
+  composed false _ (style-writable s (valid s h) (responseStyle id) [] unasked (responseRecords s chosen) each refl) .0,
   composed false _
       (style-writable s (valid s h) probeStyle (ownName s (firstOf claim)) (λ e. own-is-name s (valid s h) (firstOf claim))
       (probeRecords s claim) each refl) .0,

@@ -11,9 +11,9 @@ use Rattle.writer.specs.Items.{Writing, putQuestion, putRecord}
 use Rattle.writer.specs.own_packets.Packets.{header}
 use Rattle.roundtrip.specs.Puts.{Buffers, held, MessagePut}
 
--- "dock.local" with type 255 and class 1, and its address
+-- "dock.local" with type 255 and class 0x8001, and its address
 abbrev pub question : Question
-question = record { name = 4 ∷ 100 ∷ 111 ∷ 99 ∷ 107 ∷ 5 ∷ 108 ∷ 111 ∷ 99 ∷ 97 ∷ 108 ∷ 0 ∷ []; rtype = 255; class = 1 }
+question = record { name = 4 ∷ 100 ∷ 111 ∷ 99 ∷ 107 ∷ 5 ∷ 108 ∷ 111 ∷ 99 ∷ 97 ∷ 108 ∷ 0 ∷ []; rtype = 255; class = 0x8001 }
 
 abbrev pub address : Record
 address = record { owner = question .name; rtype = 1; class = 1; ttl = 120; rdata = 10 ∷ 0 ∷ 0 ∷ 7 ∷ [] }

@@ -73,28 +73,29 @@ StyleBack =
     → (style .asks ≡ true → isName name ≡ true) → (os : List Own) → length (packetIn s style name os) ≤ 8972
     → messageAt (packetIn s style name os) ≡ read (layoutOf (style .whole) (styledMessage s style name os)) (styledMessage s style name os)
 
--- `response-back`: a response of any records that the set-up has, at least one, is read as exactly those, "in the order PTR, SRV, TXT, A, AAAA" and
--- then NSEC
+-- `response-back`: a response with any ID of any records that the set-up has, at least one, is read as that ID and exactly those, "in the order PTR, SRV, TXT,
+-- A, AAAA" and then NSEC
 abbrev pub ResponseBack : Type 0
 ResponseBack =
-    (s : Setup) → validSetup s ≡ true → (chosen : Set) → (responseRecords s chosen ≡ [] → ⊥)
-    → messageAt (responsePacket s chosen) ≡ read (layoutOf false (responseOf s chosen)) (responseOf s chosen)
+    (s : Setup) → validSetup s ≡ true → (id : ℕ) (chosen : Set) → (responseRecords s chosen ≡ [] → ⊥)
+    → messageAt (responsePacket s id chosen) ≡ read (layoutOf false (responseOf s id chosen)) (responseOf s id chosen)
 
--- `probe-back`: a claim's probe is read as "one question (type 255, class 1) with the claim's records in Authority, by rising type"
+-- `probe-back`: a claim's probe is read as "one question (type 255, ..) with the claim's records in Authority, by rising type", its class 0x8001
 abbrev pub ProbeBack : Type 0
 ProbeBack = (s : Setup) → validSetup s ≡ true → (claim : Claim) → messageAt (probePacket s claim) ≡ read (layoutOf false (probeOf s claim)) (probeOf s claim)
 
 -- `packets-fit`: "The largest packet must still fit 1,452 bytes"; any response and any probe has at most 1,370
 abbrev pub PacketsFit : Type 0
 PacketsFit =
-    (s : Setup) → validSetup s ≡ true → (chosen : Set) (claim : Claim)
-    → (length (responsePacket s chosen) ≤ 1370) × (length (probePacket s claim) ≤ 1370)
+    (s : Setup) → validSetup s ≡ true → (id : ℕ) (chosen : Set) (claim : Claim)
+    → (length (responsePacket s id chosen) ≤ 1370) × (length (probePacket s claim) ≤ 1370)
 
 -- `own-composed`: their names are cut as the sentence says
 abbrev pub OwnComposed : Type 0
 OwnComposed =
-    (s : Setup) → validSetup s ≡ true → (chosen : Set) (claim : Claim)
-    → MessageLaid false (responseOf s chosen) (written false (responseOf s chosen)) × MessageLaid false (probeOf s claim) (written false (probeOf s claim))
+    (s : Setup) → validSetup s ≡ true → (id : ℕ) (chosen : Set) (claim : Claim)
+    → MessageLaid false (responseOf s id chosen) (written false (responseOf s id chosen))
+    × MessageLaid false (probeOf s claim) (written false (probeOf s claim))
 
 -- ---- replies to plain resolvers
 

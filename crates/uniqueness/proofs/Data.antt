@@ -165,14 +165,14 @@ tie-law s t k type d e same p q n = go (tie (ours s (ownClaim k)) (ours t (ownCl
 
 -- ---- a conflict
 
-class-one : (s : Setup) (k : Claim) (type : ℕ) (r : Own) → Owned k type r → eqb (classOf (ownRecord s responseStyle r .class)) 1 ≡ true
+class-one : (s : Setup) (k : Claim) (type : ℕ) (r : Own) → Owned k type r → eqb (classOf (ownRecord s (responseStyle 0) r .class)) 1 ≡ true
 unfolding ownRecord
 class-one s k type r (srv f) = refl
 class-one s k type r (txt f) = refl
 class-one s k type r (a f) = refl
 class-one s k type r (aaaa f) = refl
 
-ttl-some : (s : Setup) (k : Claim) (type : ℕ) (r : Own) → Owned k type r → not (eqb (ownRecord s responseStyle r .ttl) 0) ≡ true
+ttl-some : (s : Setup) (k : Claim) (type : ℕ) (r : Own) → Owned k type r → not (eqb (ownRecord s (responseStyle 0) r .ttl) 0) ≡ true
 unfolding ownRecord
 ttl-some s k type r (srv f) = refl
 ttl-some s k type r (txt f) = refl
@@ -187,27 +187,27 @@ other-bytes d e n = go (sameBytes d e) refl
     go false h = refl
 
 module _ (s t : Setup) (k : Claim) (type : ℕ) (r : Own) (o : Owned k type r) (same : sameName (name s k) (name t k) ≡ true) (n : ownRdata s r ≢ ownRdata t r) where
-  named : sameName (ownRecord s responseStyle r .owner) (ownName t r) ≡ true
+  named : sameName (ownRecord s (responseStyle 0) r .owner) (ownName t r) ≡ true
   unfolding ownRecord
   named = rw (own-owner s k type r o, own-owner t k type r o) same
 
-  typed : eqb (ownRecord s responseStyle r .rtype) (ownType r) ≡ true
+  typed : eqb (ownRecord s (responseStyle 0) r .rtype) (ownType r) ≡ true
   unfolding ownRecord
   typed = eq-eqb (ownType r) (ownType r) refl
 
-  other : not (sameBytes (ownRecord s responseStyle r .rdata) (ownRdata t r)) ≡ true
+  other : not (sameBytes (ownRecord s (responseStyle 0) r .rdata) (ownRdata t r)) ≡ true
   unfolding ownRecord
   other = other-bytes (ownRdata s r) (ownRdata t r) n
 
-  differ : differs (ownName t r) (ownType r) (ownRdata t r) (ownRecord s responseStyle r) ≡ true
+  differ : differs (ownName t r) (ownType r) (ownRdata t r) (ownRecord s (responseStyle 0) r) ≡ true
   differ = rw (named, class-one s k type r o, typed, ttl-some s k type r o, other) refl
 
-  found : (m : Message) → hasRecord t r ≡ true → Among (ownRecord s responseStyle r) (m .answers) → conflicted t r m ≡ true
+  found : (m : Message) → hasRecord t r ≡ true → Among (ownRecord s (responseStyle 0) r) (m .answers) → conflicted t r m ≡ true
   unfolding conflicted
   found m h i =
       and-both (hasRecord t r) (someOf (differs (ownName t r) (ownType r) (ownRdata t r)) (allRecords m)) h
-      (some-in (differs (ownName t r) (ownType r) (ownRdata t r)) (ownRecord s responseStyle r) (allRecords m)
-      (in-append (ownRecord s responseStyle r) (m .answers) (m .authorities ++ m .additionals) i) differ)
+      (some-in (differs (ownName t r) (ownType r) (ownRdata t r)) (ownRecord s (responseStyle 0) r) (allRecords m)
+      (in-append (ownRecord s (responseStyle 0) r) (m .answers) (m .authorities ++ m .additionals) i) differ)
 
 by-claim : (t : Setup) (k : Claim) (type : ℕ) (r : Own) → Owned k type r → (m : Message) → conflicted t r m ≡ true → inConflict t (ownClaim k) m ≡ true
 by-claim t k type r o m h = some-in (λ (p : Own). conflicted t p m) r (claimed (ownClaim k)) (among-claimed k type r o) h

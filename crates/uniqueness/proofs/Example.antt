@@ -4,7 +4,7 @@
 use mathlib.Core.Path.{_≡_, refl, sym, ap, _∙_}
 use mathlib.Core.Bool.{Bool, true, false, not}
 use mathlib.Core.Option.{some}
-use mathlib.Core.List.{List, [], _∷_}
+use mathlib.Core.List.{List, [], _∷_, _++_}
 use Prim.Native.Nat.{ℕ, _+_}
 use lib.ListN.{length}
 use lib.Dec.{leb, ltb}
@@ -25,7 +25,7 @@ use Rattle.claims.specs.Time.{afterMs, markedAll}
 use Rattle.claims.specs.Claims as claims
 use Rattle.claims.specs.records.Sets as sets
 use Rattle.claims.specs.records.Sets.{only}
-use Rattle.claims.specs.declared.records.Own.the-variants.{Ptr}
+use Rattle.claims.specs.declared.records.Own.the-variants.{Ptr, Srv, Txt}
 use Rattle.claims.specs.declared.ClaimState.{ClaimState}
 use Rattle.claims.specs.declared.ClaimState.the-variants.{Waiting, Probing1, Probing2, Probing3, Deferred, Announced, Held, Lost}
 use Rattle.claims.specs.Refusals.{multicastsKept, holdsKept, kept, wrongTime}
@@ -38,25 +38,25 @@ use Rattle.facts.specs.tiebreak.Lists.{listUnder}
 use Rattle.claims.specs.answers.Answers as answers
 use Rattle.claims.specs.answers.Held as held
 use Rattle.claims.specs.holds.Holds as queries
-use Rattle.facts.specs.Facts.{isAsked, isKnown, conflicted, theirsLater, responseFacts, queryFacts, factsOf}
+use Rattle.facts.specs.Facts.{isAsked, isAskedAs, isKnown, conflicted, theirsLater, responseFacts, queryFacts, factsOf}
 use Rattle.writer.specs.Fit.{formFor}
 use Rattle.writer.specs.Items.{putName, dataBytes, dataPlaces, putFields}
 use Rattle.writer.specs.own_packets.Packets.{packetOf}
 use Rattle.writer.specs.own_packets.Styles.{ownRecord}
 use Rattle.writer.specs.own_packets.Own.{responseRecords, probeRecords, responseOf, probeOf, responsePacket, probePacket, plainRecords, plainPacket}
 use Rattle.responder.specs.Refusals.{wrongState, startRefusal, receiveRefusal, tickRefusal}
-use Rattle.responder.specs.Calls.{multicast, unicast, blank, startOf, packetFor, receivedPacket, receiveOf, tickedPacket, tickOf}
+use Rattle.responder.specs.Calls.{blank, startOf, packetFor, receivedPacket, unicastPacket, receiveOf, tickedPacket, tickOf}
 use Rattle.responder.specs.declared.State.{State}
-use Rattle.link.specs.Responder.{Claim, instance, host}
-use Rattle.link.specs.Entries.{entry, clockOf, ownerOf, setupIn, setupOf as startedWith, timeAt, reply, returned, called, after, runs, isAccepted, acceptedAt, parcelsOf, sentAt, heardIn, Entry}
+use Rattle.link.specs.Responder.{Claim, instance, host, everyone, unicast}
+use Rattle.link.specs.Entries.{entry, clockOf, ownerOf, setupIn, setupOf as startedWith, timeAt, reply, returned, called, after, runs, isAccepted, acceptedAt, parcelsOf, sentAt, heardIn, sourceIn, Entry}
 use Rattle.link.specs.Premises.{Premises}
 use Rattle.link.specs.Holding.{isAnd, anyOf, respondsFor, conflictsWith, defeatsOf, writes, hears, holds}
 use Rattle.link.specs.Demand3.{Unopposed, holdingTime}
-use Rattle.link.specs.Witness.{every, someBelow, allOf, sameBytes as samePackets, ordered, atOneRate, owed, taken, allDelivered, allOnTime, meets}
+use Rattle.link.specs.Witness.{every, someBelow, allOf, sameBytes as samePackets, reaches, addressIn, ordered, atOneRate, owed, takes, taken, deliveredTo, allDelivered, allOnTime, meets}
 use Rattle.link.proofs.Witness.{met, below}
-use Rattle.uniqueness.specs.Responder.{sends, start, tick, receive, dueTimes, due, responds, conflicts, defeats, responder}
+use Rattle.uniqueness.specs.Responder.{sends, halves, backTo, start, tick, receive, dueTimes, due, responds, conflicts, defeats, responder}
 use Rattle.uniqueness.specs.Example as example
-use Rattle.uniqueness.specs.Example.{setupOf, one, other, alone, contest, rivals, ptrQuery, truncatedQuery, plainQuery, three}
+use Rattle.uniqueness.specs.Example.{setupOf, one, other, srvAndTxt, somewhere, aloneAt, contestAt, rivalsAt, threeAt, dividedAt, alone, contest, rivals, ptrQuery, truncatedQuery, plainQuery, three, divided}
 
 -- the claim is lost; the instance claim of a state is
 abbrev pub isLost : ClaimState → Bool
@@ -91,11 +91,11 @@ Asked es d s n =
 -- everything that the checker computes of the lists: of the first two, of the third, and of the last
 abbrev Seen : Type 0
 Seen =
-    (meets responder alone ≡ true)
+    (meets responder alone aloneAt ≡ true)
     × Asked alone 0 one 9
     × Holds alone 0 one instance 9
     × Holds alone 0 one host 9
-    × (meets responder contest ≡ true)
+    × (meets responder contest contestAt ≡ true)
     × (holds responder contest 0 one instance (length contest) ≡ true)
     × (holds responder contest 9 other instance (length contest) ≡ false)
     × (isAnd lostBy (after responder contest 9 (length contest)) ≡ true)
@@ -103,7 +103,7 @@ Seen =
 
 abbrev SeenRivals : Type 0
 SeenRivals =
-    (meets responder rivals ≡ true)
+    (meets responder rivals rivalsAt ≡ true)
     × Asked rivals 1 other 38
     × Holds rivals 1 other instance 38
     × Holds rivals 1 other host 38
@@ -116,7 +116,7 @@ SeenRivals =
 
 abbrev SeenThree : Type 0
 SeenThree =
-    (meets responder three ≡ true)
+    (meets responder three threeAt ≡ true)
     × (holds responder three 0 other instance 17 ≡ true)
     × (holds responder three 0 other instance 18 ≡ false)
     × (holds responder three 0 other instance (length three) ≡ true)
@@ -129,15 +129,15 @@ SeenThree =
     × (runs responder three 30 (length three) ≡ true)
 
 seen : Seen
-unfolding setupOf alone contest rivals three ptrQuery plainQuery plainPacket plainRecords answers.plainOf answers.dueTo sets.withData labelsFill holds writes hears anyOf respondsFor conflictsWith defeatsOf responds conflicts defeats meets ordered atOneRate owed taken allDelivered allOnTime every someBelow allOf samePackets entry clockOf ownerOf setupIn reply returned called after isAccepted parcelsOf heardIn start tick receive dueTimes due blank startOf packetFor receivedPacket receiveOf tickedPacket tickOf wrongState startRefusal receiveRefusal tickRefusal ownRecord responseRecords probeRecords responseOf probeOf responsePacket probePacket putName dataBytes dataPlaces putFields packetOf isAsked isKnown conflicted theirsLater responseFacts queryFacts factsOf answers.heardOf answers.asksOf answers.wantedOf answers.joined answers.judgedOf held.toHold held.heldBack held.receiveOf queries.someFrom queries.someFree queries.union queries.knowing queries.knowingAll queries.queued listUnder someOf isProbe compareNumbers inTurn compareRecords insertBy sortBy tie steps.sends steps.actionTurn steps.claimTurn steps.ptrReply steps.replyTurn steps.holdAnswers steps.holdTurn steps.stepTurn steps.walked steps.endedOf steps.tickOf moreDue actionOf unsentOf sets.someOf sets.everyOf sets.picked sets.only sets.anyOf sets.atOnce sets.recordsOf multicastsKept holdsKept kept wrongTime claims.begunAt afterMs markedAll hasRecord ownLabels ownName srvRdata ownRdata labelFits instanceFits utf8.isShown utf8.shownFrom utf8.mayStand utf8.behind utf8.starts utf8.following utf8.within isLetter isNameByte allNameBytes someLetter hyphensApart serviceRule serviceFits protocolFits domainFits txtFits validSetup serviceLabels instanceLabels hostLabels standsAt placeOf cutFrom nameBytes starts namePlaces questionRead recordRead questionAt recordAt listFrom messageAt andThen sameBytes stringsFill nameAt fromRun readFrom pieceAt sameName rdataAt rdataIn formFor formIn
+unfolding setupOf alone contest rivals three ptrQuery plainQuery plainPacket plainRecords answers.plainOf answers.dueTo sets.withData labelsFill holds writes hears anyOf respondsFor conflictsWith defeatsOf responds conflicts defeats meets ordered atOneRate reaches addressIn owed takes taken deliveredTo allDelivered allOnTime every someBelow allOf samePackets entry clockOf ownerOf setupIn reply returned called after isAccepted parcelsOf heardIn sourceIn start tick receive dueTimes due blank startOf packetFor receivedPacket unicastPacket receiveOf tickedPacket tickOf wrongState startRefusal receiveRefusal tickRefusal ownRecord responseRecords probeRecords responseOf probeOf responsePacket probePacket putName dataBytes dataPlaces putFields packetOf isAsked isAskedAs isKnown conflicted theirsLater responseFacts queryFacts factsOf answers.heardOf answers.asksOf answers.wantedOf answers.askedBy answers.multicastAsks answers.unicastAsks answers.joined answers.judgedOf held.toHold held.heldBack held.receiveOf queries.someFrom queries.someFree queries.union queries.knowing queries.knowingAll queries.queued listUnder someOf isProbe compareNumbers inTurn compareRecords insertBy sortBy tie steps.sends steps.actionTurn steps.claimTurn steps.ptrReply steps.replyTurn steps.holdAnswers steps.holdTurn steps.stepTurn steps.walked steps.endedOf steps.tickOf moreDue actionOf unsentOf sets.someOf sets.everyOf sets.picked sets.only sets.anyOf sets.atOnce sets.recordsOf multicastsKept holdsKept kept wrongTime claims.begunAt afterMs markedAll hasRecord ownLabels ownName srvRdata ownRdata labelFits instanceFits utf8.isShown utf8.shownFrom utf8.mayStand utf8.behind utf8.starts utf8.following utf8.within isLetter isNameByte allNameBytes someLetter hyphensApart serviceRule serviceFits protocolFits domainFits txtFits validSetup serviceLabels instanceLabels hostLabels standsAt placeOf cutFrom nameBytes starts namePlaces questionRead recordRead questionAt recordAt listFrom messageAt andThen sameBytes stringsFill nameAt fromRun readFrom pieceAt sameName rdataAt rdataIn formFor formIn
 seen = (refl, (refl, refl, refl, refl, refl), (refl, refl, refl), (refl, refl, refl), refl, refl, refl, refl, refl)
 
 seen-rivals : SeenRivals
-unfolding setupOf alone contest rivals three ptrQuery plainQuery plainPacket plainRecords answers.plainOf answers.dueTo sets.withData labelsFill holds writes hears anyOf respondsFor conflictsWith defeatsOf responds conflicts defeats meets ordered atOneRate owed taken allDelivered allOnTime every someBelow allOf samePackets entry clockOf ownerOf setupIn reply returned called after isAccepted parcelsOf heardIn start tick receive dueTimes due blank startOf packetFor receivedPacket receiveOf tickedPacket tickOf wrongState startRefusal receiveRefusal tickRefusal ownRecord responseRecords probeRecords responseOf probeOf responsePacket probePacket putName dataBytes dataPlaces putFields packetOf isAsked isKnown conflicted theirsLater responseFacts queryFacts factsOf answers.heardOf answers.asksOf answers.wantedOf answers.joined answers.judgedOf held.toHold held.heldBack held.receiveOf queries.someFrom queries.someFree queries.union queries.knowing queries.knowingAll queries.queued listUnder someOf isProbe compareNumbers inTurn compareRecords insertBy sortBy tie steps.sends steps.actionTurn steps.claimTurn steps.ptrReply steps.replyTurn steps.holdAnswers steps.holdTurn steps.stepTurn steps.walked steps.endedOf steps.tickOf moreDue actionOf unsentOf sets.someOf sets.everyOf sets.picked sets.only sets.anyOf sets.atOnce sets.recordsOf multicastsKept holdsKept kept wrongTime claims.begunAt afterMs markedAll hasRecord ownLabels ownName srvRdata ownRdata labelFits instanceFits utf8.isShown utf8.shownFrom utf8.mayStand utf8.behind utf8.starts utf8.following utf8.within isLetter isNameByte allNameBytes someLetter hyphensApart serviceRule serviceFits protocolFits domainFits txtFits validSetup serviceLabels instanceLabels hostLabels standsAt placeOf cutFrom nameBytes starts namePlaces questionRead recordRead questionAt recordAt listFrom messageAt andThen sameBytes stringsFill nameAt fromRun readFrom pieceAt sameName rdataAt rdataIn formFor formIn
+unfolding setupOf alone contest rivals three ptrQuery plainQuery plainPacket plainRecords answers.plainOf answers.dueTo sets.withData labelsFill holds writes hears anyOf respondsFor conflictsWith defeatsOf responds conflicts defeats meets ordered atOneRate reaches addressIn owed takes taken deliveredTo allDelivered allOnTime every someBelow allOf samePackets entry clockOf ownerOf setupIn reply returned called after isAccepted parcelsOf heardIn sourceIn start tick receive dueTimes due blank startOf packetFor receivedPacket unicastPacket receiveOf tickedPacket tickOf wrongState startRefusal receiveRefusal tickRefusal ownRecord responseRecords probeRecords responseOf probeOf responsePacket probePacket putName dataBytes dataPlaces putFields packetOf isAsked isAskedAs isKnown conflicted theirsLater responseFacts queryFacts factsOf answers.heardOf answers.asksOf answers.wantedOf answers.askedBy answers.multicastAsks answers.unicastAsks answers.joined answers.judgedOf held.toHold held.heldBack held.receiveOf queries.someFrom queries.someFree queries.union queries.knowing queries.knowingAll queries.queued listUnder someOf isProbe compareNumbers inTurn compareRecords insertBy sortBy tie steps.sends steps.actionTurn steps.claimTurn steps.ptrReply steps.replyTurn steps.holdAnswers steps.holdTurn steps.stepTurn steps.walked steps.endedOf steps.tickOf moreDue actionOf unsentOf sets.someOf sets.everyOf sets.picked sets.only sets.anyOf sets.atOnce sets.recordsOf multicastsKept holdsKept kept wrongTime claims.begunAt afterMs markedAll hasRecord ownLabels ownName srvRdata ownRdata labelFits instanceFits utf8.isShown utf8.shownFrom utf8.mayStand utf8.behind utf8.starts utf8.following utf8.within isLetter isNameByte allNameBytes someLetter hyphensApart serviceRule serviceFits protocolFits domainFits txtFits validSetup serviceLabels instanceLabels hostLabels standsAt placeOf cutFrom nameBytes starts namePlaces questionRead recordRead questionAt recordAt listFrom messageAt andThen sameBytes stringsFill nameAt fromRun readFrom pieceAt sameName rdataAt rdataIn formFor formIn
 seen-rivals = (refl, (refl, refl, refl, refl, refl), (refl, refl, refl), (refl, refl, refl), refl, refl, refl, refl, refl, refl)
 
 seen-three : SeenThree
-unfolding setupOf alone contest rivals three ptrQuery plainQuery plainPacket plainRecords answers.plainOf answers.dueTo sets.withData labelsFill holds writes hears anyOf respondsFor conflictsWith defeatsOf responds conflicts defeats meets ordered atOneRate owed taken allDelivered allOnTime every someBelow allOf samePackets entry clockOf ownerOf setupIn reply returned called after isAccepted parcelsOf heardIn start tick receive dueTimes due blank startOf packetFor receivedPacket receiveOf tickedPacket tickOf wrongState startRefusal receiveRefusal tickRefusal ownRecord responseRecords probeRecords responseOf probeOf responsePacket probePacket putName dataBytes dataPlaces putFields packetOf isAsked isKnown conflicted theirsLater responseFacts queryFacts factsOf answers.heardOf answers.asksOf answers.wantedOf answers.joined answers.judgedOf held.toHold held.heldBack held.receiveOf queries.someFrom queries.someFree queries.union queries.knowing queries.knowingAll queries.queued listUnder someOf isProbe compareNumbers inTurn compareRecords insertBy sortBy tie steps.sends steps.actionTurn steps.claimTurn steps.ptrReply steps.replyTurn steps.holdAnswers steps.holdTurn steps.stepTurn steps.walked steps.endedOf steps.tickOf moreDue actionOf unsentOf sets.someOf sets.everyOf sets.picked sets.only sets.anyOf sets.atOnce sets.recordsOf multicastsKept holdsKept kept wrongTime claims.begunAt afterMs markedAll hasRecord ownLabels ownName srvRdata ownRdata labelFits instanceFits utf8.isShown utf8.shownFrom utf8.mayStand utf8.behind utf8.starts utf8.following utf8.within isLetter isNameByte allNameBytes someLetter hyphensApart serviceRule serviceFits protocolFits domainFits txtFits validSetup serviceLabels instanceLabels hostLabels standsAt placeOf cutFrom nameBytes starts namePlaces questionRead recordRead questionAt recordAt listFrom messageAt andThen sameBytes stringsFill nameAt fromRun readFrom pieceAt sameName rdataAt rdataIn formFor formIn
+unfolding setupOf alone contest rivals three ptrQuery plainQuery plainPacket plainRecords answers.plainOf answers.dueTo sets.withData labelsFill holds writes hears anyOf respondsFor conflictsWith defeatsOf responds conflicts defeats meets ordered atOneRate reaches addressIn owed takes taken deliveredTo allDelivered allOnTime every someBelow allOf samePackets entry clockOf ownerOf setupIn reply returned called after isAccepted parcelsOf heardIn sourceIn start tick receive dueTimes due blank startOf packetFor receivedPacket unicastPacket receiveOf tickedPacket tickOf wrongState startRefusal receiveRefusal tickRefusal ownRecord responseRecords probeRecords responseOf probeOf responsePacket probePacket putName dataBytes dataPlaces putFields packetOf isAsked isAskedAs isKnown conflicted theirsLater responseFacts queryFacts factsOf answers.heardOf answers.asksOf answers.wantedOf answers.askedBy answers.multicastAsks answers.unicastAsks answers.joined answers.judgedOf held.toHold held.heldBack held.receiveOf queries.someFrom queries.someFree queries.union queries.knowing queries.knowingAll queries.queued listUnder someOf isProbe compareNumbers inTurn compareRecords insertBy sortBy tie steps.sends steps.actionTurn steps.claimTurn steps.ptrReply steps.replyTurn steps.holdAnswers steps.holdTurn steps.stepTurn steps.walked steps.endedOf steps.tickOf moreDue actionOf unsentOf sets.someOf sets.everyOf sets.picked sets.only sets.anyOf sets.atOnce sets.recordsOf multicastsKept holdsKept kept wrongTime claims.begunAt afterMs markedAll hasRecord ownLabels ownName srvRdata ownRdata labelFits instanceFits utf8.isShown utf8.shownFrom utf8.mayStand utf8.behind utf8.starts utf8.following utf8.within isLetter isNameByte allNameBytes someLetter hyphensApart serviceRule serviceFits protocolFits domainFits txtFits validSetup serviceLabels instanceLabels hostLabels standsAt placeOf cutFrom nameBytes starts namePlaces questionRead recordRead questionAt recordAt listFrom messageAt andThen sameBytes stringsFill nameAt fromRun readFrom pieceAt sameName rdataAt rdataIn formFor formIn
 seen-three = (refl, refl, refl, refl, refl, refl, refl, refl, refl, refl, refl)
 
 not-true : (b : Bool) → not b ≡ true → b ≡ false
@@ -158,7 +158,7 @@ unopposed es d s k n a h = record {
 -- ---- a responder alone
 
 pub alone-premises : Premises responder alone
-alone-premises = met responder alone (seen .0)
+alone-premises = met responder alone aloneAt (seen .0)
 
 -- the 1,200 ms are asked of it, for both names, and it holds them then
 pub alone-unopposed : (k : Claim) → Unopposed responder alone 0 one k 9
@@ -172,7 +172,7 @@ alone-holds host = seen .3 .2
 -- ---- two that want one name, one after the other
 
 pub contest-premises : Premises responder contest
-contest-premises = met responder contest (seen .4)
+contest-premises = met responder contest contestAt (seen .4)
 
 pub first-holds : holds responder contest 0 one instance (length contest) ≡ true
 first-holds = seen .5
@@ -189,7 +189,7 @@ second-holds-host = seen .8
 -- ---- two at once, refused calls, a power cut and a new start
 
 pub rivals-premises : Premises responder rivals
-rivals-premises = met responder rivals (seen-rivals .0)
+rivals-premises = met responder rivals rivalsAt (seen-rivals .0)
 
 -- the 1,200 ms are asked of the second, which is never contradicted, and it holds both names then
 pub winner-unopposed : (k : Claim) → Unopposed responder rivals 1 other k 38
@@ -214,7 +214,7 @@ refused-calls = (seen-rivals .8, seen-rivals .9)
 -- ---- three responders, and a stranger
 
 pub three-premises : Premises responder three
-three-premises = met responder three (seen-three .0)
+three-premises = met responder three threeAt (seen-three .0)
 
 -- the first holds its instance name until it hears the stranger's response, then no more, and at the end again
 pub gives-up : (holds responder three 0 other instance 17 ≡ true) × (holds responder three 0 other instance 18 ≡ false)
@@ -234,16 +234,16 @@ ptrPacket =
     ∷ 0x02 ∷ 0x5f ∷ 0x78 ∷ 0x04 ∷ 0x5f ∷ 0x75 ∷ 0x64 ∷ 0x70 ∷ 0x05 ∷ 0x6c ∷ 0x6f ∷ 0x63 ∷ 0x61 ∷ 0x6c ∷ 0x00
     ∷ 0x00 ∷ 0x0c ∷ 0x00 ∷ 0x01 ∷ 0x00 ∷ 0x00 ∷ 0x11 ∷ 0x94 ∷ 0x00 ∷ 0x04 ∷ 0x01 ∷ 0x41 ∷ 0xc0 ∷ 0x0c ∷ []
 
-ptr-sent : sentAt responder three 14 ≡ sends multicast ptrPacket
-unfolding setupOf alone contest rivals three ptrQuery plainQuery plainPacket plainRecords answers.plainOf answers.dueTo sets.withData labelsFill holds writes hears anyOf respondsFor conflictsWith defeatsOf responds conflicts defeats meets ordered atOneRate owed taken allDelivered allOnTime every someBelow allOf samePackets entry clockOf ownerOf setupIn reply returned called after isAccepted parcelsOf heardIn start tick receive dueTimes due blank startOf packetFor receivedPacket receiveOf tickedPacket tickOf wrongState startRefusal receiveRefusal tickRefusal ownRecord responseRecords probeRecords responseOf probeOf responsePacket probePacket putName dataBytes dataPlaces putFields packetOf isAsked isKnown conflicted theirsLater responseFacts queryFacts factsOf answers.heardOf answers.asksOf answers.wantedOf answers.joined answers.judgedOf held.toHold held.heldBack held.receiveOf queries.someFrom queries.someFree queries.union queries.knowing queries.knowingAll queries.queued listUnder someOf isProbe compareNumbers inTurn compareRecords insertBy sortBy tie steps.sends steps.actionTurn steps.claimTurn steps.ptrReply steps.replyTurn steps.holdAnswers steps.holdTurn steps.stepTurn steps.walked steps.endedOf steps.tickOf moreDue actionOf unsentOf sets.someOf sets.everyOf sets.picked sets.only sets.anyOf sets.atOnce sets.recordsOf multicastsKept holdsKept kept wrongTime claims.begunAt afterMs markedAll hasRecord ownLabels ownName srvRdata ownRdata labelFits instanceFits utf8.isShown utf8.shownFrom utf8.mayStand utf8.behind utf8.starts utf8.following utf8.within isLetter isNameByte allNameBytes someLetter hyphensApart serviceRule serviceFits protocolFits domainFits txtFits validSetup serviceLabels instanceLabels hostLabels standsAt placeOf cutFrom nameBytes starts namePlaces questionRead recordRead questionAt recordAt listFrom messageAt andThen sameBytes stringsFill nameAt fromRun readFrom pieceAt sameName rdataAt rdataIn formFor formIn
+ptr-sent : sentAt responder three 14 ≡ sends everyone ptrPacket
+unfolding setupOf alone contest rivals three ptrQuery plainQuery plainPacket plainRecords answers.plainOf answers.dueTo sets.withData labelsFill holds writes hears anyOf respondsFor conflictsWith defeatsOf responds conflicts defeats meets ordered atOneRate reaches addressIn owed takes taken deliveredTo allDelivered allOnTime every someBelow allOf samePackets entry clockOf ownerOf setupIn reply returned called after isAccepted parcelsOf heardIn sourceIn start tick receive dueTimes due blank startOf packetFor receivedPacket unicastPacket receiveOf tickedPacket tickOf wrongState startRefusal receiveRefusal tickRefusal ownRecord responseRecords probeRecords responseOf probeOf responsePacket probePacket putName dataBytes dataPlaces putFields packetOf isAsked isAskedAs isKnown conflicted theirsLater responseFacts queryFacts factsOf answers.heardOf answers.asksOf answers.wantedOf answers.askedBy answers.multicastAsks answers.unicastAsks answers.joined answers.judgedOf held.toHold held.heldBack held.receiveOf queries.someFrom queries.someFree queries.union queries.knowing queries.knowingAll queries.queued listUnder someOf isProbe compareNumbers inTurn compareRecords insertBy sortBy tie steps.sends steps.actionTurn steps.claimTurn steps.ptrReply steps.replyTurn steps.holdAnswers steps.holdTurn steps.stepTurn steps.walked steps.endedOf steps.tickOf moreDue actionOf unsentOf sets.someOf sets.everyOf sets.picked sets.only sets.anyOf sets.atOnce sets.recordsOf multicastsKept holdsKept kept wrongTime claims.begunAt afterMs markedAll hasRecord ownLabels ownName srvRdata ownRdata labelFits instanceFits utf8.isShown utf8.shownFrom utf8.mayStand utf8.behind utf8.starts utf8.following utf8.within isLetter isNameByte allNameBytes someLetter hyphensApart serviceRule serviceFits protocolFits domainFits txtFits validSetup serviceLabels instanceLabels hostLabels standsAt placeOf cutFrom nameBytes starts namePlaces questionRead recordRead questionAt recordAt listFrom messageAt andThen sameBytes stringsFill nameAt fromRun readFrom pieceAt sameName rdataAt rdataIn formFor formIn
 ptr-sent = refl
 
-ptr-written : responsePacket other (only Ptr) ≡ ptrPacket
-unfolding setupOf alone contest rivals three ptrQuery plainQuery plainPacket plainRecords answers.plainOf answers.dueTo sets.withData labelsFill holds writes hears anyOf respondsFor conflictsWith defeatsOf responds conflicts defeats meets ordered atOneRate owed taken allDelivered allOnTime every someBelow allOf samePackets entry clockOf ownerOf setupIn reply returned called after isAccepted parcelsOf heardIn start tick receive dueTimes due blank startOf packetFor receivedPacket receiveOf tickedPacket tickOf wrongState startRefusal receiveRefusal tickRefusal ownRecord responseRecords probeRecords responseOf probeOf responsePacket probePacket putName dataBytes dataPlaces putFields packetOf isAsked isKnown conflicted theirsLater responseFacts queryFacts factsOf answers.heardOf answers.asksOf answers.wantedOf answers.joined answers.judgedOf held.toHold held.heldBack held.receiveOf queries.someFrom queries.someFree queries.union queries.knowing queries.knowingAll queries.queued listUnder someOf isProbe compareNumbers inTurn compareRecords insertBy sortBy tie steps.sends steps.actionTurn steps.claimTurn steps.ptrReply steps.replyTurn steps.holdAnswers steps.holdTurn steps.stepTurn steps.walked steps.endedOf steps.tickOf moreDue actionOf unsentOf sets.someOf sets.everyOf sets.picked sets.only sets.anyOf sets.atOnce sets.recordsOf multicastsKept holdsKept kept wrongTime claims.begunAt afterMs markedAll hasRecord ownLabels ownName srvRdata ownRdata labelFits instanceFits utf8.isShown utf8.shownFrom utf8.mayStand utf8.behind utf8.starts utf8.following utf8.within isLetter isNameByte allNameBytes someLetter hyphensApart serviceRule serviceFits protocolFits domainFits txtFits validSetup serviceLabels instanceLabels hostLabels standsAt placeOf cutFrom nameBytes starts namePlaces questionRead recordRead questionAt recordAt listFrom messageAt andThen sameBytes stringsFill nameAt fromRun readFrom pieceAt sameName rdataAt rdataIn formFor formIn
+ptr-written : responsePacket other 0 (only Ptr) ≡ ptrPacket
+unfolding setupOf alone contest rivals three ptrQuery plainQuery plainPacket plainRecords answers.plainOf answers.dueTo sets.withData labelsFill holds writes hears anyOf respondsFor conflictsWith defeatsOf responds conflicts defeats meets ordered atOneRate reaches addressIn owed takes taken deliveredTo allDelivered allOnTime every someBelow allOf samePackets entry clockOf ownerOf setupIn reply returned called after isAccepted parcelsOf heardIn sourceIn start tick receive dueTimes due blank startOf packetFor receivedPacket unicastPacket receiveOf tickedPacket tickOf wrongState startRefusal receiveRefusal tickRefusal ownRecord responseRecords probeRecords responseOf probeOf responsePacket probePacket putName dataBytes dataPlaces putFields packetOf isAsked isAskedAs isKnown conflicted theirsLater responseFacts queryFacts factsOf answers.heardOf answers.asksOf answers.wantedOf answers.askedBy answers.multicastAsks answers.unicastAsks answers.joined answers.judgedOf held.toHold held.heldBack held.receiveOf queries.someFrom queries.someFree queries.union queries.knowing queries.knowingAll queries.queued listUnder someOf isProbe compareNumbers inTurn compareRecords insertBy sortBy tie steps.sends steps.actionTurn steps.claimTurn steps.ptrReply steps.replyTurn steps.holdAnswers steps.holdTurn steps.stepTurn steps.walked steps.endedOf steps.tickOf moreDue actionOf unsentOf sets.someOf sets.everyOf sets.picked sets.only sets.anyOf sets.atOnce sets.recordsOf multicastsKept holdsKept kept wrongTime claims.begunAt afterMs markedAll hasRecord ownLabels ownName srvRdata ownRdata labelFits instanceFits utf8.isShown utf8.shownFrom utf8.mayStand utf8.behind utf8.starts utf8.following utf8.within isLetter isNameByte allNameBytes someLetter hyphensApart serviceRule serviceFits protocolFits domainFits txtFits validSetup serviceLabels instanceLabels hostLabels standsAt placeOf cutFrom nameBytes starts namePlaces questionRead recordRead questionAt recordAt listFrom messageAt andThen sameBytes stringsFill nameAt fromRun readFrom pieceAt sameName rdataAt rdataIn formFor formIn
 ptr-written = refl
 
-pub answers-question : sentAt responder three 14 ≡ sends multicast (responsePacket other (only Ptr))
-answers-question = ptr-sent ∙ ap (sends multicast) (sym ptr-written)
+pub answers-question : sentAt responder three 14 ≡ sends everyone (responsePacket other 0 (only Ptr))
+answers-question = ptr-sent ∙ ap (sends everyone) (sym ptr-written)
 
 -- a plain resolver is answered by unicast; the premises are met, though nobody hears the reply
 abbrev plainReply : List ℕ
@@ -252,29 +252,78 @@ plainReply =
     ∷ 0x01 ∷ 0x68 ∷ 0x05 ∷ 0x6c ∷ 0x6f ∷ 0x63 ∷ 0x61 ∷ 0x6c ∷ 0x00 ∷ 0x00 ∷ 0x01 ∷ 0x00 ∷ 0x01
     ∷ 0xc0 ∷ 0x0c ∷ 0x00 ∷ 0x01 ∷ 0x00 ∷ 0x01 ∷ 0x00 ∷ 0x00 ∷ 0x00 ∷ 0x0a ∷ 0x00 ∷ 0x04 ∷ 0x0a ∷ 0x00 ∷ 0x00 ∷ 0x07 ∷ []
 
-pub serves-resolver : sentAt responder contest 25 ≡ sends unicast plainReply
-unfolding setupOf alone contest rivals three ptrQuery plainQuery plainPacket plainRecords answers.plainOf answers.dueTo sets.withData labelsFill holds writes hears anyOf respondsFor conflictsWith defeatsOf responds conflicts defeats meets ordered atOneRate owed taken allDelivered allOnTime every someBelow allOf samePackets entry clockOf ownerOf setupIn reply returned called after isAccepted parcelsOf heardIn start tick receive dueTimes due blank startOf packetFor receivedPacket receiveOf tickedPacket tickOf wrongState startRefusal receiveRefusal tickRefusal ownRecord responseRecords probeRecords responseOf probeOf responsePacket probePacket putName dataBytes dataPlaces putFields packetOf isAsked isKnown conflicted theirsLater responseFacts queryFacts factsOf answers.heardOf answers.asksOf answers.wantedOf answers.joined answers.judgedOf held.toHold held.heldBack held.receiveOf queries.someFrom queries.someFree queries.union queries.knowing queries.knowingAll queries.queued listUnder someOf isProbe compareNumbers inTurn compareRecords insertBy sortBy tie steps.sends steps.actionTurn steps.claimTurn steps.ptrReply steps.replyTurn steps.holdAnswers steps.holdTurn steps.stepTurn steps.walked steps.endedOf steps.tickOf moreDue actionOf unsentOf sets.someOf sets.everyOf sets.picked sets.only sets.anyOf sets.atOnce sets.recordsOf multicastsKept holdsKept kept wrongTime claims.begunAt afterMs markedAll hasRecord ownLabels ownName srvRdata ownRdata labelFits instanceFits utf8.isShown utf8.shownFrom utf8.mayStand utf8.behind utf8.starts utf8.following utf8.within isLetter isNameByte allNameBytes someLetter hyphensApart serviceRule serviceFits protocolFits domainFits txtFits validSetup serviceLabels instanceLabels hostLabels standsAt placeOf cutFrom nameBytes starts namePlaces questionRead recordRead questionAt recordAt listFrom messageAt andThen sameBytes stringsFill nameAt fromRun readFrom pieceAt sameName rdataAt rdataIn formFor formIn
+pub serves-resolver : sentAt responder contest 25 ≡ sends (unicast (halves (somewhere 9)) 1024) plainReply
+unfolding setupOf alone contest rivals three ptrQuery plainQuery plainPacket plainRecords answers.plainOf answers.dueTo sets.withData labelsFill holds writes hears anyOf respondsFor conflictsWith defeatsOf responds conflicts defeats meets ordered atOneRate reaches addressIn owed takes taken deliveredTo allDelivered allOnTime every someBelow allOf samePackets entry clockOf ownerOf setupIn reply returned called after isAccepted parcelsOf heardIn sourceIn start tick receive dueTimes due blank startOf packetFor receivedPacket unicastPacket receiveOf tickedPacket tickOf wrongState startRefusal receiveRefusal tickRefusal ownRecord responseRecords probeRecords responseOf probeOf responsePacket probePacket putName dataBytes dataPlaces putFields packetOf isAsked isAskedAs isKnown conflicted theirsLater responseFacts queryFacts factsOf answers.heardOf answers.asksOf answers.wantedOf answers.askedBy answers.multicastAsks answers.unicastAsks answers.joined answers.judgedOf held.toHold held.heldBack held.receiveOf queries.someFrom queries.someFree queries.union queries.knowing queries.knowingAll queries.queued listUnder someOf isProbe compareNumbers inTurn compareRecords insertBy sortBy tie steps.sends steps.actionTurn steps.claimTurn steps.ptrReply steps.replyTurn steps.holdAnswers steps.holdTurn steps.stepTurn steps.walked steps.endedOf steps.tickOf moreDue actionOf unsentOf sets.someOf sets.everyOf sets.picked sets.only sets.anyOf sets.atOnce sets.recordsOf multicastsKept holdsKept kept wrongTime claims.begunAt afterMs markedAll hasRecord ownLabels ownName srvRdata ownRdata labelFits instanceFits utf8.isShown utf8.shownFrom utf8.mayStand utf8.behind utf8.starts utf8.following utf8.within isLetter isNameByte allNameBytes someLetter hyphensApart serviceRule serviceFits protocolFits domainFits txtFits validSetup serviceLabels instanceLabels hostLabels standsAt placeOf cutFrom nameBytes starts namePlaces questionRead recordRead questionAt recordAt listFrom messageAt andThen sameBytes stringsFill nameAt fromRun readFrom pieceAt sameName rdataAt rdataIn formFor formIn
 serves-resolver = refl
 
 -- a truncated query is held, and answered when it is due; the premises are met, the step of a held query among them
 abbrev SeenHeld : Type 0
 SeenHeld =
-    (meets responder example.held ≡ true)
+    (meets responder example.held aloneAt ≡ true)
     × (sentAt responder example.held 11 ≡ [])
-    × (sentAt responder example.held 12 ≡ sends multicast ptrPacket)
+    × (sentAt responder example.held 12 ≡ sends everyone ptrPacket)
     × (acceptedAt responder example.held 11 ≡ true)
 
 seen-held : SeenHeld
-unfolding setupOf alone contest rivals three ptrQuery truncatedQuery example.held plainQuery plainPacket plainRecords answers.plainOf answers.dueTo sets.withData labelsFill holds writes hears anyOf respondsFor conflictsWith defeatsOf responds conflicts defeats meets ordered atOneRate owed taken allDelivered allOnTime every someBelow allOf samePackets entry clockOf ownerOf setupIn reply returned called after isAccepted parcelsOf heardIn start tick receive dueTimes due blank startOf packetFor receivedPacket receiveOf tickedPacket tickOf wrongState startRefusal receiveRefusal tickRefusal ownRecord responseRecords probeRecords responseOf probeOf responsePacket probePacket putName dataBytes dataPlaces putFields packetOf isAsked isKnown conflicted theirsLater responseFacts queryFacts factsOf answers.heardOf answers.asksOf answers.wantedOf answers.joined answers.judgedOf held.toHold held.heldBack held.receiveOf queries.someFrom queries.someFree queries.union queries.knowing queries.knowingAll queries.queued listUnder someOf isProbe compareNumbers inTurn compareRecords insertBy sortBy tie steps.sends steps.actionTurn steps.claimTurn steps.ptrReply steps.replyTurn steps.holdAnswers steps.holdTurn steps.stepTurn steps.walked steps.endedOf steps.tickOf moreDue actionOf unsentOf sets.someOf sets.everyOf sets.picked sets.only sets.anyOf sets.atOnce sets.recordsOf multicastsKept holdsKept kept wrongTime claims.begunAt afterMs markedAll hasRecord ownLabels ownName srvRdata ownRdata labelFits instanceFits utf8.isShown utf8.shownFrom utf8.mayStand utf8.behind utf8.starts utf8.following utf8.within isLetter isNameByte allNameBytes someLetter hyphensApart serviceRule serviceFits protocolFits domainFits txtFits validSetup serviceLabels instanceLabels hostLabels standsAt placeOf cutFrom nameBytes starts namePlaces questionRead recordRead questionAt recordAt listFrom messageAt andThen sameBytes stringsFill nameAt fromRun readFrom pieceAt sameName rdataAt rdataIn formFor formIn
+unfolding setupOf alone contest rivals three ptrQuery truncatedQuery example.held plainQuery plainPacket plainRecords answers.plainOf answers.dueTo sets.withData labelsFill holds writes hears anyOf respondsFor conflictsWith defeatsOf responds conflicts defeats meets ordered atOneRate reaches addressIn owed takes taken deliveredTo allDelivered allOnTime every someBelow allOf samePackets entry clockOf ownerOf setupIn reply returned called after isAccepted parcelsOf heardIn sourceIn start tick receive dueTimes due blank startOf packetFor receivedPacket unicastPacket receiveOf tickedPacket tickOf wrongState startRefusal receiveRefusal tickRefusal ownRecord responseRecords probeRecords responseOf probeOf responsePacket probePacket putName dataBytes dataPlaces putFields packetOf isAsked isAskedAs isKnown conflicted theirsLater responseFacts queryFacts factsOf answers.heardOf answers.asksOf answers.wantedOf answers.askedBy answers.multicastAsks answers.unicastAsks answers.joined answers.judgedOf held.toHold held.heldBack held.receiveOf queries.someFrom queries.someFree queries.union queries.knowing queries.knowingAll queries.queued listUnder someOf isProbe compareNumbers inTurn compareRecords insertBy sortBy tie steps.sends steps.actionTurn steps.claimTurn steps.ptrReply steps.replyTurn steps.holdAnswers steps.holdTurn steps.stepTurn steps.walked steps.endedOf steps.tickOf moreDue actionOf unsentOf sets.someOf sets.everyOf sets.picked sets.only sets.anyOf sets.atOnce sets.recordsOf multicastsKept holdsKept kept wrongTime claims.begunAt afterMs markedAll hasRecord ownLabels ownName srvRdata ownRdata labelFits instanceFits utf8.isShown utf8.shownFrom utf8.mayStand utf8.behind utf8.starts utf8.following utf8.within isLetter isNameByte allNameBytes someLetter hyphensApart serviceRule serviceFits protocolFits domainFits txtFits validSetup serviceLabels instanceLabels hostLabels standsAt placeOf cutFrom nameBytes starts namePlaces questionRead recordRead questionAt recordAt listFrom messageAt andThen sameBytes stringsFill nameAt fromRun readFrom pieceAt sameName rdataAt rdataIn formFor formIn
 seen-held = (refl, refl, refl, refl)
 
 pub held-premises : Premises responder example.held
-held-premises = met responder example.held (seen-held .0)
+held-premises = met responder example.held aloneAt (seen-held .0)
 
-pub answers-held : (sentAt responder example.held 11 ≡ []) × (sentAt responder example.held 12 ≡ sends multicast ptrPacket)
+pub answers-held : (sentAt responder example.held 11 ≡ []) × (sentAt responder example.held 12 ≡ sends everyone ptrPacket)
 answers-held = (seen-held .1, seen-held .2)
 
--- the second, which wanted the name meanwhile, has lost it
+-- ---- a name defended by unicast
+
+-- in `contest` the first answers the probe to the second alone, and by that the second loses the name
+abbrev SeenDefence : Type 0
+SeenDefence =
+    (sentAt responder contest 12 ≡ sends (unicast (halves (somewhere 2)) 5353) (responsePacket one 0 srvAndTxt))
+    × (sentAt responder rivals 33 ≡ sends (unicast (halves (somewhere 1)) 5353) (responsePacket other 0 srvAndTxt))
+    × (isAnd lostBy (after responder contest 9 14) ≡ false)
+    × (isAnd lostBy (after responder contest 9 15) ≡ true)
+
+seen-defence : SeenDefence
+unfolding setupOf alone contest rivals three ptrQuery truncatedQuery plainQuery plainPacket plainRecords answers.plainOf answers.dueTo sets.withData labelsFill holds writes hears anyOf respondsFor conflictsWith defeatsOf responds conflicts defeats meets ordered atOneRate reaches addressIn owed takes taken deliveredTo allDelivered allOnTime every someBelow allOf samePackets entry clockOf ownerOf setupIn reply returned called after isAccepted parcelsOf heardIn sourceIn start tick receive dueTimes due blank startOf packetFor receivedPacket unicastPacket receiveOf tickedPacket tickOf wrongState startRefusal receiveRefusal tickRefusal ownRecord responseRecords probeRecords responseOf probeOf responsePacket probePacket putName dataBytes dataPlaces putFields packetOf isAsked isAskedAs isKnown conflicted theirsLater responseFacts queryFacts factsOf answers.heardOf answers.asksOf answers.wantedOf answers.askedBy answers.multicastAsks answers.unicastAsks answers.joined answers.judgedOf held.toHold held.heldBack held.receiveOf queries.someFrom queries.someFree queries.union queries.knowing queries.knowingAll queries.queued listUnder someOf isProbe compareNumbers inTurn compareRecords insertBy sortBy tie steps.sends steps.actionTurn steps.claimTurn steps.ptrReply steps.replyTurn steps.holdAnswers steps.holdTurn steps.stepTurn steps.walked steps.endedOf steps.tickOf moreDue actionOf unsentOf sets.someOf sets.everyOf sets.picked sets.only sets.anyOf sets.atOnce sets.recordsOf multicastsKept holdsKept kept wrongTime claims.begunAt afterMs markedAll hasRecord ownLabels ownName srvRdata ownRdata labelFits instanceFits utf8.isShown utf8.shownFrom utf8.mayStand utf8.behind utf8.starts utf8.following utf8.within isLetter isNameByte allNameBytes someLetter hyphensApart serviceRule serviceFits protocolFits domainFits txtFits validSetup serviceLabels instanceLabels hostLabels standsAt placeOf cutFrom nameBytes starts namePlaces questionRead recordRead questionAt recordAt listFrom messageAt andThen sameBytes stringsFill nameAt fromRun readFrom pieceAt sameName rdataAt rdataIn formFor formIn
+seen-defence = (refl, refl, refl, refl)
+
+pub by-unicast-alone : sentAt responder contest 12 ≡ sends (unicast (halves (somewhere 2)) 5353) (responsePacket one 0 srvAndTxt)
+by-unicast-alone = seen-defence .0
+
+pub unicast-ends-it : (isAnd lostBy (after responder contest 9 14) ≡ false) × (isAnd lostBy (after responder contest 9 15) ≡ true)
+unicast-ends-it = (seen-defence .2, seen-defence .3)
+
+-- in `rivals` the address of the one that was cut is the new one's, which is answered there
+pub address-again : (rivalsAt 0 ≡ rivalsAt 30) × (sentAt responder rivals 33 ≡ sends (unicast (rivalsAt 30) 5353) (responsePacket other 0 srvAndTxt))
+unfolding addressIn
+address-again = (refl, seen-defence .1)
+
+-- in `divided` one answer goes to all and one to the asker, in one call, and the second loses the name
+abbrev SeenDivided : Type 0
+SeenDivided =
+    (meets responder divided dividedAt ≡ true)
+    × (sentAt responder divided 14
+    ≡ sends everyone (responsePacket one 0 (only Srv)) ++ sends (unicast (halves (somewhere 2)) 5353) (responsePacket one 0 (only Txt)))
+    × (isAnd lostBy (after responder divided 11 (length divided)) ≡ true)
+    × (holds responder divided 0 one instance (length divided) ≡ true)
+
+seen-divided : SeenDivided
+unfolding setupOf alone contest rivals three ptrQuery truncatedQuery divided plainQuery plainPacket plainRecords answers.plainOf answers.dueTo sets.withData labelsFill holds writes hears anyOf respondsFor conflictsWith defeatsOf responds conflicts defeats meets ordered atOneRate reaches addressIn owed takes taken deliveredTo allDelivered allOnTime every someBelow allOf samePackets entry clockOf ownerOf setupIn reply returned called after isAccepted parcelsOf heardIn sourceIn start tick receive dueTimes due blank startOf packetFor receivedPacket unicastPacket receiveOf tickedPacket tickOf wrongState startRefusal receiveRefusal tickRefusal ownRecord responseRecords probeRecords responseOf probeOf responsePacket probePacket putName dataBytes dataPlaces putFields packetOf isAsked isAskedAs isKnown conflicted theirsLater responseFacts queryFacts factsOf answers.heardOf answers.asksOf answers.wantedOf answers.askedBy answers.multicastAsks answers.unicastAsks answers.joined answers.judgedOf held.toHold held.heldBack held.receiveOf queries.someFrom queries.someFree queries.union queries.knowing queries.knowingAll queries.queued listUnder someOf isProbe compareNumbers inTurn compareRecords insertBy sortBy tie steps.sends steps.actionTurn steps.claimTurn steps.ptrReply steps.replyTurn steps.holdAnswers steps.holdTurn steps.stepTurn steps.walked steps.endedOf steps.tickOf moreDue actionOf unsentOf sets.someOf sets.everyOf sets.picked sets.only sets.anyOf sets.atOnce sets.recordsOf multicastsKept holdsKept kept wrongTime claims.begunAt afterMs markedAll hasRecord ownLabels ownName srvRdata ownRdata labelFits instanceFits utf8.isShown utf8.shownFrom utf8.mayStand utf8.behind utf8.starts utf8.following utf8.within isLetter isNameByte allNameBytes someLetter hyphensApart serviceRule serviceFits protocolFits domainFits txtFits validSetup serviceLabels instanceLabels hostLabels standsAt placeOf cutFrom nameBytes starts namePlaces questionRead recordRead questionAt recordAt listFrom messageAt andThen sameBytes stringsFill nameAt fromRun readFrom pieceAt sameName rdataAt rdataIn formFor formIn
+seen-divided = (refl, refl, refl, refl)
+
+pub divided-premises : Premises responder divided
+divided-premises = met responder divided dividedAt (seen-divided .0)
+
+pub answers-both :
+    sentAt responder divided 14
+    ≡ sends everyone (responsePacket one 0 (only Srv)) ++ sends (unicast (halves (somewhere 2)) 5353) (responsePacket one 0 (only Txt))
+answers-both = seen-divided .1
+
+pub divided-loses : isAnd lostBy (after responder divided 11 (length divided)) ≡ true
+divided-loses = seen-divided .2
+
+-- ---- three responders: the second, which wanted the name meanwhile, has lost it
 pub second-loses : isAnd lostBy (after responder three 16 (length three)) ≡ true
 second-loses = seen-three .7
 

@@ -6,17 +6,15 @@ use Prim.Native.Nat.{ℕ}
 use Rattle.wire.specs.message.Message.{Message, isResponse}
 use Rattle.own.specs.declared.records.Setup.{Setup}
 use Rattle.own.specs.records.Records.{hasRecord}
-use Rattle.claims.specs.Time.{afterMs, sentOf, marked, markedAll}
+use Rattle.claims.specs.Time.{afterMs}
 use Rattle.claims.specs.Claims.{heldNow}
 use Rattle.claims.specs.records.Own.{has}
 use Rattle.claims.specs.records.Sets.{someOf, recordsOf, under}
-use Rattle.claims.proofs.records.Sets.{sent-each}
 use Rattle.claims.specs.declared.records.Claim as own
 use Rattle.claims.specs.declared.records.Own.{Own}
 use Rattle.claims.specs.declared.records.Own.the-variants.{Srv, Txt, A, Aaaa}
 use Rattle.claims.specs.declared.ClaimState.{ClaimState}
 use Rattle.claims.specs.declared.ClaimState.the-variants.{Waiting, Probing1, Probing2, Probing3, Deferred, Announced, Held, Lost}
-use Rattle.claims.specs.declared.Multicasts.{Multicasts}
 use Rattle.claims.specs.declared.records.Set.{Set}
 use Rattle.claims.specs.steps.Steps.{takenAction}
 use Rattle.claims.specs.declared.steps.Action.the-variants as action
@@ -71,11 +69,6 @@ repeat-held (Deferred u) d now e = clash (cc)
 repeat-held (Announced u) d now e = let z : Held ≡ d = cc in (refl, sym (ap stageOf z))
 repeat-held Held d now e = clash (cc)
 repeat-held Lost d now e = clash (cc)
-
--- what is multicast, of one record
-pub marks : (r : Own) (set : Set) (sent : Multicasts) (now : ℕ) → sentOf r (markedAll set sent now) ≡ marked (has r set) (sentOf r sent) now
-unfolding markedAll
-marks r set sent now = sent-each (λ o. marked (has o set) (sentOf o sent) now) r
 
 -- a response under a claim's name has a record of the claim
 pub record OneOf (k : Claim) (set : Set) : Type 0 where

@@ -4,7 +4,7 @@ use mathlib.Core.Logic.{_⊎_, inl, inr}
 use mathlib.Core.Bool.{true}
 use mathlib.Core.Option.{some}
 use mathlib.Core.List.{List, [], _∷_}
-use Prim.Native.Nat.{ℕ, _+_, _<_}
+use Prim.Native.Nat.{ℕ}
 use Rattle.wire.specs.case_folding.Fold.{sameName}
 use Rattle.wire.proofs.case_folding.Equal.{same-sym}
 use Rattle.own.specs.declared.records.Setup.{Setup}
@@ -19,11 +19,11 @@ use Rattle.claims.specs.declared.steps.Step.the-variants.{OfClaim}
 use Rattle.claims.specs.declared.ClaimState.{ClaimState}
 use Rattle.claims.specs.declared.ClaimState.the-variants.{Waiting, Probing1, Probing2, Probing3, Deferred, Announced, Held, Lost}
 use Rattle.responder.specs.declared.State.{State}
-use Rattle.link.specs.Responder.{Claim, instance, host}
+use Rattle.link.specs.Responder.{Claim, instance, host, everyone, unicast}
 use Rattle.link.specs.Premises.{Among}
 use Rattle.link.specs.Laws as law
 use Rattle.link.proofs.Demand3 as link
-use Rattle.uniqueness.specs.Responder.{ownClaim, listed, dueTimes, due, rdata, name, conflicts, defeats, responder}
+use Rattle.uniqueness.specs.Responder.{ownClaim, halves, listed, dueTimes, due, rdata, name, conflicts, defeats, responder}
 use Rattle.uniqueness.specs.Statement.{Theorem}
 use Rattle.uniqueness.specs.Rules.{stageOf, claimAt, Of, Ready, rules}
 use Rattle.uniqueness.proofs.Lists.{clash, in-append, in-tail}
@@ -31,7 +31,7 @@ use Rattle.uniqueness.proofs.Owned.{owned, Has, has-data, one-claim}
 use Rattle.uniqueness.proofs.Data.{tie-law, conflict-law}
 use Rattle.uniqueness.proofs.Calls.{begun, ticked, received}
 use Rattle.uniqueness.proofs.Hearing.{yields-to, defers-to}
-use Rattle.uniqueness.proofs.Sent.{noted, said}
+use Rattle.uniqueness.proofs.Sent.{said}
 use Rattle.uniqueness.proofs.Moves.{move}
 use Rattle.uniqueness.proofs.Defence.{defends}
 
@@ -98,12 +98,6 @@ lawful =
       valid = λ x s of. subst (λ (t : Setup). validSetup t ≡ true) (of .setup) (of .valid);
       kept = kept;
       move = λ s x c k r. subst (λ (t : Setup). law.Move responder rules t x c k) (r .of .setup) (move x (r .of .valid) k c (r .time));
-      noted = λ s x c k type d r e.
-          subst
-          (λ (t : Setup). rdata t k type ≡ some d
-          → (rules .multicast (law.next responder rules x c) k type ≡ rules .multicast x k type)
-          ⊎ ((rules .multicast (law.next responder rules x c) k type ≡ some (law.timeOf responder c)) × law.Multicasts responder rules t x c k type))
-          (r .of .setup) (noted x (r .of .valid) c k type d) e;
       said = λ s x c k q r h e.
           subst (λ (t : Setup). responder .responds (q .message) (name t k) ≡ true → rules .stage (law.next responder rules x c) k ≡ law.held) (r .of .setup)
           (said x (r .of .valid) c k q h) e;
@@ -117,9 +111,9 @@ lawful =
           subst
           (λ (q : Setup). sameName (name t k) (name q k) ≡ true
           → rdata q k type ≡ some d
-          → law.Multicasts responder rules q x (law.hears a (rules .probe t k)) k type
-          ⊎ ((u : ℕ) × (rules .multicast x k type ≡ some u) × (a .time < u + 250)))
-          (r .of .setup) (λ f g. defends x (r .of .valid) a t k type d f g h) n e;
+          → law.Tells responder rules q x (law.hears a (rules .probe t k)) k type everyone
+          ⊎ law.Tells responder rules q x (law.hears a (rules .probe t k)) k type (unicast (halves (a .from)) 5353))
+          (r .of .setup) (λ f g. defends x (r .of .valid) a (r .port) t k type d f g h) n e;
       dueWaiting = λ x k u e. due-in x k u (waiting-due (claimAt x k) u e);
       dueProbing = λ x k i u e. due-in x k u (probing-due (claimAt x k) i u e);
     }

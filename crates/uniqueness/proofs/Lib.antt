@@ -1,4 +1,3 @@
--- Demand 3 for our responder. The theorem: Lawful. The laws: Data, Calls, Hearing, Sent, Moves, Defence. What keeps it from being empty: Example, Taken,
 -- Settled.
 pub mod Lists
 pub mod Owned

@@ -27,12 +27,12 @@ use Rattle.writer.specs.declared.own_packets.Style.{Style}
 use Rattle.writer.specs.own_packets.Styles.{responseStyle, plainStyle, ownRecord}
 use Rattle.writer.specs.own_packets.Own.{responseRecords, responseOf, noneIfEmpty, responsePacket, probePacket, probeOf, plainRecords, plainReplyOf, plainPacket}
 use Rattle.roundtrip.proofs.OwnPackets.{response-back, probe-back, plain-back}
-use Rattle.responder.specs.Calls.{Destination, multicast, unicast, packetFor, plainFor}
-use Rattle.link.specs.Responder.{Claim, instance, host}
+use Rattle.responder.specs.Calls.{packetFor, plainFor}
+use Rattle.link.specs.Responder.{Destination, everyone, Parcel, Claim, instance, host}
 use Rattle.link.specs.Premises.{Among}
 use Rattle.link.specs.Laws.{Sent, toAll, ReadAs}
-use Rattle.uniqueness.specs.Responder.{destination, sends, ownClaim, claimRecord, name, messageOf, readAs, isData, dataUnder, responds}
-use Rattle.uniqueness.specs.Rules.{unlessEmpty, messagesFor, repliesFor, toAsker, Carried}
+use Rattle.uniqueness.specs.Responder.{sends, ownClaim, claimRecord, name, messageOf, readAs, isData, dataUnder, responds}
+use Rattle.uniqueness.specs.Rules.{unlessEmpty, responseFor, messagesFor, repliesFor, Carried}
 use Rattle.uniqueness.proofs.Lists.{clash, never, and-left, and-right, and-both, or-left, or-right, some-in, some-out, in-append, out-append, in-map, out-map, in-picked, out-picked}
 use Rattle.uniqueness.proofs.Owned.{Owned, srv, txt, a, aaaa, owned, own-owner, own-data}
 
@@ -49,8 +49,8 @@ pub only-one : {A : Type 0} (x y : A) → Among x (y ∷ []) → x ≡ y
 only-one x y (inl e) = e
 only-one x y (inr h) = absurd h
 
-module _ (s : Setup) (set : Set) where
-  pub response-flag : isResponse (responseOf s set .flags) ≡ true
+module _ (s : Setup) (id : ℕ) (set : Set) where
+  pub response-flag : isResponse (responseOf s id set .flags) ≡ true
   unfolding responseOf
   response-flag = refl
 
@@ -64,28 +64,29 @@ module _ (s : Setup) (set : Set) where
   not-empty o (p ∷ ps) m h = inl refl
 
   -- it goes out where it has some record
-  pub goes-out : (r : Own) → has r set ≡ true → hasRecord s r ≡ true → Among (responseOf s set) (messagesFor s (Response set))
-  unfolding messagesFor
-  goes-out r h t = not-empty r (responseRecords s set) (responseOf s set) (in-response r h t)
+  pub goes-out : (r : Own) → has r set ≡ true → hasRecord s r ≡ true → Among (responseOf s id set) (responseFor s id set)
+  unfolding responseFor
+  goes-out r h t = not-empty r (responseRecords s set) (responseOf s id set) (in-response r h t)
 
-  member : (r : Own) → has r set ≡ true → hasRecord s r ≡ true → Among (ownRecord s responseStyle r) (responseOf s set .answers)
+  member : (r : Own) → has r set ≡ true → hasRecord s r ≡ true → Among (ownRecord s (responseStyle id) r) (responseOf s id set .answers)
   unfolding responseOf
-  member r h t = in-map (ownRecord s responseStyle) r (responseRecords s set) (in-response r h t)
+  member r h t = in-map (ownRecord s (responseStyle id)) r (responseRecords s set) (in-response r h t)
 
   -- and it carries each
   pub carries : (k : Claim) (type : ℕ) (r : Own) → claimRecord k type ≡ some r → has r set ≡ true → hasRecord s r ≡ true
-      → Carried (responseOf s set) s k type
+      → Carried (responseOf s id set) s k type
+  unfolding ownRecord
   carries k type r e h t = record { own = r; owned = e; response = response-flag; member = member r h t }
 
   -- a record of the claim stands under its name
   pub says-name : (k : Claim) (type : ℕ) (r : Own) → Owned k type r → has r set ≡ true → hasRecord s r ≡ true
-      → responds (responseOf s set) (name s k) ≡ true
+      → responds (responseOf s id set) (name s k) ≡ true
   unfolding responds ownRecord
   says-name k type r o h t =
-      and-both (isResponse (responseOf s set .flags)) (someOf (dataUnder (name s k)) (allRecords (responseOf s set))) response-flag
-      (some-in (dataUnder (name s k)) (ownRecord s responseStyle r) (allRecords (responseOf s set))
-      (in-append (ownRecord s responseStyle r) (responseOf s set .answers)
-      (responseOf s set .authorities ++ responseOf s set .additionals) (member r h t))
+      and-both (isResponse (responseOf s id set .flags)) (someOf (dataUnder (name s k)) (allRecords (responseOf s id set))) response-flag
+      (some-in (dataUnder (name s k)) (ownRecord s (responseStyle id) r) (allRecords (responseOf s id set))
+      (in-append (ownRecord s (responseStyle id) r) (responseOf s id set .answers)
+      (responseOf s id set .authorities ++ responseOf s id set .additionals) (member r h t))
       (and-both (sameName (ownName s r) (name s k)) (isData (ownType r)) (rw (own-owner s k type r o) (same-refl (name s k))) (own-data k type r o)))
 
 -- ---- which record stands under a claim's name
@@ -133,11 +134,11 @@ module _ (s : Setup) (ok : validSetup s ≡ true) (set : Set) where
       (and-right (sameName (ownName s (made .0)) (name s k)) (isData (ownType (made .0))) its)
 
   -- a response under the claim's name has a record of the claim
-  pub name-said : (k : Claim) → responds (responseOf s set) (name s k) ≡ true → sets.under (ownClaim k) set ≡ true
+  pub name-said : (id : ℕ) (k : Claim) → responds (responseOf s id set) (name s k) ≡ true → sets.under (ownClaim k) set ≡ true
   unfolding responds responseOf
-  name-said k h =
-      style-said responseStyle k
-      (and-right (isResponse (responseOf s set .flags)) (someOf (dataUnder (name s k)) (allRecords (responseOf s set))) h)
+  name-said id k h =
+      style-said (responseStyle id) k
+      (and-right (isResponse (responseOf s id set .flags)) (someOf (dataUnder (name s k)) (allRecords (responseOf s id set))) h)
 
 -- and so has a plain reply
 pub plain-said : (s : Setup) → validSetup s ≡ true → (set : Set) (id : ℕ) (q : Question) (k : Claim) → responds (plainReplyOf s set id q) (name s k) ≡ true
@@ -149,51 +150,72 @@ plain-said s ok set id q k h =
 
 -- ---- what is written reads back
 
+-- a message as it goes there
+abbrev pub sentTo : Destination → Message → Sent Message
+sentTo to m = record { to = to; message = m }
+
 -- a packet that is read as a message is not empty
-pub reads : (to : Destination) (p : List ℕ) (m : Message) → readAs p ≡ some m → ReadAs readAs (sends to p) (record { to = destination to; message = m } ∷ [])
+pub reads : (to : Destination) (p : List ℕ) (m : Message) → readAs p ≡ some m → ReadAs readAs (sends to p) (sentTo to m ∷ [])
 unfolding messageAt
 reads to [] m e = clash (cc)
 reads to (b ∷ bs) m e = ((refl, e), tt)
 
+-- one packet after another
+pub both-read :
+    (ps qs : List Parcel) (ms ns : List (Sent Message)) → ReadAs readAs ps ms → ReadAs readAs qs ns → ReadAs readAs (ps ++ qs) (ms ++ ns)
+both-read [] qs [] ns r w = w
+both-read [] qs (m ∷ ms) ns r w = absurd r
+both-read (p ∷ ps) qs [] ns r w = absurd r
+both-read (p ∷ ps) qs (m ∷ ms) ns r w = (r .0, both-read ps qs ms ns (r .1) w)
+
 module _ (s : Setup) (ok : validSetup s ≡ true) where
-  response-reads : (set : Set) (os : List Own) → responseRecords s set ≡ os
-      → ReadAs readAs (sends multicast (noneIfEmpty os (responsePacket s set))) (map toAll (unlessEmpty os (responseOf s set)))
-  response-reads set [] e = tt
-  response-reads set (o ∷ os) e = reads multicast (responsePacket s set) (responseOf s set) (ap messageOf (response-back s ok set (λ z. clash (cc))))
+  response-packet : (to : Destination) (id : ℕ) (set : Set) (os : List Own) → responseRecords s set ≡ os
+      → ReadAs readAs (sends to (noneIfEmpty os (responsePacket s id set))) (map (sentTo to) (unlessEmpty os (responseOf s id set)))
+  response-packet to id set [] e = tt
+  response-packet to id set (o ∷ os) e =
+      reads to (responsePacket s id set) (responseOf s id set) (ap messageOf (response-back s ok id set (λ z. clash (cc))))
 
   none-twice : (os : List Own) (p : List ℕ) → noneIfEmpty os (noneIfEmpty os p) ≡ noneIfEmpty os p
   none-twice [] p = refl
   none-twice (o ∷ os) p = refl
 
-  response-none : (set : Set) → noneIfEmpty (responseRecords s set) (responsePacket s set) ≡ responsePacket s set
+  response-none : (id : ℕ) (set : Set) → noneIfEmpty (responseRecords s set) (responsePacket s id set) ≡ responsePacket s id set
   unfolding responsePacket
-  response-none set = none-twice (responseRecords s set) _
+  response-none id set = none-twice (responseRecords s set) _
 
-  -- the packet of an output is read as its message
-  pub output-reads : (o : Output) → ReadAs readAs (sends multicast (packetFor s o)) (map toAll (messagesFor s o))
+  -- a response is read as its message
+  pub response-reads : (to : Destination) (id : ℕ) (set : Set) → ReadAs readAs (sends to (responsePacket s id set)) (map (sentTo to) (responseFor s id set))
+  unfolding responseFor
+  response-reads to id set =
+      subst (λ (p : List ℕ). ReadAs readAs (sends to p) (map (sentTo to) (unlessEmpty (responseRecords s set) (responseOf s id set)))) (response-none id set)
+      (response-packet to id set (responseRecords s set) refl)
+
+  -- and the packet of an output
+  pub output-reads : (o : Output) → ReadAs readAs (sends everyone (packetFor s o)) (map toAll (messagesFor s o))
   unfolding packetFor messagesFor
   output-reads Nothing = tt
-  output-reads (Probe k) = reads multicast (probePacket s k) (probeOf s k) (ap messageOf (probe-back s ok k))
-  output-reads (Response set) =
-      subst (λ (p : List ℕ). ReadAs readAs (sends multicast p) (map toAll (unlessEmpty (responseRecords s set) (responseOf s set)))) (response-none set)
-      (response-reads set (responseRecords s set) refl)
+  output-reads (Probe k) = reads everyone (probePacket s k) (probeOf s k) (ap messageOf (probe-back s ok k))
+  output-reads (Response set) = response-reads everyone 0 set
 
   -- a plain reply too
-  plain-reads : (set : Set) (id : ℕ) (q : Question) → isName (q .name) ≡ true → (os : List Own) → plainRecords s set ≡ os
-      → ReadAs readAs (sends unicast (noneIfEmpty os (plainPacket s set id q))) (map toAsker (unlessEmpty os (plainReplyOf s set id q)))
-  plain-reads set id q n [] e = tt
-  plain-reads set id q n (o ∷ os) e = reads unicast (plainPacket s set id q) (plainReplyOf s set id q) (ap messageOf (plain-back s ok set id q n (λ z. clash (cc))))
+  plain-reads : (to : Destination) (set : Set) (id : ℕ) (q : Question) → isName (q .name) ≡ true → (os : List Own) → plainRecords s set ≡ os
+      → ReadAs readAs (sends to (noneIfEmpty os (plainPacket s set id q))) (map (sentTo to) (unlessEmpty os (plainReplyOf s set id q)))
+  plain-reads to set id q n [] e = tt
+  plain-reads to set id q n (o ∷ os) e =
+      reads to (plainPacket s set id q) (plainReplyOf s set id q) (ap messageOf (plain-back s ok set id q n (λ z. clash (cc))))
 
   plain-none : (set : Set) (id : ℕ) (q : Question) → isName (q .name) ≡ true → noneIfEmpty (plainRecords s set) (plainPacket s set id q) ≡ plainPacket s set id q
   unfolding plainPacket
   plain-none set id q n = simp n (none-twice (plainRecords s set) _)
 
-  pub reply-reads : (set : Set) (id : ℕ) (qs : List Question) → ((q : Question) (rest : List Question) → qs ≡ q ∷ rest → isName (q .name) ≡ true)
-      → ReadAs readAs (sends unicast (plainFor s set id qs)) (map toAsker (repliesFor s set id qs))
+  pub reply-reads :
+      (to : Destination) (set : Set) (id : ℕ) (qs : List Question)
+      → ((q : Question) (rest : List Question) → qs ≡ q ∷ rest → isName (q .name) ≡ true)
+      → ReadAs readAs (sends to (plainFor s set id qs)) (map (sentTo to) (repliesFor s set id qs))
   unfolding repliesFor
-  reply-reads set id [] n = tt
-  reply-reads set id (q ∷ []) n =
+  reply-reads to set id [] n = tt
+  reply-reads to set id (q ∷ []) n =
       let is-name : isName (q .name) ≡ true = n q [] refl in
-      subst (λ (p : List ℕ). ReadAs readAs (sends unicast p) (map toAsker (unlessEmpty (plainRecords s set) (plainReplyOf s set id q))))
-      (plain-none set id q is-name) (plain-reads set id q is-name (plainRecords s set) refl)
-  reply-reads set id (q ∷ (r ∷ rs)) n = tt
+      subst (λ (p : List ℕ). ReadAs readAs (sends to p) (map (sentTo to) (unlessEmpty (plainRecords s set) (plainReplyOf s set id q))))
+      (plain-none set id q is-name) (plain-reads to set id q is-name (plainRecords s set) refl)
+  reply-reads to set id (q ∷ (r ∷ rs)) n = tt

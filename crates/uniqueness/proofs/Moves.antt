@@ -57,17 +57,18 @@ module _ (x : State) (ok : validSetup (x .setup) ≡ true) (k : Claim) where
     after = claimOf (ownClaim k) (walkedOf x now .progress)
 
     announcement : output ≡ Response (recordsOf (ownClaim k) aaaa′) → law.Announces responder rules (x .setup) x (law.ticks tick) k
+    unfolding messagesFor
     announcement e =
         let f = first-of (x .setup) k in
         let set : Set = recordsOf (ownClaim k) aaaa′ in
         let h : has (f .1) set ≡ true = all-announced (x .setup) k (f .0) (f .1) (f .2) (f .3) in
         record {
-          message = responseOf (x .setup) set;
-          sent = in-out x ok (law.ticks tick) (Response set) (responseOf (x .setup) set) e (goes-out (x .setup) set (f .1) h (f .3));
+          message = responseOf (x .setup) 0 set;
+          sent = in-out x ok (law.ticks tick) (Response set) (responseOf (x .setup) 0 set) e (goes-out (x .setup) 0 set (f .1) h (f .3));
           all = λ type d g.
               let w : Has (x .setup) k type d = has-data (x .setup) k type d g in
-              carries (x .setup) set k type (w .own) (w .is) (all-announced (x .setup) k type (w .own) (owned k type (w .own) (w .is)) (w .there)) (w .there);
-          under = says-name (x .setup) set k (f .0) (f .1) (f .2) h (f .3);
+              carries (x .setup) 0 set k type (w .own) (w .is) (all-announced (x .setup) k type (w .own) (owned k type (w .own) (w .is)) (w .there)) (w .there);
+          under = says-name (x .setup) 0 set k (f .0) (f .1) (f .2) h (f .3);
         }
 
     soon : (i : ℕ) → law.probing i (afterMs now 250) ≡ law.probing i (now + 250)

@@ -1,65 +1,53 @@
--- What one accepted call sends, in messages, and what is kept of that: laws `noted` and `said`. Assumes nothing.
+-- What one accepted call sends, in messages, to all and to the asker: law `said`. Assumes nothing.
 use mathlib.Core.Path.{_≡_, refl, sym, ap, subst, _∙_}
 use mathlib.Core.Logic.{_⊎_, inl, inr}
-use mathlib.Core.Bool.{Bool, true, false, not, _&&_}
+use mathlib.Core.Bool.{Bool, true, false, cond, not, _&&_}
 use mathlib.Core.Option.{some}
 use mathlib.Core.List.{List, [], _∷_, map}
 use Prim.Native.Nat.{ℕ}
 use Rattle.wire.specs.message.Message.{Question, Message, isResponse}
 use Rattle.own.specs.records.Setups.{validSetup}
 use Rattle.own.specs.records.Records.{hasRecord}
-use Rattle.claims.specs.Time.{sentOf, marked}
 use Rattle.claims.specs.Claims.{claimOf, heldNow}
 use Rattle.claims.specs.records.Own.{has}
 use Rattle.claims.specs.records.Sets.{withData, under}
 use Rattle.claims.specs.declared.records.Claim as own
 use Rattle.claims.specs.declared.records.Own.{Own}
 use Rattle.claims.specs.declared.ClaimState.{ClaimState}
-use Rattle.claims.specs.declared.When.{When}
-use Rattle.claims.specs.declared.Multicasts.{Multicasts}
 use Rattle.claims.specs.declared.Progress.{Progress}
 use Rattle.claims.specs.declared.records.Set.{Set}
 use Rattle.claims.specs.steps.Tick.{concerns}
 use Rattle.claims.specs.declared.steps.Output.{Output}
 use Rattle.claims.specs.declared.steps.Output.the-variants.{Nothing, Probe, Response}
-use Rattle.claims.proofs.steps.Ticks.{sentBy, tick-sent}
 use Rattle.claims.proofs.steps.Moves.{Move, stays, probes, announces, repeats, answers, tick-move}
-use Rattle.claims.specs.answers.Answers.{asksOf, isDue, dueTo, plainOf}
+use Rattle.claims.specs.answers.Answers.{asksOf, isDue, isToAsker, wantedOf, askedBy, multicastAsks, unicastAsks, dueTo, judgedOf, plainOf}
+use Rattle.claims.specs.answers.Held.{heldBack}
 use Rattle.claims.specs.declared.answers.Asks.{Asks}
 use Rattle.claims.specs.declared.answers.Facts.{Facts}
 use Rattle.claims.specs.records.Own.{carriesData, claimFor, present}
 use Rattle.claims.proofs.records.Sets.{has-each}
-use Rattle.claims.proofs.answers.Causes.{IsDue, only-due}
-use Rattle.claims.proofs.answers.Receives.{receive-sent, answered-wanted, plain-claim}
+use Rattle.claims.proofs.answers.Causes.{IsDue, only-due, held-or-judged}
+use Rattle.claims.proofs.answers.Receives.{answered-wanted, plain-claim}
 use Rattle.claims.proofs.answers.Asking.{asks-query}
 use Rattle.facts.specs.Facts.{factsOf}
 use Rattle.writer.specs.own_packets.Own.{responseRecords, responseOf, probeOf, plainRecords, plainReplyOf}
 use Rattle.responder.specs.Calls.{walkedOf}
 use Rattle.responder.specs.declared.State.{State}
-use Rattle.link.specs.Responder.{Claim}
+use Rattle.link.specs.Responder.{Claim, everyone}
 use Rattle.link.specs.Premises.{Among}
 use Rattle.link.specs.Laws as law
 use Rattle.responder.specs.Handed.{Arrival, comingOf, Tick}
-use Rattle.uniqueness.specs.Responder.{ownClaim, claimRecord, rdata, name, responds, responder}
-use Rattle.uniqueness.specs.Rules.{messagesFor, repliesFor, toAsker, told, served, progressOf, outputOf, stageOf, claimAt, timeOf as sentTime, timeIn, rules}
-use Rattle.uniqueness.proofs.Lists.{clash, never, and-left, and-right, in-map, out-map}
-use Rattle.uniqueness.proofs.Owned.{Has, has-data, own-claim}
+use Rattle.uniqueness.specs.Responder.{ownClaim, backTo, claimRecord, name, responds, responder}
+use Rattle.uniqueness.specs.Rules.{responseFor, messagesFor, repliesFor, toAsker, told, served, progressOf, outputOf, stageOf, claimAt, rules}
+use Rattle.uniqueness.proofs.Lists.{clash, never, and-left, and-right, in-append, in-tail, out-append, in-map, out-map}
+use Rattle.uniqueness.proofs.Owned.{Owned, own-claim}
 use Rattle.uniqueness.proofs.Messages.{only-one, goes-out, carries, name-said, plain-said}
 use Rattle.uniqueness.proofs.Hearing.{Hears, same, yields, defers, heard}
-use Rattle.uniqueness.proofs.Facts.{stage-held, announce-held, repeat-held, marks, OneOf, one-of, facts-response, is-response, query-flag, unless-out}
+use Rattle.uniqueness.proofs.Facts.{stage-held, announce-held, repeat-held, OneOf, one-of, facts-response, is-response, query-flag, unless-out}
 
 module _ (x : State) (ok : validSetup (x .setup) ≡ true) where
   abbrev aaaa′ : Bool
   aaaa′ = x .setup .hasaaaa
-
-  abbrev timeOf : law.Step responder → ℕ
-  timeOf c = law.timeOf responder c
-
-  sent-is : (c : law.Step responder) (r : Own) → sentOf r (progressOf x c .sent) ≡ sentOf r (sentBy (outputOf x c) (x .progress .sent) (timeOf c))
-  unfolding plainOf
-  sent-is (law.ticks t) r = ap (sentOf r) (tick-sent (t .time) aaaa′ (x .progress))
-  sent-is (law.hears arrival m) r = receive-sent (comingOf arrival) (factsOf (x .setup) m) aaaa′ (x .progress) r
-  sent-is (law.serves arrival m) r = refl
 
   pub in-out :
       (c : law.Step responder) (o : Output) (m : Message) → outputOf x c ≡ o → Among m (messagesFor (x .setup) o)
@@ -68,50 +56,35 @@ module _ (x : State) (ok : validSetup (x .setup) ≡ true) where
   in-out (law.ticks t) o m e h =
       in-map law.toAll m (messagesFor (x .setup) (outputOf x (law.ticks t))) (subst (λ (l : List Message). Among m l) (sym (ap (messagesFor (x .setup)) e)) h)
   in-out (law.hears a b) o m e h =
-      in-map law.toAll m (messagesFor (x .setup) (outputOf x (law.hears a b))) (subst (λ (l : List Message). Among m l) (sym (ap (messagesFor (x .setup)) e)) h)
+      in-append (law.toAll m) (map law.toAll (messagesFor (x .setup) (outputOf x (law.hears a b))))
+      (map (toAsker a) (responseFor (x .setup) (b .id) (told x a b .unicast)))
+      (in-map law.toAll m (messagesFor (x .setup) (outputOf x (law.hears a b))) (subst (λ (l : List Message). Among m l) (sym (ap (messagesFor (x .setup)) e)) h))
   in-out (law.serves a b) o m e h = absurd (subst (λ (p : Output). Among m (messagesFor (x .setup) p)) (sym e) h)
 
-  -- ---- what is multicast
+  -- ---- what is told, to all and to the asker
 
-  pub multicast :
-      (c : law.Step responder) (set : Set) → outputOf x c ≡ Response set → (k : Claim) (type : ℕ) (r : Own) → claimRecord k type ≡ some r
-      → has r set ≡ true → hasRecord (x .setup) r ≡ true → law.Multicasts responder rules (x .setup) x c k type
-  multicast c set e k type r i h t =
-      record {
-        message = responseOf (x .setup) set;
-        sent = in-out c (Response set) (responseOf (x .setup) set) e (goes-out (x .setup) set r h t);
-        carries = carries (x .setup) set k type r i h t;
-      }
+  module _ (k : Claim) (type : ℕ) (r : Own) (is : claimRecord k type ≡ some r) (there : hasRecord (x .setup) r ≡ true) where
+    pub told-all :
+        (c : law.Step responder) (set : Set) → outputOf x c ≡ Response set → has r set ≡ true → law.Tells responder rules (x .setup) x c k type everyone
+    unfolding messagesFor
+    told-all c set e h =
+        record {
+          message = responseOf (x .setup) 0 set;
+          sent = in-out c (Response set) (responseOf (x .setup) 0 set) e (goes-out (x .setup) 0 set r h there);
+          carries = carries (x .setup) 0 set k type r is h there;
+        }
 
-  abbrev Noted : law.Step responder → Claim → ℕ → Type 0
-  Noted c k type =
-      (rules .multicast (law.next responder rules x c) k type ≡ rules .multicast x k type)
-      ⊎ ((rules .multicast (law.next responder rules x c) k type ≡ some (timeOf c)) × law.Multicasts responder rules (x .setup) x c k type)
-
-  noted-as : (c : law.Step responder) (k : Claim) (type : ℕ) (r : Own) → claimRecord k type ≡ some r → (v : When) → sentOf r (progressOf x c .sent) ≡ v
-      → rules .multicast (law.next responder rules x c) k type ≡ sentTime v
-  noted-as c k type r i v e =
-      ap (timeIn (progressOf x c .sent)) i ∙ ap sentTime e
-
-  kept-as :
-      (c : law.Step responder) (k : Claim) (type : ℕ) (r : Own) → claimRecord k type ≡ some r
-      → sentOf r (progressOf x c .sent) ≡ sentOf r (x .progress .sent) → Noted c k type
-  kept-as c k type r i e = inl (noted-as c k type r i (sentOf r (x .progress .sent)) e ∙ sym (ap (timeIn (x .progress .sent)) i))
-
-  noted-by : (c : law.Step responder) (k : Claim) (type : ℕ) (r : Own) → claimRecord k type ≡ some r → hasRecord (x .setup) r ≡ true
-      → (o : Output) → outputOf x c ≡ o → sentOf r (progressOf x c .sent) ≡ sentOf r (sentBy o (x .progress .sent) (timeOf c)) → Noted c k type
-  noted-by c k type r i t Nothing e s = kept-as c k type r i s
-  noted-by c k type r i t (Probe j) e s = kept-as c k type r i s
-  noted-by c k type r i t (Response set) e s = go (has r set) refl (s ∙ marks r set (x .progress .sent) (timeOf c))
-    where
-      go : (b : Bool) → has r set ≡ b → sentOf r (progressOf x c .sent) ≡ marked (has r set) (sentOf r (x .progress .sent)) (timeOf c) → Noted c k type
-      go true h g = inr (noted-as c k type r i _ (g ∙ ap (λ (b : Bool). marked b (sentOf r (x .progress .sent)) (timeOf c)) h), multicast c set e k type r i h t)
-      go false h g = kept-as c k type r i (g ∙ ap (λ (b : Bool). marked b (sentOf r (x .progress .sent)) (timeOf c)) h)
-
-  pub noted : (c : law.Step responder) (k : Claim) (type : ℕ) (d : List ℕ) → rdata (x .setup) k type ≡ some d → Noted c k type
-  noted c k type d e =
-      let h : Has (x .setup) k type d = has-data (x .setup) k type d e in
-      noted-by c k type (h .own) (h .is) (h .there) (outputOf x c) refl (sent-is c (h .own))
+    pub told-asker : (a : Arrival) (m : Message) → has r (told x a m .unicast) ≡ true → law.Tells responder rules (x .setup) x (law.hears a m) k type (backTo a)
+    told-asker a m h =
+        let reply : Message = responseOf (x .setup) (m .id) (told x a m .unicast) in
+        record {
+          message = reply;
+          sent =
+              in-tail (toAsker a reply) (map law.toAll (messagesFor (x .setup) (outputOf x (law.hears a m))))
+              (map (toAsker a) (responseFor (x .setup) (m .id) (told x a m .unicast)))
+              (in-map (toAsker a) reply (responseFor (x .setup) (m .id) (told x a m .unicast)) (goes-out (x .setup) (m .id) (told x a m .unicast) r h there));
+          carries = carries (x .setup) (m .id) (told x a m .unicast) k type r is h there;
+        }
 
   -- ---- what is said
 
@@ -131,29 +104,63 @@ module _ (x : State) (ok : validSetup (x .setup) ≡ true) where
       go (repeats d w f) = repeat-held (claimAt x k) after (t .time) w .1
       go (answers other f h g) = ap stageOf f ∙ stage-held (claimAt x k) h
 
-  hear-said : (arrival : Arrival) (m : Message) (k : Claim) → under (ownClaim k) (told x arrival m .answers) ≡ true → HeldThen (law.hears arrival m) k
-  hear-said arrival m k u = go (heard x arrival m k)
+  -- what is asked for, by multicast or by unicast, is asked for by a query
+  asked-query : (unicast : Bool) (now : ℕ) (f : Facts) (r : Own) → has r (askedBy unicast (x .progress) f now) ≡ true → f .response ≡ false
+  unfolding askedBy
+  asked-query unicast now f r h =
+      asks-query f r
+      (and-left (has r (asksOf f .asked)) _ (sym (has-each (λ o. has o (asksOf f .asked) && way unicast o) r) ∙ h))
     where
-      f : Facts
-      f = factsOf (x .setup) m
+      way : Bool → Own → Bool
+      way u o = cond u (isToAsker (x .progress) f now o) (not (isToAsker (x .progress) f now o))
 
-      one : OneOf k (told x arrival m .answers)
-      one = one-of k (told x arrival m .answers) u
+  -- a record of the claim that goes out for a message: the claim was held and the message is a query, so it is held then
+  module _ (arrival : Arrival) (m : Message) (k : Claim) where
+    abbrev f : Facts
+    f = factsOf (x .setup) m
 
-      is-due : IsDue (x .progress) (arrival .time) (asksOf f) aaaa′ (one .own)
-      is-due =
-          only-due (x .progress) (arrival .time) (asksOf f) aaaa′ (one .own) (answered-wanted (comingOf arrival) f aaaa′ (x .progress) (one .own) (one .there))
+    out-held :
+        (type : ℕ) (r : Own) → Owned k type r → heldNow (claimOf (claimFor r) (x .progress)) ≡ true → factsOf (x .setup) m .response ≡ false
+        → HeldThen (law.hears arrival m) k
+    out-held type r o h q = go (heard x arrival m k)
+      where
+        was-held : heldNow (claimAt x k) ≡ true
+        was-held = subst (λ (j : own.Claim). heldNow (claimOf j (x .progress)) ≡ true) (own-claim k type r o) h
 
-      was-held : heldNow (claimAt x k) ≡ true
-      was-held = subst (λ (j : own.Claim). heldNow (claimOf j (x .progress)) ≡ true) (own-claim k (one .type) (one .own) (one .is)) (is-due .held)
+        is-query : isResponse (m .flags) ≡ false
+        is-query = sym (facts-response (x .setup) m) ∙ q
 
-      is-query : isResponse (m .flags) ≡ false
-      is-query = sym (facts-response (x .setup) m) ∙ asks-query f (one .own) (is-due .asked)
+        go : Hears x arrival m k → HeldThen (law.hears arrival m) k
+        go (same e g) = e ∙ stage-held (claimAt x k) was-held
+        go (yields c g) = never (sym is-query ∙ is-response (x .setup) m k c)
+        go (defers i v c p g) = let z = stage-held (claimAt x k) was-held in clash (cc)
 
-      go : Hears x arrival m k → HeldThen (law.hears arrival m) k
-      go (same e g) = e ∙ stage-held (claimAt x k) was-held
-      go (yields c g) = never (sym is-query ∙ is-response (x .setup) m k c)
-      go (defers i v c p g) = let z = stage-held (claimAt x k) was-held in clash (cc)
+    hear-said : under (ownClaim k) (told x arrival m .answers) ≡ true → HeldThen (law.hears arrival m) k
+    unfolding multicastAsks
+    hear-said u =
+        let one : OneOf k (told x arrival m .answers) = one-of k (told x arrival m .answers) u in
+        let due : IsDue (x .progress) (arrival .time) (multicastAsks (x .progress) f (arrival .time)) aaaa′ (one .own) =
+        only-due (x .progress) (arrival .time) (multicastAsks (x .progress) f (arrival .time)) aaaa′ (one .own)
+        (answered-wanted (comingOf arrival) f aaaa′ (x .progress) (one .own) (one .there)) in
+        out-held (one .type) (one .own) (one .is) (due .held) (asked-query false (arrival .time) f (one .own) (due .asked))
+
+    -- what goes to the asker is wanted
+    replied-wanted :
+        (r : Own) → has r (told x arrival m .unicast) ≡ true
+        → has r (wantedOf (x .progress) (unicastAsks (x .progress) f (arrival .time)) (arrival .time) aaaa′) ≡ true
+    unfolding heldBack judgedOf
+    replied-wanted r =
+        held-or-judged (x .progress) (comingOf arrival) f aaaa′
+        (λ b v. has r (v .unicast) ≡ true → has r (wantedOf (x .progress) (unicastAsks (x .progress) f (arrival .time)) (arrival .time) aaaa′) ≡ true)
+        (λ e h. never (sym (has-each (λ o. false) r) ∙ h)) (λ e h. h)
+
+    reply-said : under (ownClaim k) (told x arrival m .unicast) ≡ true → HeldThen (law.hears arrival m) k
+    unfolding unicastAsks
+    reply-said u =
+        let one : OneOf k (told x arrival m .unicast) = one-of k (told x arrival m .unicast) u in
+        let due : IsDue (x .progress) (arrival .time) (unicastAsks (x .progress) f (arrival .time)) aaaa′ (one .own) =
+        only-due (x .progress) (arrival .time) (unicastAsks (x .progress) f (arrival .time)) aaaa′ (one .own) (replied-wanted (one .own) (one .there)) in
+        out-held (one .type) (one .own) (one .is) (due .held) (asked-query true (arrival .time) f (one .own) (due .asked))
 
   said-by : (c : law.Step responder) (k : Claim) (set : Set) → outputOf x c ≡ Response set → under (ownClaim k) set ≡ true → HeldThen c k
   said-by (law.ticks t) k set e u = tick-said t k set e u
@@ -169,7 +176,7 @@ module _ (x : State) (ok : validSetup (x .setup) ≡ true) where
   said-as :
       (c : law.Step responder) (k : Claim) (m : Message) (o : Output) → outputOf x c ≡ o → Among m (messagesFor (x .setup) o)
       → responds m (name (x .setup) k) ≡ true → HeldThen c k
-  unfolding messagesFor
+  unfolding messagesFor responseFor
   said-as c k m Nothing e h s = absurd h
   said-as c k m (Probe j) e h s =
       absurd
@@ -177,36 +184,47 @@ module _ (x : State) (ok : validSetup (x .setup) ≡ true) where
       (ap (λ (n : Message). isResponse (n .flags)) (only-one m (probeOf (x .setup) j) h) ∙ query-flag (x .setup) j) s)
   said-as c k m (Response set) e h s =
       said-by c k set e
-      (name-said (x .setup) ok set k
+      (name-said (x .setup) ok set 0 k
       (subst (λ (n : Message). responds n (name (x .setup) k) ≡ true)
-      (unless-out (responseRecords (x .setup) set) (responseOf (x .setup) set) m h) s))
+      (unless-out (responseRecords (x .setup) set) (responseOf (x .setup) 0 set) m h) s))
+
+  -- a response to the asker
+  reply-as : (a : Arrival) (b : Message) (k : Claim) (m : Message) → Among m (responseFor (x .setup) (b .id) (told x a b .unicast))
+      → responds m (name (x .setup) k) ≡ true → HeldThen (law.hears a b) k
+  unfolding responseFor
+  reply-as a b k m h s =
+      let set : Set = told x a b .unicast in
+      reply-said a b k
+      (name-said (x .setup) ok (told x a b .unicast) (b .id) k
+      (subst (λ (n : Message). responds n (name (x .setup) k) ≡ true)
+      (unless-out (responseRecords (x .setup) (told x a b .unicast)) (responseOf (x .setup) (b .id) (told x a b .unicast)) m h) s))
 
   -- a plain reply is sent of held claims alone
   due-held : (progress : Progress) (q : Asks) (o : Own) → isDue progress q aaaa′ o ≡ true → heldNow (claimOf (claimFor o) progress) ≡ true
   due-held progress q o h = and-left (heldNow (claimOf (claimFor o) progress)) (present o aaaa′ && has o (q .asked)) h
 
-  serve-held : (arrival : Arrival) (m : Message) (k : Claim) → under (ownClaim k) (withData (served x arrival m .answers)) ≡ true → HeldThen (law.serves arrival m) k
+  serve-held : (arrival : Arrival) (m : Message) (k : Claim) → under (ownClaim k) (withData (served x arrival m .unicast)) ≡ true → HeldThen (law.serves arrival m) k
   unfolding withData plainOf dueTo
   serve-held arrival m k u =
       let f : Facts = factsOf (x .setup) m in
-      let one : OneOf k (withData (served x arrival m .answers)) = one-of k (withData (served x arrival m .answers)) u in
+      let one : OneOf k (withData (served x arrival m .unicast)) = one-of k (withData (served x arrival m .unicast)) u in
       let o : Own = one .own in
-      let there : (carriesData o && has o (served x arrival m .answers)) ≡ true = sym (has-each (λ p. carriesData p && has p (served x arrival m .answers)) o) ∙ one .there in
+      let there : (carriesData o && has o (served x arrival m .unicast)) ≡ true = sym (has-each (λ p. carriesData p && has p (served x arrival m .unicast)) o) ∙ one .there in
       let due : isDue (x .progress) (asksOf f) aaaa′ o ≡ true =
-      sym (has-each (isDue (x .progress) (asksOf f) aaaa′) o) ∙ and-right (carriesData o) (has o (served x arrival m .answers)) there in
+      sym (has-each (isDue (x .progress) (asksOf f) aaaa′) o) ∙ and-right (carriesData o) (has o (served x arrival m .unicast)) there in
       let was-held : heldNow (claimAt x k) ≡ true =
       subst (λ (j : own.Claim). heldNow (claimOf j (x .progress)) ≡ true) (own-claim k (one .type) o (one .is)) (due-held (x .progress) (asksOf f) o due) in
       ap stageOf (plain-claim (arrival .time) f aaaa′ (ownClaim k) (x .progress)) ∙ stage-held (claimAt x k) was-held
 
   serve-said : (arrival : Arrival) (b : Message) (k : Claim) (qs : List Question) (m : Message)
-      → Among m (repliesFor (x .setup) (served x arrival b .answers) (b .id) qs) → responds m (name (x .setup) k) ≡ true → HeldThen (law.serves arrival b) k
+      → Among m (repliesFor (x .setup) (served x arrival b .unicast) (b .id) qs) → responds m (name (x .setup) k) ≡ true → HeldThen (law.serves arrival b) k
   unfolding repliesFor
   serve-said arrival b k [] m h s = absurd h
   serve-said arrival b k (q ∷ []) m h s =
       serve-held arrival b k
-      (plain-said (x .setup) ok (served x arrival b .answers) (b .id) q k
+      (plain-said (x .setup) ok (served x arrival b .unicast) (b .id) q k
       (subst (λ (n : Message). responds n (name (x .setup) k) ≡ true)
-      (unless-out (plainRecords (x .setup) (served x arrival b .answers)) (plainReplyOf (x .setup) (served x arrival b .answers) (b .id) q) m h) s))
+      (unless-out (plainRecords (x .setup) (served x arrival b .unicast)) (plainReplyOf (x .setup) (served x arrival b .unicast) (b .id) q) m h) s))
   serve-said arrival b k (q ∷ (r ∷ rs)) m h s = absurd h
 
   pub said : (c : law.Step responder) (k : Claim) (q : law.Sent Message) → Among q (law.out responder rules x c) → responds (q .message) (name (x .setup) k) ≡ true
@@ -215,8 +233,21 @@ module _ (x : State) (ok : validSetup (x .setup) ≡ true) where
       let m = out-map law.toAll q (messagesFor (x .setup) (outputOf x (law.ticks t))) h in
       said-as (law.ticks t) k (m .0) (outputOf x (law.ticks t)) refl (m .1) (ap (λ (y : law.Sent Message). responds (y .message) (name (x .setup) k)) (sym (m .2)) ∙ s)
   said (law.hears a b) k q h s =
-      let m = out-map law.toAll q (messagesFor (x .setup) (outputOf x (law.hears a b))) h in
-      said-as (law.hears a b) k (m .0) (outputOf x (law.hears a b)) refl (m .1) (ap (λ (y : law.Sent Message). responds (y .message) (name (x .setup) k)) (sym (m .2)) ∙ s)
+      go
+      (out-append q (map law.toAll (messagesFor (x .setup) (outputOf x (law.hears a b))))
+      (map (toAsker a) (responseFor (x .setup) (b .id) (told x a b .unicast))) h)
+    where
+      go :
+          Among q (map law.toAll (messagesFor (x .setup) (outputOf x (law.hears a b))))
+          ⊎ Among q (map (toAsker a) (responseFor (x .setup) (b .id) (told x a b .unicast)))
+          → HeldThen (law.hears a b) k
+      go (inl i) =
+          let m = out-map law.toAll q (messagesFor (x .setup) (outputOf x (law.hears a b))) i in
+          said-as (law.hears a b) k (m .0) (outputOf x (law.hears a b)) refl (m .1)
+          (ap (λ (y : law.Sent Message). responds (y .message) (name (x .setup) k)) (sym (m .2)) ∙ s)
+      go (inr i) =
+          let m = out-map (toAsker a) q (responseFor (x .setup) (b .id) (told x a b .unicast)) i in
+          reply-as a b k (m .0) (m .1) (ap (λ (y : law.Sent Message). responds (y .message) (name (x .setup) k)) (sym (m .2)) ∙ s)
   said (law.serves a b) k q h s =
-      let m = out-map toAsker q (repliesFor (x .setup) (served x a b .answers) (b .id) (b .questions)) h in
+      let m = out-map (toAsker a) q (repliesFor (x .setup) (served x a b .unicast) (b .id) (b .questions)) h in
       serve-said a b k (b .questions) (m .0) (m .1) (ap (λ (y : law.Sent Message). responds (y .message) (name (x .setup) k)) (sym (m .2)) ∙ s)

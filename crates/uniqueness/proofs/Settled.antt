@@ -6,6 +6,7 @@ use mathlib.Core.Bool.{false}
 use mathlib.Core.List.{List, [], _∷_}
 use Prim.Native.Nat.{ℕ, zero, suc, _≤_, _<_}
 use native.Mathlib.Omega.{arith}
+use lib.ListN.{length}
 use borrow.Author.Tests.{le-ltb, leb-false}
 use mathlib.Mathlib.Data.Bool.Basic.{or-eq-false-eq-eq-false-and-eq-false as neither}
 use Rattle.claims.specs.Time.{lastTime, dueBy}
@@ -19,18 +20,18 @@ use Rattle.claims.specs.declared.steps.Step.{Step}
 use Rattle.claims.proofs.steps.Ticks.{tick-last}
 use Rattle.claims.proofs.steps.Settles.{ticks, all-ticks}
 use Rattle.responder.specs.Refusals.{tickRefusal}
-use Rattle.responder.specs.Calls.{multicast, answerOf, walkedOf, tickedPacket, tickOf}
+use Rattle.responder.specs.Calls.{answerOf, walkedOf, tickedPacket, tickOf}
 use Rattle.responder.specs.Runs.{ticked}
 use Rattle.responder.specs.declared.State.{State}
 use Rattle.responder.proofs.Closure.{Sound, sound-time, accepted-sound}
 use Rattle.link.specs.Responder as link
-use Rattle.link.specs.Responder.{Parcel}
+use Rattle.link.specs.Responder.{everyone, Parcel}
 use Rattle.link.specs.Premises.{Among}
 use Rattle.responder.specs.Handed.{Tick}
 use Rattle.uniqueness.specs.Responder.{sends, listed, dueTimes, answeredBy, tick, due}
 use Rattle.uniqueness.specs.Rules.{with}
 use Rattle.uniqueness.proofs.Lists.{out-append}
-use Rattle.uniqueness.proofs.Calls.{ticked-state}
+use Rattle.uniqueness.proofs.Calls.{accepted-with, ticked-state}
 
 -- a tick that is accepted, from x to y
 abbrev pub Ticks : State → Tick → State → Type 0
@@ -54,17 +55,16 @@ module _ (t : Tick) (time : t .time ≤ lastTime) (long : 1452 ≤ t .room) wher
       let e : wrongTime (x .progress) now ≡ false = sound-time x now s ∙ rw (le-ltb lastTime now time, le-ltb now (x .progress .last) l) refl in
       rw (e, le-ltb (t .room) 1452 long, s .right) refl
 
-  answered : (n : ℕ) (p : List ℕ) (y : State) → n ≡ 0 → answeredBy (answerOf n multicast p) y p ≡ link.accepted y (sends multicast p)
-  answered n [] y e = rw e refl
-  answered n (b ∷ bs) y e = rw e refl
+  answered : (n : ℕ) (p : List ℕ) (y : State) → n ≡ 0 → answeredBy (answerOf n p []) y (sends everyone p) ≡ link.accepted y (sends everyone p)
+  answered n p y e = rw e (accepted-with (length p) 0 y (sends everyone p))
 
   accepts : (x : State) → Sound x → x .progress .last ≤ now → Ticks x t (next x)
   unfolding tick tickOf
   accepts x s l =
       let n = not-refused x s l in (
-        sends multicast (tickedPacket x t),
+        sends everyone (tickedPacket x t),
         answered (tickRefusal x t) (tickedPacket x t) (tickOf x t .state) n
-            ∙ ap (λ (y : State). link.accepted y (sends multicast (tickedPacket x t))) (ticked-state x t n),
+            ∙ ap (λ (y : State). link.accepted y (sends everyone (tickedPacket x t))) (ticked-state x t n),
       )
 
   sound-next : (x : State) → Sound x → x .progress .last ≤ now → Sound (next x)

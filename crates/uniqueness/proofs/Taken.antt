@@ -13,7 +13,7 @@ use Rattle.wire.specs.octets.Octets.{word16}
 use Rattle.wire.specs.message.Refusals.{messageRefusal}
 use Rattle.wire.proofs.message.Refused.{from-there}
 use Rattle.claims.specs.Refusals.{wrongTime, wrongDraws}
-use Rattle.responder.specs.Refusals.{smallBuffer, wrongState, receiveRefusal}
+use Rattle.responder.specs.Refusals.{smallBuffers, wrongState, receiveRefusal}
 use Rattle.responder.specs.declared.State.{State}
 use Rattle.responder.proofs.Refusals.{in-order, receive-accepted, tick-accepted}
 use Rattle.link.specs.Responder as link
@@ -42,7 +42,7 @@ from-port p m e = from-there p 5353 (and-false (isResponse (word16 p 2))) ∙ no
 read-taken : (p : List ℕ) (m : Message) → readAs p ≡ some m → Taken p
 read-taken p m e z a n i j h lo hi =
     let none : messageRefusal (a .port) (a .packet) ≡ 0 = ap (λ (v : ℕ). messageRefusal v (a .packet)) i ∙ ap (messageRefusal 5353) j ∙ from-port p m e in
-    go (wrongTime (z .progress) (a .time)) (wrongDraws (a .draw) (a .hold)) (smallBuffer (a .room)) (wrongState z) (rw none at (sym (in-order z a) ∙ h))
+    go (wrongTime (z .progress) (a .time)) (wrongDraws (a .draw) (a .hold)) (smallBuffers a) (wrongState z) (rw none at (sym (in-order z a) ∙ h))
   where
     go : (t d b w : Bool) → cond t 1 (cond d 2 (cond b 3 (cond w 7 0))) ≡ n → ⊥
     go true d b w f = omega (arith, f)

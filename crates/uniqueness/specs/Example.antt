@@ -1,19 +1,22 @@
--- Five lists on which the theorem says something: a responder alone, as late as the premises allow; two that want one instance name with different SRV
--- data, one after the other; two at once, with refused calls, a power cut and a new start; and three, of which one answers a question for its service,
--- gives its name up to a stranger and takes it again; and one that holds a truncated query. Assumes nothing: these are definitions.
+-- Six lists on which the theorem says something: a responder alone, as late as the premises allow; two that want one instance name with different SRV
+-- data, one after the other, where the name is defended by unicast alone; two at once, with refused calls, a power cut and a new start at the address of the
+-- one that was cut; three, of which one answers a question for its service, gives its name up to a stranger and takes it again; one that holds a truncated
+-- query; and two, of which the first answers one probe to all and to the asker. Assumes nothing: these are definitions.
 use mathlib.Core.Bool.{false}
-use mathlib.Core.List.{List, [], _∷_}
+use mathlib.Core.List.{List, [], _∷_, map}
 use lib.ListN.{replicate}
 use Prim.Native.Nat.{ℕ, _+_, _-_}
 use Rattle.own.specs.declared.records.Setup.{Setup}
 use Rattle.claims.specs.records.Sets.{only, atOnce, recordsOf}
 use Rattle.claims.specs.declared.records.Claim.the-variants.{Instance, Host}
-use Rattle.claims.specs.declared.records.Own.the-variants.{Ptr}
+use Rattle.claims.specs.declared.records.Own.the-variants.{Ptr, Srv, Txt}
 use Rattle.claims.specs.declared.records.Set.{Set}
 use Rattle.claims.specs.declared.holds.Address.{Address}
 use Rattle.writer.specs.own_packets.Own.{responsePacket, probePacket}
 use Rattle.link.specs.Entries.{Call, starts, ticks, receives, cut, Entry}
-use Rattle.uniqueness.specs.Responder.{responder}
+use Rattle.link.specs.Witness.{addressIn}
+use Rattle.responder.specs.Handed.{Arrival}
+use Rattle.uniqueness.specs.Responder.{halves, responder}
 
 -- an instance of one letter of "_x._udp.local", a host of one letter, its port, an empty TXT string, 10.0.0.7, no AAAA
 unfoldable pub setupOf : ℕ → ℕ → ℕ → Setup
@@ -56,16 +59,40 @@ at t c = record { time = t; call = c }
 abbrev pub tickAt : ℕ → ℕ → ℕ → Entry responder
 tickAt d ahead t = at t (ticks d (record { time = t + ahead; room = 1452 }))
 
--- an address of the link, fe80::1
-abbrev pub somewhere : Address
-somewhere = record { high = 0xfe80000000000000; low = 1 }
+-- an address of the link: fe80::1 is that of the instance "A" with host "h", fe80::2 of that with "i", fe80::3 of "B"; others are of strangers
+abbrev pub somewhere : ℕ → Address
+somewhere n = record { high = 0xfe80000000000000; low = n }
 
-abbrev pub hearAt : ℕ → ℕ → ℕ → List ℕ → Entry responder
-hearAt d ahead t p = at t (receives d (record { time = t + ahead; from = somewhere; port = 5353; draw = 20; hold = 400; packet = p; room = 1452 }))
+-- a packet that comes at a time, by a clock, from an address and port
+abbrev pub arrival : ℕ → ℕ → ℕ → List ℕ → Arrival
+arrival now from port p =
+    record { time = now; from = somewhere from; port = port; draw = 20; hold = 400; packet = p; room = 1452; unicastroom = 1452 }
+
+abbrev pub hearAt : ℕ → ℕ → ℕ → ℕ → List ℕ → Entry responder
+hearAt d ahead t from p = at t (receives d (arrival (t + ahead) from 5353 p))
 
 -- a query that comes from a plain resolver, and one for the address of "h"
 abbrev pub askAt : ℕ → ℕ → ℕ → List ℕ → Entry responder
-askAt d ahead t p = at t (receives d (record { time = t + ahead; from = somewhere; port = 1024; draw = 20; hold = 400; packet = p; room = 1452 }))
+askAt d ahead t p = at t (receives d (arrival (t + ahead) 9 1024 p))
+
+-- the addresses of responders, by their numbers
+abbrev pub addresses : List (ℕ × ℕ) → ℕ → List ℕ
+addresses pairs = addressIn (map (λ (p : ℕ × ℕ). (p .0, halves (somewhere (p .1)))) pairs)
+
+abbrev pub aloneAt : ℕ → List ℕ
+aloneAt = addresses ((0, 1) ∷ [])
+
+abbrev pub contestAt : ℕ → List ℕ
+contestAt = addresses ((0, 1) ∷ (9, 2) ∷ [])
+
+abbrev pub rivalsAt : ℕ → List ℕ
+rivalsAt = addresses ((0, 1) ∷ (1, 2) ∷ (30, 1) ∷ [])
+
+abbrev pub threeAt : ℕ → List ℕ
+threeAt = addresses ((0, 2) ∷ (16, 1) ∷ (30, 3) ∷ [])
+
+abbrev pub dividedAt : ℕ → List ℕ
+dividedAt = addresses ((0, 1) ∷ (11, 2) ∷ [])
 
 unfoldable pub plainQuery : List ℕ
 plainQuery =
@@ -87,8 +114,9 @@ alone =
     ∷ tickAt 0 0 1201
     ∷ []
 
--- The first holds its names when the second starts, whose clock is 5,000 ms ahead; steps come up to 50 ms late, packets up to 100 ms. The second hears
--- the first's answer to its probe and loses the instance name; its host name it comes to hold. At the end the first answers a plain resolver, which the second need not hear.
+-- The first holds its names when the second starts, whose clock is 5,000 ms ahead; steps come up to 50 ms late, packets up to 100 ms. The first answers the
+-- second's probe by unicast alone, since it has just announced; the second hears it and loses the instance name; its host name it comes to hold. At the end
+-- the first answers a plain resolver, which the second need not hear.
 unfoldable pub contest : List (Entry responder)
 contest =
     at 0 (starts one 0 0)
@@ -103,26 +131,26 @@ contest =
     ∷ at 1000 (starts other 6000 0)
     ∷ tickAt 9 5000 1000
     ∷ tickAt 9 5000 1000
-    ∷ hearAt 0 0 1080 (probePacket other Instance)
-    ∷ hearAt 0 0 1100 (probePacket other Host)
-    ∷ hearAt 9 5000 1150 (responsePacket one srvAndTxt)
+    ∷ hearAt 0 0 1080 2 (probePacket other Instance)
+    ∷ hearAt 0 0 1100 2 (probePacket other Host)
+    ∷ hearAt 9 5000 1150 1 (responsePacket one 0 srvAndTxt)
     ∷ tickAt 9 5000 1300
-    ∷ hearAt 0 0 1310 (probePacket other Host)
+    ∷ hearAt 0 0 1310 2 (probePacket other Host)
     ∷ tickAt 9 5000 1560
-    ∷ hearAt 0 0 1580 (probePacket other Host)
+    ∷ hearAt 0 0 1580 2 (probePacket other Host)
     ∷ tickAt 9 5000 1840
     ∷ tickAt 0 0 1850
     ∷ tickAt 0 0 1850
-    ∷ hearAt 0 0 1870 (responsePacket other (recordsOf Host false))
-    ∷ hearAt 9 5000 1900 (responsePacket one (only Ptr))
-    ∷ hearAt 9 5000 1905 (responsePacket one (recordsOf Host false))
+    ∷ hearAt 0 0 1870 2 (responsePacket other 0 (recordsOf Host false))
+    ∷ hearAt 9 5000 1900 1 (responsePacket one 0 (recordsOf Instance false))
+    ∷ hearAt 9 5000 1905 1 (responsePacket one 0 (recordsOf Host false))
     ∷ askAt 0 0 1910 plainQuery
     ∷ tickAt 0 0 2011
     ∷ []
 
 -- Both start in one millisecond. The first hears the second's probe, whose records are later, and is deferred; then its announcement, and loses the
--- instance name. It is cut when it holds its host name. Started anew, it probes for the name, hears the second's answer and loses again. A tick with a
--- clock that is behind and a packet of one byte are refused.
+-- instance name. It is cut when it holds its host name. Started anew at the same address, it probes for the name, hears the second's answer, which goes to
+-- that address, and loses again. A tick with a clock that is behind and a packet of one byte are refused.
 unfoldable pub rivals : List (Entry responder)
 rivals =
     at 0 (starts one 0 0)
@@ -131,39 +159,39 @@ rivals =
     ∷ tickAt 0 0 0
     ∷ tickAt 1 5000 0
     ∷ tickAt 1 5000 0
-    ∷ hearAt 0 0 60 (probePacket other Instance)
-    ∷ hearAt 0 0 60 (probePacket other Host)
-    ∷ hearAt 1 5000 100 (probePacket one Instance)
-    ∷ hearAt 1 5000 100 (probePacket one Host)
+    ∷ hearAt 0 0 60 2 (probePacket other Instance)
+    ∷ hearAt 0 0 60 2 (probePacket other Host)
+    ∷ hearAt 1 5000 100 1 (probePacket one Instance)
+    ∷ hearAt 1 5000 100 1 (probePacket one Host)
     ∷ at 120 (ticks 0 (record { time = 0; room = 1452 }))
     ∷ tickAt 1 5000 250
     ∷ tickAt 1 5000 250
     ∷ tickAt 0 0 290
-    ∷ hearAt 0 0 300 (probePacket other Instance)
-    ∷ hearAt 0 0 300 (probePacket other Host)
-    ∷ hearAt 1 5000 300 (probePacket one Host)
+    ∷ hearAt 0 0 300 2 (probePacket other Instance)
+    ∷ hearAt 0 0 300 2 (probePacket other Host)
+    ∷ hearAt 1 5000 300 1 (probePacket one Host)
     ∷ tickAt 1 5000 500
     ∷ tickAt 1 5000 500
     ∷ tickAt 0 0 560
-    ∷ hearAt 0 0 570 (probePacket other Instance)
-    ∷ hearAt 0 0 570 (probePacket other Host)
-    ∷ hearAt 1 5000 600 (probePacket one Host)
+    ∷ hearAt 0 0 570 2 (probePacket other Instance)
+    ∷ hearAt 0 0 570 2 (probePacket other Host)
+    ∷ hearAt 1 5000 600 1 (probePacket one Host)
     ∷ tickAt 1 5000 750
     ∷ tickAt 1 5000 750
-    ∷ hearAt 0 0 790 (responsePacket other (recordsOf Instance false))
-    ∷ hearAt 0 0 790 (responsePacket other (recordsOf Host false))
+    ∷ hearAt 0 0 790 2 (responsePacket other 0 (recordsOf Instance false))
+    ∷ hearAt 0 0 790 2 (responsePacket other 0 (recordsOf Host false))
     ∷ tickAt 0 0 820
-    ∷ hearAt 1 5000 850 (responsePacket one (recordsOf Host false))
+    ∷ hearAt 1 5000 850 1 (responsePacket one 0 (recordsOf Host false))
     ∷ at 900 (cut 0)
     ∷ at 950 (starts one 950 0)
     ∷ tickAt 30 0 950
     ∷ tickAt 30 0 950
-    ∷ hearAt 1 5000 1010 (probePacket one Instance)
-    ∷ hearAt 1 5000 1010 (probePacket one Host)
-    ∷ hearAt 1 5000 1020 (0 ∷ [])
-    ∷ hearAt 30 0 1050 (responsePacket other srvAndTxt)
+    ∷ hearAt 1 5000 1010 1 (probePacket one Instance)
+    ∷ hearAt 1 5000 1010 1 (probePacket one Host)
+    ∷ hearAt 1 5000 1020 9 (0 ∷ [])
+    ∷ hearAt 30 0 1050 2 (responsePacket other 0 srvAndTxt)
     ∷ tickAt 30 0 1200
-    ∷ hearAt 1 5000 1230 (probePacket one Host)
+    ∷ hearAt 1 5000 1230 1 (probePacket one Host)
     ∷ tickAt 1 5000 1260
     ∷ []
 
@@ -193,17 +221,42 @@ held =
     ∷ tickAt 0 0 750
     ∷ tickAt 0 0 1750
     ∷ tickAt 0 0 1750
-    ∷ hearAt 0 0 2400 truncatedQuery
+    ∷ hearAt 0 0 2400 9 truncatedQuery
     ∷ tickAt 0 0 2800
     ∷ tickAt 0 0 2801
+    ∷ []
+
+-- The first holds its names for 38 s when the second starts. It answers the second's probe with the SRV record to all, as its last multicast is more than a
+-- quarter of its TTL ago, and with the TXT record to the second alone; the second hears both.
+unfoldable pub divided : List (Entry responder)
+divided =
+    at 0 (starts one 0 0)
+    ∷ tickAt 0 0 0
+    ∷ tickAt 0 0 0
+    ∷ tickAt 0 0 250
+    ∷ tickAt 0 0 250
+    ∷ tickAt 0 0 500
+    ∷ tickAt 0 0 500
+    ∷ tickAt 0 0 750
+    ∷ tickAt 0 0 750
+    ∷ tickAt 0 0 1750
+    ∷ tickAt 0 0 1750
+    ∷ at 40000 (starts other 40000 0)
+    ∷ tickAt 11 0 40000
+    ∷ tickAt 11 0 40000
+    ∷ hearAt 0 0 40010 2 (probePacket other Instance)
+    ∷ hearAt 0 0 40010 2 (probePacket other Host)
+    ∷ hearAt 11 0 40060 1 (responsePacket one 0 (only Srv))
+    ∷ hearAt 11 0 40060 1 (responsePacket one 0 (only Txt))
+    ∷ tickAt 11 0 40250
     ∷ []
 
 -- the clock of a responder that is so far behind the link's time
 abbrev pub tickBehind : ℕ → ℕ → ℕ → Entry responder
 tickBehind d behind t = at t (ticks d (record { time = t - behind; room = 1452 }))
 
-abbrev pub hearBehind : ℕ → ℕ → ℕ → List ℕ → Entry responder
-hearBehind d behind t p = at t (receives d (record { time = t - behind; from = somewhere; port = 5353; draw = 20; hold = 400; packet = p; room = 1452 }))
+abbrev pub hearBehind : ℕ → ℕ → ℕ → ℕ → List ℕ → Entry responder
+hearBehind d behind t from p = at t (receives d (arrival (t - behind) from 5353 p))
 
 -- The first holds its names, hears its own packets and answers a question for its service. A stranger's response with other data makes it give up the
 -- instance name; it probes again, against a second responder that wants the name, and holds it again: the second hears its probe, whose records are later,
@@ -213,46 +266,46 @@ three =
     at 0 (starts other 0 0)
     ∷ tickAt 0 0 0
     ∷ tickAt 0 0 0
-    ∷ hearAt 0 0 10 (probePacket other Instance)
+    ∷ hearAt 0 0 10 2 (probePacket other Instance)
     ∷ tickAt 0 0 250
     ∷ tickAt 0 0 250
     ∷ tickAt 0 0 500
     ∷ tickAt 0 0 500
     ∷ tickAt 0 0 750
     ∷ tickAt 0 0 750
-    ∷ hearAt 0 0 770 (responsePacket other (recordsOf Instance false))
+    ∷ hearAt 0 0 770 2 (responsePacket other 0 (recordsOf Instance false))
     ∷ tickAt 0 0 1750
     ∷ tickAt 0 0 1750
-    ∷ hearAt 0 0 2760 ptrQuery
+    ∷ hearAt 0 0 2760 9 ptrQuery
     ∷ tickAt 0 0 2780
-    ∷ hearAt 0 0 2785 (responsePacket other (only Ptr))
+    ∷ hearAt 0 0 2785 2 (responsePacket other 0 (only Ptr))
     ∷ at 2790 (starts one 7790 250)
-    ∷ hearAt 0 0 2800 (responsePacket stranger srvAndTxt)
+    ∷ hearAt 0 0 2800 9 (responsePacket stranger 0 srvAndTxt)
     ∷ tickAt 0 0 2800
-    ∷ hearAt 16 5000 2850 (probePacket other Instance)
+    ∷ hearAt 16 5000 2850 2 (probePacket other Instance)
     ∷ tickAt 16 5000 3040
     ∷ tickAt 16 5000 3040
     ∷ tickAt 0 0 3050
-    ∷ hearAt 0 0 3060 (probePacket one Instance)
-    ∷ hearAt 0 0 3060 (probePacket one Host)
-    ∷ hearAt 16 5000 3070 (probePacket one Instance)
-    ∷ hearAt 16 5000 3100 (probePacket other Instance)
+    ∷ hearAt 0 0 3060 1 (probePacket one Instance)
+    ∷ hearAt 0 0 3060 1 (probePacket one Host)
+    ∷ hearAt 16 5000 3070 1 (probePacket one Instance)
+    ∷ hearAt 16 5000 3100 2 (probePacket other Instance)
     ∷ tickAt 16 5000 3290
     ∷ tickAt 0 0 3300
-    ∷ hearAt 0 0 3310 (probePacket one Host)
+    ∷ hearAt 0 0 3310 1 (probePacket one Host)
     ∷ at 3310 (starts third 310 250)
-    ∷ hearAt 16 5000 3400 (probePacket other Instance)
+    ∷ hearAt 16 5000 3400 2 (probePacket other Instance)
     ∷ tickAt 16 5000 3540
     ∷ tickAt 0 0 3550
-    ∷ hearAt 0 0 3560 (probePacket one Host)
-    ∷ hearBehind 30 3000 3560 (probePacket one Host)
+    ∷ hearAt 0 0 3560 1 (probePacket one Host)
+    ∷ hearBehind 30 3000 3560 1 (probePacket one Host)
     ∷ tickBehind 30 3000 3560
     ∷ tickBehind 30 3000 3560
-    ∷ hearAt 16 5000 3600 (responsePacket other (recordsOf Instance false))
-    ∷ hearBehind 30 3000 3600 (responsePacket other (recordsOf Instance false))
-    ∷ hearAt 0 0 3620 (probePacket third Instance)
-    ∷ hearAt 0 0 3620 (probePacket third Host)
-    ∷ hearAt 16 5000 3620 (probePacket third Instance)
-    ∷ hearAt 16 5000 3620 (probePacket third Host)
+    ∷ hearAt 16 5000 3600 2 (responsePacket other 0 (recordsOf Instance false))
+    ∷ hearBehind 30 3000 3600 2 (responsePacket other 0 (recordsOf Instance false))
+    ∷ hearAt 0 0 3620 3 (probePacket third Instance)
+    ∷ hearAt 0 0 3620 3 (probePacket third Host)
+    ∷ hearAt 16 5000 3620 3 (probePacket third Instance)
+    ∷ hearAt 16 5000 3620 3 (probePacket third Host)
     ∷ tickBehind 30 3000 3780
     ∷ []

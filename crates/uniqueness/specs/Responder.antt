@@ -2,7 +2,7 @@
 -- names and data are the set-up's, and conflicting and later are the tests that receive itself makes. Assumes nothing: these are definitions.
 use mathlib.Core.Bool.{Bool, cond, _&&_, _||_}
 use mathlib.Core.Option.{Option, none, some}
-use mathlib.Core.List.{List, [], _∷_, _++_, map}
+use mathlib.Core.List.{List, [], _∷_, _++_}
 use Prim.Native.Nat.{ℕ}
 use lib.Dec.{eqb}
 use Rattle.wire.specs.case_folding.Fold.{sameName}
@@ -14,6 +14,7 @@ use Rattle.claims.specs.records.Own.{ownType, claimed}
 use Rattle.claims.specs.declared.records.Claim as own
 use Rattle.claims.specs.declared.records.Claim.the-variants.{Instance, Host}
 use Rattle.claims.specs.declared.records.Own.{Own}
+use Rattle.claims.specs.declared.holds.Address.{Address}
 use Rattle.claims.specs.declared.When.{When}
 use Rattle.claims.specs.declared.When.the-variants.{Never, At}
 use Rattle.claims.specs.declared.Progress.{Progress}
@@ -23,11 +24,10 @@ use Rattle.wire.specs.Lists.{some as someOf}
 use Rattle.facts.specs.probe.Probe.{isProbe, under}
 use Rattle.facts.specs.Facts.{inConflict, claimName, theirsLater}
 use Rattle.responder.specs.Handed.{Arrival, Tick}
-use Rattle.responder.specs.Calls as calls
-use Rattle.responder.specs.Calls.{startOf, receivedPacket, receiveOf, tickedPacket, tickOf}
+use Rattle.responder.specs.Calls.{startOf, receivedPacket, unicastPacket, receiveOf, tickedPacket, tickOf}
 use Rattle.responder.specs.declared.State.{State}
 use Rattle.responder.specs.declared.Answer.{Answer}
-use Rattle.responder.specs.declared.Answer.the-variants.{Refused, Quiet, Sent, Unicast}
+use Rattle.responder.specs.declared.Answer.the-variants.{Refused, Quiet, Sent, Unicast, Both}
 use Rattle.link.specs.Responder as link
 use Rattle.link.specs.Responder.{Responder, Claim, instance, host, Parcel}
 
@@ -44,34 +44,41 @@ begunBy (Refused n) x = none
 begunBy Quiet x = some x
 begunBy (Sent n) x = some x  -- never: a start sends nothing
 begunBy (Unicast n) x = some x  -- nor this
-
--- a parcel in `link`'s words
-abbrev pub destination : calls.Destination → link.Destination
-destination calls.multicast = link.everyone
-destination calls.unicast = link.asker
-
-abbrev pub posted : calls.Parcel → Parcel
-posted p = record { to = destination (p .to); bytes = p .bytes }
+begunBy (Both n u) x = some x  -- nor these
 
 -- what is sent of a packet, nothing where it is empty
-abbrev pub sends : calls.Destination → List ℕ → List Parcel
-sends to p = map posted (calls.parcels to p)
+abbrev pub sends : link.Destination → List ℕ → List Parcel
+sends to [] = []
+sends to (b ∷ bs) = record { to = to; bytes = b ∷ bs } ∷ []
 
--- what a call that may send answers: `p` is the packet that it lays over the out buffer, empty where it sends none
-abbrev pub answeredBy : Answer → State → List ℕ → link.Answer State
-answeredBy (Refused n) x p = link.refused
-answeredBy Quiet x p = link.accepted x (sends calls.multicast p)
-answeredBy (Sent n) x p = link.accepted x (sends calls.multicast p)
-answeredBy (Unicast n) x p = link.accepted x (sends calls.unicast p)
+-- an address by its two halves
+abbrev pub halves : Address → List ℕ
+halves a = a .high ∷ a .low ∷ []
+
+-- the address and port that a packet came from
+abbrev pub backTo : Arrival → link.Destination
+backTo a = link.unicast (halves (a .from)) (a .port)
+
+-- what a call that may send answers: `ps` is what it sends
+abbrev pub answeredBy : Answer → State → List Parcel → link.Answer State
+answeredBy (Refused n) x ps = link.refused
+answeredBy Quiet x ps = link.accepted x ps
+answeredBy (Sent n) x ps = link.accepted x ps
+answeredBy (Unicast n) x ps = link.accepted x ps
+answeredBy (Both n u) x ps = link.accepted x ps
 
 unfoldable pub start : Setup → ℕ → ℕ → Option State
 start s now draw = begunBy (startOf s now draw .answer) (startOf s now draw .state)
 
 unfoldable pub tick : State → Tick → link.Answer State
-tick x t = answeredBy (tickOf x t .answer) (tickOf x t .state) (tickedPacket x t)
+tick x t = answeredBy (tickOf x t .answer) (tickOf x t .state) (sends link.everyone (tickedPacket x t))
+
+-- the packet that goes to all, then the one that goes to where the packet came from
+abbrev pub sentFor : State → Arrival → List Parcel
+sentFor x a = sends link.everyone (receivedPacket x a) ++ sends (backTo a) (unicastPacket x a)
 
 unfoldable pub receive : State → Arrival → link.Answer State
-receive x a = answeredBy (receiveOf x a .answer) (receiveOf x a .state) (receivedPacket x a)
+receive x a = answeredBy (receiveOf x a .answer) (receiveOf x a .state) (sentFor x a)
 
 -- a time, where there is one
 abbrev pub listed : When → List ℕ
@@ -150,6 +157,7 @@ responder = record {
   tickTime = λ t. t .time;
   arrivalTime = λ a. a .time;
   packet = λ a. a .packet;
+  from = λ a. halves (a .from);
   port = λ a. a .port;
   start = start;
   tick = tick;

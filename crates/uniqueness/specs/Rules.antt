@@ -1,22 +1,18 @@
--- What the proof of demand 3 reads of our responder: what an accepted call does, in messages; a claim's stage; when a record was last multicast. No part
--- of the statement. Assumes nothing: these are definitions.
+-- What the proof of demand 3 reads of our responder: what an accepted call does, in messages, and a claim's stage. No part of the statement. Assumes nothing: these are definitions.
 use mathlib.Core.Path.{_≡_}
 use mathlib.Core.Bool.{true, false}
-use mathlib.Core.Option.{Option, none, some}
-use mathlib.Core.List.{List, [], _∷_, map}
+use mathlib.Core.Option.{some}
+use mathlib.Core.List.{List, [], _∷_, _++_, map}
 use Prim.Native.Nat.{ℕ, _≤_}
 use Rattle.wire.specs.message.Message.{Question, Message, isResponse}
 use Rattle.own.specs.declared.records.Setup.{Setup}
 use Rattle.own.specs.records.Setups.{validSetup}
-use Rattle.claims.specs.Time.{lastTime, sentOf}
+use Rattle.claims.specs.Time.{lastTime}
 use Rattle.claims.specs.Claims as claims
 use Rattle.claims.specs.declared.records.Own.{Own}
 use Rattle.claims.specs.declared.records.Set.{Set}
 use Rattle.claims.specs.declared.ClaimState.{ClaimState}
 use Rattle.claims.specs.declared.ClaimState.the-variants.{Waiting, Probing1, Probing2, Probing3, Deferred, Announced, Held, Lost}
-use Rattle.claims.specs.declared.When.{When}
-use Rattle.claims.specs.declared.When.the-variants.{Never, At}
-use Rattle.claims.specs.declared.Multicasts.{Multicasts}
 use Rattle.claims.specs.declared.Progress.{Progress}
 use Rattle.claims.specs.declared.steps.Output.{Output}
 use Rattle.claims.specs.declared.steps.Output.the-variants.{Nothing, Probe, Response}
@@ -28,22 +24,26 @@ use Rattle.writer.specs.own_packets.Styles.{responseStyle, ownRecord}
 use Rattle.writer.specs.own_packets.Own.{responseRecords, responseOf, probeOf, plainRecords, plainReplyOf}
 use Rattle.responder.specs.Calls.{walkedOf}
 use Rattle.responder.specs.declared.State.{State}
-use Rattle.link.specs.Responder.{Claim, asker}
+use Rattle.link.specs.Responder.{Claim}
 use Rattle.link.specs.Laws as law
 use Rattle.link.specs.Laws.{Rules, Sent, toAll, Stage, waiting, probing, held, apart}
 use Rattle.link.specs.Premises.{Among}
 use Rattle.responder.specs.Handed.{Arrival, comingOf}
-use Rattle.uniqueness.specs.Responder.{ownClaim, claimRecord, responder}
+use Rattle.uniqueness.specs.Responder.{ownClaim, backTo, claimRecord, responder}
 
 -- the messages of an output, at most one; none where it has no record
 abbrev pub unlessEmpty : List Own → Message → List Message
 unlessEmpty [] m = []
 unlessEmpty (o ∷ os) m = m ∷ []
 
+-- a response with an ID of the records that are chosen and that there are
+unfoldable pub responseFor : Setup → ℕ → Set → List Message
+responseFor s id set = unlessEmpty (responseRecords s set) (responseOf s id set)
+
 unfoldable pub messagesFor : Setup → Output → List Message
 messagesFor s Nothing = []
 messagesFor s (Probe k) = probeOf s k ∷ []
-messagesFor s (Response set) = unlessEmpty (responseRecords s set) (responseOf s set)
+messagesFor s (Response set) = responseFor s 0 set
 
 -- the message of a plain reply, where the query has just one question
 unfoldable pub repliesFor : Setup → Set → ℕ → List Question → List Message
@@ -51,8 +51,9 @@ repliesFor s set id [] = []
 repliesFor s set id (q ∷ []) = unlessEmpty (plainRecords s set) (plainReplyOf s set id q)
 repliesFor s set id (q ∷ (r ∷ rs)) = []
 
-abbrev pub toAsker : Message → Sent Message
-toAsker m = record { to = asker; message = m }
+-- to where a packet came from
+abbrev pub toAsker : Arrival → Message → Sent Message
+toAsker a m = record { to = backTo a; message = m }
 
 -- the state with the progress that a call leaves
 abbrev pub with : State → Progress → State
@@ -79,8 +80,9 @@ outputOf x (law.serves a m) = Nothing
 
 abbrev pub sentIn : State → law.Step responder → List (Sent Message)
 sentIn x (law.ticks t) = map toAll (messagesFor (x .setup) (outputOf x (law.ticks t)))
-sentIn x (law.hears a m) = map toAll (messagesFor (x .setup) (outputOf x (law.hears a m)))
-sentIn x (law.serves a m) = map toAsker (repliesFor (x .setup) (served x a m .answers) (m .id) (m .questions))
+sentIn x (law.hears a m) =
+    map toAll (messagesFor (x .setup) (outputOf x (law.hears a m))) ++ map (toAsker a) (responseFor (x .setup) (m .id) (told x a m .unicast))
+sentIn x (law.serves a m) = map (toAsker a) (repliesFor (x .setup) (served x a m .unicast) (m .id) (m .questions))
 
 abbrev pub step : State → law.Step responder → State × List (Sent Message)
 step x c = (with x (progressOf x c), sentIn x c)
@@ -99,31 +101,29 @@ stageOf Lost = apart
 abbrev pub claimAt : State → Claim → ClaimState
 claimAt x k = claims.claimOf (ownClaim k) (x .progress)
 
--- when a record was last multicast
-abbrev pub timeOf : When → Option ℕ
-timeOf Never = none
-timeOf (At time) = some time
-
-abbrev pub timeIn : Multicasts → Option Own → Option ℕ
-timeIn sent none = none
-timeIn sent (some r) = timeOf (sentOf r sent)
-
 -- the message is a response with the set-up's record of the claim and type
 pub record Carried (m : Message) (s : Setup) (k : Claim) (type : ℕ) : Type 0 where
   pub own : Own
   pub owned : claimRecord k type ≡ some own
   pub response : isResponse (m .flags) ≡ true
-  pub member : Among (ownRecord s responseStyle own) (m .answers)
+  pub member : Among (ownRecord s (responseStyle 0) own) (m .answers)
 
 -- x is a state with the set-up s, which keeps the rules
 pub record Of (x : State) (s : Setup) : Type 0 where
   pub setup : x .setup ≡ s
   pub valid : validSetup (x .setup) ≡ true
 
+-- a message that is heard comes from port 5353
+abbrev pub HeardFrom : law.Step responder → Type 0
+HeardFrom (law.ticks t) = Unit {0}
+HeardFrom (law.hears a m) = a .port ≡ 5353
+HeardFrom (law.serves a m) = Unit {0}
+
 -- and the call is not refused as 1
 pub record Ready (x : State) (s : Setup) (c : law.Step responder) : Type 0 where
   pub of : Of x s
   pub time : law.timeOf responder c ≤ lastTime
+  pub port : HeardFrom c
 
 abbrev pub rules : Rules responder
 rules = record {
@@ -132,7 +132,6 @@ rules = record {
   Ready = Ready;
   Valid = λ s. validSetup s ≡ true;
   stage = λ x k. stageOf (claimAt x k);
-  multicast = λ x k type. timeIn (x .progress .sent) (claimRecord k type);
   probe = λ s k. probeOf s (ownClaim k);
   Carries = Carried;
 }

@@ -1,5 +1,6 @@
-// Writes the own packets (specification, 'Writing a packet': "ID 0. Responses have flags 0x8400, probes 0. .. by rising type, class 1."): a response of
-// any of the own records, a claim's probe, and a reply to a plain resolver. Questions and records are put by `writer`.
+// Writes the own packets (specification, 'Writing a packet': "ID 0. Responses have flags 0x8400, probes 0. .. by rising type, class 1."; "Unicast answers
+// carry the query's ID"; "Our own probes now set the bit"): a response of any of the own records, a claim's probe, and a reply to a plain resolver. Questions
+// and records are put by `writer`.
 use crate::Placed;
 use crate::Spot;
 use claims::records::Claim;
@@ -32,6 +33,9 @@ const MOST_PLACES: usize = 148;
 
 // The flags of a response: the QR and the AA bit.
 const RESPONSE_FLAGS: u16 = 0x8400;
+
+// The class of a probe's question: 1, with the top bit for an answer by unicast.
+const PROBE_CLASS: u16 = 0x8001;
 
 // The TTL of records in a reply to a plain resolver.
 const PLAIN_TTL: u32 = 10;
@@ -69,12 +73,12 @@ pub enum Written {
     Refused(u8),
 }
 
-// "Responses have flags 0x8400", and of the own records all but PTR have class 0x8001.
-fn response_style() -> Style
-    ensures { λ r. ⌜ r ≡ responseStyle ⌝ }
+// "Responses have flags 0x8400", and of the own records all but PTR have class 0x8001. The ID is 0 to all, and the query's to one that wants unicast.
+fn response_style(id: u16) -> Style
+    ensures { λ r. ⌜ r ≡ responseStyle id ⌝ }
 {
     Style {
-        id: 0,
+        id,
         flags: RESPONSE_FLAGS,
         asks: false,
         qtype: 0,
@@ -86,7 +90,7 @@ fn response_style() -> Style
     }
 }
 
-// "A probe is one question (type 255, class 1) with the claim's records in Authority, .. class 1."
+// "A probe is one question (type 255, ..) with the claim's records in Authority, .. class 1."; it wants unicast: "00 ff 80 01".
 fn probe_style() -> Style
     ensures { λ r. ⌜ r ≡ probeStyle ⌝ }
 {
@@ -95,7 +99,7 @@ fn probe_style() -> Style
         flags: 0,
         asks: true,
         qtype: 255,
-        qclass: 1,
+        qclass: PROBE_CLASS,
         authority: true,
         ttl: TtlRule::Each,
         flush: false,
@@ -329,12 +333,12 @@ fn write_packet(s: Setup, style: Style, name: &[u8], list: Picked, out: &mut [u8
     r.end
 }
 
-// Writes a response of the chosen ones of the own records that the set-up has: PTR, SRV, TXT, A, AAAA, and the two NSEC.
-pub fn respond(s: Setup, chosen: Set, out: &mut [u8]) -> Written
-    ensures answer { λ r. ⌜ r ≡ writtenOf (refusal s (now (out .entry))) (responsePacket s chosen) ⌝ }
-    ensures out { λ _. ⌜ now (out .exit) ≡ laidOver (unlessRefused (refusal s (now (out .entry))) (responsePacket s chosen)) (now (out .entry)) ⌝ }
+// Writes a response with this ID of the chosen ones of the own records that the set-up has: PTR, SRV, TXT, A, AAAA, and the two NSEC.
+pub fn respond(s: Setup, id: u16, chosen: Set, out: &mut [u8]) -> Written
+    ensures answer { λ r. ⌜ r ≡ writtenOf (refusal s (now (out .entry))) (responsePacket s id chosen) ⌝ }
+    ensures out { λ _. ⌜ now (out .exit) ≡ laidOver (unlessRefused (refusal s (now (out .entry))) (responsePacket s id chosen)) (now (out .entry)) ⌝ }
     ensures number { λ r. ⌜ refusalOf r ≡ refusal s (now (out .entry)) ⌝ }
-    ensures sent { λ r. ⌜ lengthOf r ≡ length (unlessRefused (refusal s (now (out .entry))) (responsePacket s chosen)) ⌝ }
+    ensures sent { λ r. ⌜ lengthOf r ≡ length (unlessRefused (refusal s (now (out .entry))) (responsePacket s id chosen)) ⌝ }
 {
     if out.len() < LEAST_OUT {
         return Written::Refused(wire::refusals::BUFFER);
@@ -346,7 +350,7 @@ pub fn respond(s: Setup, chosen: Set, out: &mut [u8]) -> Written
     if list.n == 0 {
         return Written::Nothing;
     }
-    Written::Sent(write_packet(s, response_style(), b"", list, out))
+    Written::Sent(write_packet(s, response_style(id), b"", list, out))
 }
 
 // Writes a claim's probe.

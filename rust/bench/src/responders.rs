@@ -3,7 +3,7 @@
 use std::net::Ipv4Addr;
 
 use kurgashel::{Arrival, Draws, OutBuffers, Responder, Setup, OUT_BYTES, PORT};
-use reference::responder::{Arrival as ReferenceArrival, Responder as ReferenceResponder};
+use reference::responder::{Arrival as ReferenceArrival, Outs, Responder as ReferenceResponder};
 use reference::setup::Setup as ReferenceSetup;
 
 use crate::state_bytes::{self, STATE_BYTES};
@@ -34,6 +34,7 @@ pub struct Reference {
     responder: ReferenceResponder,
     now: u64,
     out: [u8; OUT_BYTES],
+    to_sender: [u8; OUT_BYTES],
 }
 
 /// An ordinary responder whose state is handed in as bytes; it ticks only.
@@ -102,8 +103,12 @@ impl Calls for Reference {
             hold_draw: DRAWS.hold,
             packet,
         };
+        let outs = Outs {
+            multicast: &mut self.out,
+            unicast: &mut self.to_sender,
+        };
         self.responder
-            .receive(arrival, &mut self.out)
+            .receive(arrival, outs)
             .expect("accepted")
             .multicast
             .unwrap_or(0)
@@ -167,6 +172,7 @@ pub fn reference(instance: &str) -> Reference {
         responder,
         now: 0,
         out: [0; OUT_BYTES],
+        to_sender: [0; OUT_BYTES],
     })
 }
 

@@ -18,8 +18,8 @@ pub const OUT_BYTES: usize = 1452;
 struct Answer {
     refusal: u8,
     more: bool,
-    unicast: bool,
     length: usize,
+    unicast_length: usize,
 }
 
 #[repr(C)]
@@ -51,6 +51,8 @@ extern "C" {
         packet_bytes: usize,
         out: *mut u8,
         out_bytes: usize,
+        unicast: *mut u8,
+        unicast_bytes: usize,
     ) -> Answer;
     fn kurgashel_tick(
         state: *mut u8,
@@ -178,7 +180,8 @@ impl Responder {
         &self.state
     }
 
-    /// Takes a packet, and writes what is to be sent at once to the out buffers: to all, or to a plain resolver, which asks from a port other than 5353, alone.
+    /// Takes a packet, and writes what is to be sent at once to the out buffers: to all, and to the sender alone what it asked for by unicast and all have heard not
+    /// long ago (RFC 6762 section 5.4). A plain resolver, which asks from a port other than 5353, is answered alone.
     ///
     /// A query whose known answers go on in further packets (its TC bit tells, RFC 6762 section 7.2) is held for `draws.hold` ms, and the known answers that come
     /// from its address meanwhile are left out of what it is answered. The responder holds up to four, one for an address. Answering one is a step as any other:
@@ -212,14 +215,8 @@ impl Responder {
             IpAddr::V4(address) => address.to_ipv6_mapped().octets(),
             IpAddr::V6(address) => address.octets(),
         };
-        // the library writes one packet: to the sender, if that is a plain resolver, else to all
-        let port = arrival.from.port();
-        let out = if port == PORT {
-            out.to_all
-        } else {
-            out.to_sender
-        };
-        // SAFETY: each pointer and length are those of one slice; the two that are written are borrowed for this call alone.
+        let (to_all, to_sender) = (out.to_all, out.to_sender);
+        // SAFETY: each pointer and length are those of one slice; the three that are written are borrowed for this call alone.
         let answer = unsafe {
             kurgashel_receive(
                 state.as_mut_ptr(),
@@ -227,24 +224,20 @@ impl Responder {
                 arrival.now,
                 from.as_ptr(),
                 from.len(),
-                port,
+                arrival.from.port(),
                 arrival.draws.reply,
                 arrival.draws.hold,
                 packet.as_ptr(),
                 packet.len(),
-                out.as_mut_ptr(),
-                out.len(),
+                to_all.as_mut_ptr(),
+                to_all.len(),
+                to_sender.as_mut_ptr(),
+                to_sender.len(),
             )
         };
-        Refusal::check(answer.refusal).map(|()| match answer.unicast {
-            false => Received {
-                to_all: answer.length,
-                to_sender: 0,
-            },
-            true => Received {
-                to_all: 0,
-                to_sender: answer.length,
-            },
+        Refusal::check(answer.refusal).map(|()| Received {
+            to_all: answer.length,
+            to_sender: answer.unicast_length,
         })
     }
 

@@ -5,7 +5,7 @@ use std::net::{IpAddr, Ipv4Addr, Ipv6Addr, SocketAddr};
 use kurgashel::{Arrival, Claim, Draws, OutBuffers, Received, Refusal, Responder, Setup};
 use kurgashel::{OUT_BYTES, PORT, STATE_BYTES};
 use reference::responder::holds::Address;
-use reference::responder::{Arrival as ReferenceArrival, Responder as Reference};
+use reference::responder::{Arrival as ReferenceArrival, Outs, Responder as Reference};
 
 const ASKER: IpAddr = IpAddr::V4(Ipv4Addr::new(10, 0, 0, 9));
 const DRAWS: Draws = Draws {
@@ -93,8 +93,8 @@ impl Both {
 
     /// The packet that both send to all, for one that comes `after` ms after they settled.
     fn hear(&mut self, after: u64, from: IpAddr, draws: Draws, packet: &[u8]) -> Vec<u8> {
-        let (mut ours, mut to_sender, mut theirs) =
-            ([0; OUT_BYTES], [0; OUT_BYTES], [0; OUT_BYTES]);
+        let (mut ours, mut to_sender) = ([0; OUT_BYTES], [0; OUT_BYTES]);
+        let (mut theirs, mut their_reply) = ([0; OUT_BYTES], [0; OUT_BYTES]);
         let now = self.now + after;
         let arrival = Arrival {
             now,
@@ -115,10 +115,14 @@ impl Both {
             hold_draw: draws.hold,
             packet,
         };
-        let expected = self.reference.receive(arrival, &mut theirs).unwrap();
+        let outs = Outs {
+            multicast: &mut theirs,
+            unicast: &mut their_reply,
+        };
+        let expected = self.reference.receive(arrival, outs).unwrap();
         assert_eq!(sent.to_all, expected.multicast.unwrap_or(0));
         assert_eq!((sent.to_sender, expected.unicast), (0, None));
-        assert_eq!((ours, to_sender), (theirs, [0; OUT_BYTES]));
+        assert_eq!((ours, to_sender), (theirs, their_reply));
         self.same_due();
         ours[..sent.to_all].to_vec()
     }
@@ -273,4 +277,31 @@ fn each_answer_is_in_the_buffer_of_its_name() {
     assert_eq!(types(&to_all[..received.to_all]), [1]);
     assert!(to_all[received.to_all..].iter().all(|&byte| byte == 7));
     assert_eq!(ask(PORT).0, Received::default());
+}
+
+#[test]
+fn one_query_may_be_answered_both_ways() {
+    let mut both = Both::settled();
+    // the host's A by a question with the unicast bit, and its AAAA by one without, with an ID
+    const A_BY_UNICAST: &[u8] = b"\x04dock\x05local\0\0\x01\x80\x01";
+    let mut packet = query(false, &[A_BY_UNICAST, AAAA], &[]);
+    packet[..2].copy_from_slice(&[0x12, 0x34]);
+    let (mut to_all, mut to_sender) = ([7; OUT_BYTES], [7; OUT_BYTES]);
+    let arrival = Arrival {
+        now: 5000,
+        from: SocketAddr::new(ASKER, PORT),
+        draws: DRAWS,
+        packet: &packet,
+    };
+    let out = OutBuffers {
+        to_all: &mut to_all,
+        to_sender: &mut to_sender,
+    };
+    let sent = both.proved.receive(arrival, out).unwrap();
+    assert_eq!(types(&to_all[..sent.to_all]), [47]);
+    assert_eq!(types(&to_sender[..sent.to_sender]), [1]);
+    assert_eq!(
+        (&to_all[..2], &to_sender[..2]),
+        (&[0, 0][..], &[0x12, 0x34][..])
+    );
 }

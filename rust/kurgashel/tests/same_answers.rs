@@ -5,7 +5,7 @@ use std::net::{IpAddr, SocketAddr};
 
 use kurgashel::{
     txt_lookup, Arrival, Cache, Data, Draws, Message, Name, OutBuffers, Pair, Refusal, Responder,
-    Section, Setup, PORT, STATE_BYTES,
+    Section, Setup, STATE_BYTES,
 };
 use reference::console::{hex, Console};
 use reference::script::script;
@@ -27,6 +27,7 @@ struct Exported {
     /// None where the console's table has a size of which this crate makes no cache.
     cache: Option<Cache>,
     out: Vec<u8>,
+    unicast: Vec<u8>,
 }
 
 /// A cache for the line `table`, where there is one of its sizes.
@@ -115,12 +116,20 @@ fn read_words(message: &Message) -> String {
     words
 }
 
+/// A part of an out buffer, as a line asks for it.
+fn part(word: &str, buffer: &[u8], fields: &[&str]) -> String {
+    let at = number(fields[1]) as usize;
+    let bytes = &buffer[at..at + number(fields[2]) as usize];
+    format!("{word} {}", hex(bytes))
+}
+
 impl Exported {
     fn new() -> Exported {
         Exported {
             responder: blank(),
             cache: Some(Cache::default()),
             out: vec![0; 4096],
+            unicast: vec![0; 4096],
         }
     }
 
@@ -134,7 +143,7 @@ impl Exported {
         };
         Some(match fields[0] {
             "start" => self.start(&fields),
-            "recv" => self.recv(&fields, lent(7)),
+            "recv" => self.recv(&fields, lent(7), lent(8)),
             "tick" => {
                 let sent = self
                     .responder
@@ -150,13 +159,8 @@ impl Exported {
             }
             "claims" => Ok(self.claims()),
             "holds" => Ok(self.holds()),
-            "out" => {
-                let at = number(fields[1]) as usize;
-                Ok(format!(
-                    "out {}",
-                    hex(&self.out[at..at + number(fields[2]) as usize])
-                ))
-            }
+            "out" => Ok(part("out", &self.out, &fields)),
+            "unicast" => Ok(part("unicast", &self.unicast, &fields)),
             "put" => {
                 let cache = self.cache.as_mut()?;
                 let port = number(fields[2]) as u16;
@@ -242,8 +246,7 @@ impl Exported {
         Ok("started".into())
     }
 
-    /// The console has one out buffer: that of the one to whom an answer may go, by the port that the packet came from.
-    fn recv(&mut self, fields: &[&str], lent: usize) -> Result<String, Refusal> {
+    fn recv(&mut self, fields: &[&str], lent: usize, unicast: usize) -> Result<String, Refusal> {
         let (packet, port) = (bytes(fields[6]), number(fields[3]) as u16);
         let arrival = Arrival {
             now: number(fields[1]),
@@ -254,24 +257,18 @@ impl Exported {
             },
             packet: &packet,
         };
-        let (mut to_all, mut to_sender) = (self.out.clone(), self.out.clone());
         let out = OutBuffers {
-            to_all: &mut to_all[..lent],
-            to_sender: &mut to_sender[..lent],
+            to_all: &mut self.out[..lent],
+            to_sender: &mut self.unicast[..unicast],
         };
-        let sent = self.responder.receive(arrival, out);
-        let (written, other) = if port == PORT {
-            (to_all, to_sender)
-        } else {
-            (to_sender, to_all)
-        };
-        assert_eq!(other, self.out, "the other buffer stays");
-        self.out = written;
-        sent.map(|sent| match (sent.to_all, sent.to_sender) {
+        let sent = self.responder.receive(arrival, out)?;
+        let to_all = hex(&self.out[..sent.to_all]);
+        let to_sender = hex(&self.unicast[..sent.to_sender]);
+        Ok(match (sent.to_all, sent.to_sender) {
             (0, 0) => "quiet".into(),
-            (length, 0) => format!("sent {}", hex(&self.out[..length])),
-            (0, length) => format!("unicast {}", hex(&self.out[..length])),
-            both => panic!("one packet at the most: {both:?}"),
+            (_, 0) => format!("sent {to_all}"),
+            (0, _) => format!("unicast {to_sender}"),
+            (_, _) => format!("sent {to_all} unicast {to_sender}"),
         })
     }
 

@@ -16,10 +16,16 @@ pub struct Console {
 pub enum Answer {
     Started,
     Quiet,
-    Sent(Vec<u8>),
-    /// To where the message came from, on a port of its own: no responder hears it.
-    Unicast(Vec<u8>),
+    Sent(Sent),
     Refused(u8),
+}
+
+/// The packets of a call, one at least.
+#[derive(Clone, Debug, PartialEq, Eq)]
+pub struct Sent {
+    pub to_all: Option<Vec<u8>>,
+    /// To the address and port that the message came from.
+    pub unicast: Option<Vec<u8>>,
 }
 
 /// Instance, host, PTR reply, then the held queries in order of arrival: when the next step is due, on the responder's clock.
@@ -93,10 +99,19 @@ fn answer_of(line: &str) -> Option<Answer> {
         ["started"] => Some(Answer::Started),
         ["quiet"] => Some(Answer::Quiet),
         ["refused", number] => Some(Answer::Refused(number.parse().ok()?)),
-        ["sent", packet] | ["sent", packet, "more"] => Some(Answer::Sent(bytes_of(packet)?)),
-        ["unicast", packet] => Some(Answer::Unicast(bytes_of(packet)?)),
+        ["sent", packet] | ["sent", packet, "more"] => sent_of(Some(packet), None),
+        ["unicast", packet] => sent_of(None, Some(packet)),
+        ["sent", packet, "unicast", other] => sent_of(Some(packet), Some(other)),
         _ => None,
     }
+}
+
+fn sent_of(to_all: Option<&str>, unicast: Option<&str>) -> Option<Answer> {
+    let packet_of = |hex: Option<&str>| hex.map(|hex| bytes_of(hex).ok_or(())).transpose();
+    Some(Answer::Sent(Sent {
+        to_all: packet_of(to_all).ok()?,
+        unicast: packet_of(unicast).ok()?,
+    }))
 }
 
 fn claims_of(line: &str) -> Option<Claims> {
@@ -173,14 +188,27 @@ mod tests {
     fn answers() {
         assert_eq!(answer_of("started"), Some(Answer::Started));
         assert_eq!(answer_of("refused 7"), Some(Answer::Refused(7)));
-        let sent = Some(Answer::Sent(vec![0, 0xff]));
-        assert_eq!(answer_of("sent 00ff"), sent);
-        assert_eq!(answer_of("sent 00ff more"), sent);
-        assert_eq!(
-            answer_of("unicast 00ff"),
-            Some(Answer::Unicast(vec![0, 0xff]))
-        );
-        for wrong in ["", "bad line", "sent", "unicast", "sent 0g", "refused"] {
+        let sent = |to_all: &[u8], unicast: &[u8]| {
+            let packet = |bytes: &[u8]| (!bytes.is_empty()).then(|| bytes.to_vec());
+            Some(Answer::Sent(Sent {
+                to_all: packet(to_all),
+                unicast: packet(unicast),
+            }))
+        };
+        assert_eq!(answer_of("sent 00ff"), sent(&[0, 0xff], &[]));
+        assert_eq!(answer_of("sent 00ff more"), sent(&[0, 0xff], &[]));
+        assert_eq!(answer_of("unicast 00ff"), sent(&[], &[0, 0xff]));
+        assert_eq!(answer_of("sent 01 unicast 02"), sent(&[1], &[2]));
+        for wrong in [
+            "",
+            "bad line",
+            "sent",
+            "unicast",
+            "sent 0g",
+            "sent 01 unicast 0g",
+            "unicast 01 sent 02",
+            "refused",
+        ] {
             assert_eq!(answer_of(wrong), None);
         }
     }

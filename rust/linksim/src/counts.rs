@@ -16,6 +16,8 @@ pub struct Counts {
     pub sent: u64,
     /// Truncated queries that came to be held.
     pub truncated: u64,
+    /// Answers by unicast to port 5353.
+    pub unicast: u64,
     /// Replies to plain resolvers.
     pub replied: u64,
     pub heard: u64,
@@ -40,6 +42,7 @@ impl Counts {
         self.refused += other.refused;
         self.sent += other.sent;
         self.truncated += other.truncated;
+        self.unicast += other.unicast;
         self.replied += other.replied;
         self.heard += other.heard;
         self.held += other.held;
@@ -71,6 +74,7 @@ impl fmt::Display for Counts {
             refused,
             sent,
             truncated,
+            unicast,
             replied,
             heard,
             held,
@@ -85,7 +89,7 @@ impl fmt::Display for Counts {
         )?;
         writeln!(
             f,
-            "{starts} responders started, {cuts} cut; {refused} calls refused; {sent} packets sent, {heard} heard, {truncated} of them held back, {replied} answered by unicast"
+            "{starts} responders started, {cuts} cut; {refused} calls refused; {sent} packets sent, {heard} heard, {truncated} of them held back, {unicast} answered by unicast, {replied} of plain resolvers"
         )?;
         write!(
             f,

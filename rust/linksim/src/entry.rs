@@ -32,6 +32,8 @@ pub enum Call {
         clock: u64,
         draw: u64,
         setup: Rc<Setup>,
+        /// Its own, with which all its packets arrive; no part of the call.
+        address: Address,
     },
     Receive(Receive),
     Tick {
@@ -51,7 +53,8 @@ pub struct Receive {
     /// The draw for holding a truncated query.
     pub hold: u64,
     pub packet: Packet,
-    pub out: usize,
+    /// The lengths of the two out buffers.
+    pub outs: [usize; 2],
 }
 
 impl Receive {
@@ -63,10 +66,10 @@ impl Receive {
             draw,
             hold,
             packet,
-            out,
+            outs: [out, unicast],
         } = self;
         let (from, packet) = (hex(from), hex(packet));
-        format!("recv {clock} {from} {port} {draw} {hold} {packet} {out}")
+        format!("recv {clock} {from} {port} {draw} {hold} {packet} {out} {unicast}")
     }
 }
 
@@ -74,7 +77,9 @@ impl Call {
     /// The console's line for this call; a power cut is no call.
     pub fn line(&self) -> String {
         match self {
-            Call::Start { clock, draw, setup } => format!(
+            Call::Start {
+                clock, draw, setup, ..
+            } => format!(
                 "start {clock} {draw} {} {} {} {} {} {} {} {} {}",
                 hex(&setup.instance),
                 hex(&setup.service),
@@ -108,7 +113,9 @@ impl Call {
     fn check(&self, last: u64) -> Result<(), Refusal> {
         let test = |passed: bool, refusal| if passed { Ok(()) } else { Err(refusal) };
         match self {
-            Call::Start { clock, draw, setup } => {
+            Call::Start {
+                clock, draw, setup, ..
+            } => {
                 test(*clock <= MOST_TIME, Refusal::Time)?;
                 test(*draw <= MOST_START_DRAW, Refusal::Draw)?;
                 test(setup.is_legal(), Refusal::Setup)
@@ -119,7 +126,8 @@ impl Call {
                 test(draws.contains(&receive.draw), Refusal::Draw)?;
                 let draws = LEAST_HOLD_DRAW..=MOST_HOLD_DRAW;
                 test(draws.contains(&receive.hold), Refusal::Draw)?;
-                test(receive.out >= LEAST_OUT, Refusal::OutBuffer)?;
+                let short = receive.outs.iter().any(|out| *out < LEAST_OUT);
+                test(!short, Refusal::OutBuffer)?;
                 Message::read_from(receive.port, &receive.packet).map(|_| ())
             }
             Call::Tick { clock, out } => {

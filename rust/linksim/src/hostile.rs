@@ -143,7 +143,17 @@ fn response(random: &mut Random, target: &Setup) -> Vec<u8> {
 
 /// Questions for any of the five records or all, with known answers now and then, truncated or not.
 fn query(random: &mut Random, target: &Setup) -> Vec<u8> {
-    let mut draft = Draft::new(random.pick(&[QUERY, TRUNCATED]));
+    let flags = random.pick(&[QUERY, TRUNCATED]);
+    query_with(random, flags, target)
+}
+
+/// The same, truncated.
+pub fn truncated(random: &mut Random, target: &Setup) -> Vec<u8> {
+    query_with(random, TRUNCATED, target)
+}
+
+fn query_with(random: &mut Random, flags: u16, target: &Setup) -> Vec<u8> {
+    let mut draft = Draft::new(flags);
     for _ in 0..random.pick(&[0, 1, 1, 2, 3]) {
         let own = random.pick(&target.records());
         let name = random.recase(own.owner.wire());

@@ -119,9 +119,11 @@ impl Claim {
             && order::compare(self.theirs(message), self.records.clone()) == Ordering::Greater
     }
 
-    /// "a response with a record under it"
+    /// "a response with a record under it"; "demand 3 and L13 speak only of SRV, TXT, A and AAAA"
     fn is_answered_by(&self, message: &Message) -> bool {
-        let under = |record: &Record| record.owner.equals(&self.name);
+        let types = [rtype::SRV, rtype::TXT, rtype::A, rtype::AAAA];
+        let under =
+            |record: &Record| record.owner.equals(&self.name) && types.contains(&record.rtype);
         message.is_response() && message.records.iter().any(under)
     }
 

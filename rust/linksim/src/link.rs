@@ -5,9 +5,9 @@ use std::io;
 use reference::message::Message;
 use reference::MDNS_PORT;
 
-use crate::console::{Answer, Claims, Console, State};
+use crate::console::{Answer, Claims, Console, Sent, State};
 use crate::counts::Counts;
-use crate::entry::{Call, Entry, Packet};
+use crate::entry::{Call, Entry, Packet, Receive};
 use crate::judge::{Judge, Violation};
 use crate::premises::{Limits, Premises};
 
@@ -36,7 +36,10 @@ struct Running {
 /// What an entry brought, for who makes the next ones.
 pub struct Outcome {
     pub accepted: bool,
+    /// To all.
     pub sent: Option<Packet>,
+    /// To where the message came from.
+    pub unicast: Option<Packet>,
     pub claims: Claims,
 }
 
@@ -114,27 +117,34 @@ impl Link<'_> {
         if given != expected {
             self.found(Some(Violation::Refusal { expected, given }));
         }
-        let sent = match &answer {
-            Answer::Sent(packet) => Some(Packet::from(&packet[..])),
-            _ => None,
+        let packet = |bytes: &Vec<u8>| Packet::from(&bytes[..]);
+        let (sent, unicast) = match &answer {
+            Answer::Sent(Sent { to_all, unicast }) => {
+                (to_all.as_ref().map(packet), unicast.as_ref().map(packet))
+            }
+            _ => (None, None),
         };
         match given {
             Some(_) => self.counts.refused += 1,
-            None => self.accepted(entry, &claims, sent.as_ref()),
+            None => self.accepted(entry, &claims),
         }
-        if let Answer::Unicast(reply) = &answer {
-            self.replied(entry.console, reply);
+        if let (Some(packet), Some(number)) = (&sent, self.number(entry.console)) {
+            self.sent(number, packet);
+        }
+        if let (Some(packet), Call::Receive(receive)) = (&unicast, &entry.call) {
+            self.sent_back(entry.console, receive, packet);
         }
         let outcome = Outcome {
             accepted: given.is_none(),
             sent,
+            unicast,
             claims,
         };
         Ok((answer, outcome))
     }
 
     /// Takes note of a call that was not refused.
-    fn accepted(&mut self, entry: &Entry, claims: &Claims, sent: Option<&Packet>) {
+    fn accepted(&mut self, entry: &Entry, claims: &Claims) {
         if let Call::Start { .. } = entry.call {
             self.started(entry, claims);
         }
@@ -154,23 +164,26 @@ impl Link<'_> {
             .accepted(running.number, entry.call.clock(), claims.due);
         match &entry.call {
             Call::Receive(receive) if receive.port == MDNS_PORT => {
-                self.heard(running.number, &receive.packet);
+                self.heard(running.number, receive);
             }
             _ => (),
-        }
-        if let Some(packet) = sent {
-            self.sent(running.number, packet);
         }
     }
 
     /// "Each start not refused begins a dock"; one that a console runs already ends with it.
     fn started(&mut self, entry: &Entry, claims: &Claims) {
-        let Call::Start { clock, setup, .. } = &entry.call else {
+        let Call::Start {
+            clock,
+            setup,
+            address,
+            ..
+        } = &entry.call
+        else {
             return;
         };
         self.cut(entry.console);
         self.counts.starts += 1;
-        self.premises.start(*clock);
+        self.premises.start(*clock, *address);
         self.running[entry.console] = Some(Running {
             number: self.judge.start(entry.time, setup),
             last: *clock,
@@ -179,11 +192,11 @@ impl Link<'_> {
         });
     }
 
-    fn heard(&mut self, number: usize, packet: &Packet) {
+    fn heard(&mut self, number: usize, receive: &Receive) {
         self.counts.heard += 1;
-        self.premises.heard(number, packet);
+        self.premises.heard(number, receive.from, &receive.packet);
         // one that can't be read was to be refused, and counts as found already
-        if let Ok(message) = Message::read(packet) {
+        if let Ok(message) = Message::read(&receive.packet) {
             self.judge.hear(number, &message);
         }
     }
@@ -194,12 +207,19 @@ impl Link<'_> {
         self.written(number, packet);
     }
 
-    /// A reply to a plain resolver: "demand 3 asks no delivery of it".
-    fn replied(&mut self, console: usize, reply: &[u8]) {
-        self.counts.replied += 1;
-        if let Some(number) = self.number(console) {
-            self.written(number, reply);
+    /// By unicast, to where the message came from: of a reply to a plain resolver "demand 3 asks no delivery".
+    fn sent_back(&mut self, console: usize, receive: &Receive, packet: &Packet) {
+        let Some(number) = self.number(console) else {
+            return;
+        };
+        match receive.port {
+            MDNS_PORT => {
+                self.counts.unicast += 1;
+                self.premises.sent_to(number, receive.from, packet);
+            }
+            _ => self.counts.replied += 1,
         }
+        self.written(number, packet);
     }
 
     /// A holding begins with "the call that writes a response with a record under it".

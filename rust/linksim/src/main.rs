@@ -81,9 +81,10 @@ fn run(options: &Options) -> io::Result<bool> {
     }
     println!("{total}");
     println!(
-        "0 violations in {:.0} s, delays up to {} ms, steps up to {} ms late",
+        "0 violations in {:.0} s, delays up to {} ms, {} ms by unicast, steps up to {} ms late",
         begin.elapsed().as_secs_f64(),
         options.limits.delay,
+        options.limits.unicast,
         options.limits.late
     );
     Ok(false)
@@ -111,8 +112,8 @@ fn report(
         println!("violation: {violation}");
     }
     println!(
-        "the whole list: --seed {seed} --lists 1 --delay {} --late {}",
-        options.limits.delay, options.limits.late
+        "the whole list: --seed {seed} --lists 1 --delay {} --unicast {} --late {}",
+        options.limits.delay, options.limits.unicast, options.limits.late
     );
     Ok(())
 }

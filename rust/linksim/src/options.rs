@@ -3,8 +3,8 @@
 use crate::premises::{Limits, DEMANDED};
 
 pub const USAGE: &str =
-    "usage: linksim [--console PATH] [--lists N | --seconds T] [--seed S] [--delay MS] [--late MS]
-  --delay and --late above 100 and 50 break the premises of demand 3 on purpose";
+    "usage: linksim [--console PATH] [--lists N | --seconds T] [--seed S] [--delay MS] [--unicast MS] [--late MS]
+  --delay and --unicast (of packets by unicast) above 100, and --late above 50, break the premises of demand 3 on purpose";
 
 #[derive(Debug, PartialEq, Eq)]
 pub struct Options {
@@ -37,6 +37,7 @@ impl Options {
                 "--seconds" => options.seconds = Some(number()?),
                 "--seed" => options.seed = number()?,
                 "--delay" => options.limits.delay = number()?,
+                "--unicast" => options.limits.unicast = number()?,
                 "--late" => options.limits.late = number()?,
                 _ => return Err(format!("{word} is no option")),
             }
@@ -55,8 +56,9 @@ mod tests {
 
     #[test]
     fn options() {
-        let options = read("--delay 600 --seed 7").unwrap();
-        assert_eq!((options.limits.delay, options.limits.late), (600, 50));
+        let options = read("--delay 600 --seed 7 --unicast 7").unwrap();
+        let limits = options.limits;
+        assert_eq!((limits.delay, limits.unicast, limits.late), (600, 7, 50));
         assert_eq!((options.seed, options.seconds), (7, None));
         assert!(read("--late").is_err());
         assert!(read("--late soon").is_err());

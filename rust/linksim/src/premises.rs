@@ -1,4 +1,6 @@
-//! Demand 3's premises, tested on the list as it is played: deliveries, due steps, clocks. A list that does not meet them shows nothing.
+//! Demand 3's premises, tested on the list as it is played: deliveries, due steps, clocks, addresses. A list that does not meet them shows nothing.
+
+use reference::responder::holds::Address;
 
 use crate::console::Dues;
 use crate::entry::Packet;
@@ -7,12 +9,15 @@ use crate::entry::Packet;
 #[derive(Clone, Copy, Debug, PartialEq, Eq)]
 pub struct Limits {
     pub delay: u64,
+    /// The same, of packets by unicast.
+    pub unicast: u64,
     pub late: u64,
 }
 
 /// "Every packet a dock sends reaches and is taken by every other dock, unaltered, within 100 ms; every due step is taken at most 50 ms late".
 pub const DEMANDED: Limits = Limits {
     delay: 100,
+    unicast: 100,
     late: 50,
 };
 
@@ -27,6 +32,7 @@ pub struct Premises {
 }
 
 struct Responder {
+    address: Address,
     /// Its clock less the link's time.
     offset: i64,
     /// On the link's time.
@@ -35,6 +41,8 @@ struct Responder {
 
 struct Owed {
     packet: Packet,
+    /// The sender's address, with which it has to arrive.
+    from: Address,
     to: usize,
     by: u64,
 }
@@ -77,8 +85,11 @@ impl Premises {
     }
 
     /// An accepted start; responders are numbered by these.
-    pub fn start(&mut self, clock: u64) {
+    pub fn start(&mut self, clock: u64, address: Address) {
+        let alone = self.running_at(address).is_none();
+        self.require(alone, "an address is no other running responder's");
         self.responders.push(Some(Responder {
+            address,
             offset: clock as i64 - self.time as i64,
             due: Vec::new(),
         }));
@@ -105,22 +116,48 @@ impl Premises {
         self.require(clock as i64 == time + offset, "clocks run at one rate");
     }
 
-    pub fn heard(&mut self, responder: usize, packet: &Packet) {
+    /// "all of a dock's packets arrive with one source address, its own": with another one it is no delivery.
+    pub fn heard(&mut self, responder: usize, from: Address, packet: &Packet) {
         self.owed
-            .retain(|owed| owed.to != responder || owed.packet != *packet);
+            .retain(|owed| owed.to != responder || owed.from != from || owed.packet != *packet);
     }
 
     /// Owed to every other responder that runs now: "One sent before a dock's start need not reach it."
     pub fn sent(&mut self, from: usize, packet: &Packet) {
-        for (to, responder) in self.responders.iter().enumerate() {
-            if to != from && responder.is_some() {
-                self.owed.push(Owed {
-                    packet: packet.clone(),
-                    to,
-                    by: self.time + self.limits.delay,
-                });
+        for to in 0..self.responders.len() {
+            if to != from && self.responders[to].is_some() {
+                self.owe(from, to, self.limits.delay, packet);
             }
         }
+    }
+
+    /// "A unicast packet need reach only the dock running at its address: sent after that dock's start to its port 5353". A responder
+    /// owes itself nothing.
+    pub fn sent_to(&mut self, from: usize, address: Address, packet: &Packet) {
+        if let Some(to) = self.running_at(address).filter(|to| *to != from) {
+            self.owe(from, to, self.limits.unicast, packet);
+        }
+    }
+
+    fn owe(&mut self, from: usize, to: usize, delay: u64, packet: &Packet) {
+        let Some(sender) = &self.responders[from] else {
+            return;
+        };
+        self.owed.push(Owed {
+            packet: packet.clone(),
+            from: sender.address,
+            to,
+            by: self.time + delay,
+        });
+    }
+
+    /// "a dock cut off [...] no longer runs"
+    fn running_at(&self, address: Address) -> Option<usize> {
+        self.responders.iter().position(|responder| {
+            responder
+                .as_ref()
+                .is_some_and(|responder| responder.address == address)
+        })
     }
 }
 
@@ -129,12 +166,15 @@ mod tests {
     use super::*;
     use crate::console::dues;
 
+    const ONE: Address = [1; 16];
+    const TWO: Address = [2; 16];
+
     /// Two responders from time 10 on, with clocks of 0 and 10.
     fn two() -> Premises {
         let mut premises = Premises::new(DEMANDED);
         premises.before(10);
-        premises.start(0);
-        premises.start(10);
+        premises.start(0, ONE);
+        premises.start(10, TWO);
         premises
     }
 
@@ -149,7 +189,7 @@ mod tests {
             premises.sent(0, &packet());
             premises.before(110);
             if heard {
-                premises.heard(1, &packet());
+                premises.heard(1, ONE, &packet());
             }
             premises.before(time);
             assert_eq!(premises.broken().is_some(), broken);
@@ -158,19 +198,57 @@ mod tests {
 
     #[test]
     fn another_packet_another_responder_or_an_earlier_hearing_is_no_delivery() {
-        let wrong: [fn(&mut Premises); 3] = [
-            |premises| premises.heard(1, &vec![1, 2, 4].into()),
-            |premises| premises.heard(0, &packet()),
+        let wrong: [fn(&mut Premises); 4] = [
+            |premises| premises.heard(1, ONE, &vec![1, 2, 4].into()),
+            |premises| premises.heard(0, ONE, &packet()),
+            |premises| premises.heard(1, TWO, &packet()),
             |_| (),
         ];
         for deliver in wrong {
             let mut premises = two();
-            premises.heard(1, &packet());
+            premises.heard(1, ONE, &packet());
             premises.sent(0, &packet());
             deliver(&mut premises);
             premises.before(111);
             assert!(premises.broken().is_some());
         }
+    }
+
+    #[test]
+    fn a_unicast_packet_is_owed_to_who_runs_at_its_address() {
+        // to responder 1, to nobody, to the sender itself
+        for (address, owed) in [(TWO, true), ([3; 16], false), (ONE, false)] {
+            let mut premises = two();
+            premises.sent_to(0, address, &packet());
+            premises.heard(1, TWO, &packet());
+            premises.before(110);
+            assert_eq!(premises.broken(), None);
+            premises.before(111);
+            assert_eq!(premises.broken().is_some(), owed);
+        }
+        let mut premises = two();
+        premises.sent_to(0, TWO, &packet());
+        premises.heard(1, ONE, &packet());
+        premises.before(111);
+        assert_eq!(premises.broken(), None);
+    }
+
+    #[test]
+    fn an_address_is_used_again_after_a_cut_alone() {
+        let mut premises = two();
+        premises.sent_to(0, TWO, &packet());
+        premises.cut(1);
+        premises.start(10, TWO);
+        assert_eq!(premises.broken(), None);
+        // what was sent before its start is not owed to it, what is sent then is
+        premises.before(111);
+        assert_eq!(premises.broken(), None);
+        premises.sent_to(0, TWO, &packet());
+        premises.before(212);
+        assert!(premises.broken().is_some());
+        let mut premises = two();
+        premises.start(10, TWO);
+        assert!(premises.broken().is_some());
     }
 
     #[test]

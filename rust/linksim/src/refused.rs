@@ -14,7 +14,12 @@ use crate::setups;
 pub fn start(random: &mut Random, clock: u64) -> Call {
     let legal = Rc::new(setups::draw(random));
     let illegal = Rc::new(setups::illegal(random));
-    let start = |clock, draw, setup| Call::Start { clock, draw, setup };
+    let start = |clock, draw, setup| Call::Start {
+        clock,
+        draw,
+        setup,
+        address: [0; 16],
+    };
     match random.up_to(2) {
         0 => start(MOST_TIME + 1, 0, legal),
         1 => start(clock, MOST_START_DRAW + 1, legal),
@@ -39,9 +44,9 @@ pub fn receive(random: &mut Random, clock: u64, last: u64, packet: Packet) -> Ca
         draw: LEAST_REPLY_DRAW,
         hold: LEAST_HOLD_DRAW,
         packet: packet.clone(),
-        out: LEAST_OUT,
+        outs: [LEAST_OUT; 2],
     };
-    Call::Receive(match random.up_to(6) {
+    Call::Receive(match random.up_to(7) {
         0 => Receive {
             clock: wrong_clock(random, last),
             ..good
@@ -51,7 +56,11 @@ pub fn receive(random: &mut Random, clock: u64, last: u64, packet: Packet) -> Ca
             ..good
         },
         2 => Receive {
-            out: small(random),
+            outs: [small(random), LEAST_OUT],
+            ..good
+        },
+        6 => Receive {
+            outs: [LEAST_OUT, small(random)],
             ..good
         },
         // "Refusal 5 for the port is now given only to responses."

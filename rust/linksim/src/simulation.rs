@@ -25,6 +25,9 @@ const BEGIN: u64 = 1_000_000;
 /// No list is longer, so that a clock ahead by `MOST_TIME` less this stays legal.
 const MOST_LENGTH: u64 = 60_000;
 
+/// Later than 30 s after the second announcement of who starts at once.
+const LATE_STARTS: u64 = 33_000;
+
 const OTHER_PORTS: [u64; 4] = [53, 1024, MDNS_PORT + 1, 65536 + MDNS_PORT];
 
 pub struct Simulation<'a> {
@@ -88,6 +91,7 @@ struct Target {
 #[derive(Default)]
 struct Seat {
     setup: Option<Rc<Setup>>,
+    address: Address,
     /// The clock less the link's time.
     offset: i64,
     last: u64,
@@ -95,7 +99,7 @@ struct Seat {
     planned: Dues,
 }
 
-/// The address of what a console runs; past the consoles, of other devices.
+/// Addresses: the first are of responders, often each console's own, the others of other devices.
 fn address_of(number: usize) -> Address {
     let mut address = [0; 16];
     // IPv4 and IPv6 in turn
@@ -133,12 +137,18 @@ impl<'a> Simulation<'a> {
         Ok(simulation.link)
     }
 
-    /// 2 to 6 responders that start in the same millisecond, close together, or apart.
+    /// 2 to 6 responders that start in the same millisecond, close together, or apart; or some of them when what the others announced
+    /// is 30 s old and goes by multicast again.
     fn plan_starts(&mut self, consoles: usize) {
         let count = 2 + self.random.place(consoles - 1);
-        let apart = self.random.pick(&[0, 1, 100, 250, 1000, 3000]);
+        let apart = self
+            .random
+            .pick(&[0, 0, 1, 100, 250, 250, 1000, 3000, LATE_STARTS]);
         for console in 0..count {
-            let wait = self.random.up_to(apart);
+            let wait = match apart == LATE_STARTS {
+                true => self.random.pick(&[0, apart]) + self.random.up_to(500),
+                false => self.random.up_to(apart),
+            };
             self.at(wait, Event::Start { console });
         }
         self.end += apart + self.random.pick(&[1201, 1300, 2500, 4000, 8000]);
@@ -225,20 +235,41 @@ impl<'a> Simulation<'a> {
             1 => MOST_START_DRAW,
             _ => self.random.up_to(MOST_START_DRAW),
         };
+        let address = self.free_address(console);
         self.seats[console] = Seat {
             setup: Some(setup.clone()),
+            address,
             offset: clock as i64 - self.now as i64,
             last: clock,
             planned: Dues::default(),
         };
-        let outcome = self.play_call(console, Call::Start { clock, draw, setup })?;
-        self.follow(console, outcome);
+        let start = Call::Start {
+            clock,
+            draw,
+            setup,
+            address,
+        };
+        let outcome = self.play_call(console, start)?;
+        self.follow(console, outcome, None);
         if self.random.chance(self.style.cuts) {
             let wait = self.random.pick(&[0, 250, 1000, 1200, 3000]);
             let wait = self.random.up_to(wait);
             self.at(wait, Event::Cut { console });
         }
         Ok(())
+    }
+
+    /// No other running responder's; that of one that was cut, perhaps, whose answers may still be under way.
+    fn free_address(&mut self, console: usize) -> Address {
+        let mut free: Vec<Address> = (0..=self.seats.len()).map(address_of).collect();
+        for other in self.others(console) {
+            free.retain(|address| *address != self.seats[other.console].address);
+        }
+        let own = address_of(console);
+        match free.contains(&own) && !self.random.chance(self.style.moves) {
+            true => own,
+            false => self.random.pick(&free),
+        }
     }
 
     fn cut(&mut self, console: usize) -> io::Result<()> {
@@ -264,7 +295,7 @@ impl<'a> Simulation<'a> {
         let clock = self.clock(to.console);
         let out = self.out();
         let outcome = self.play_call(to.console, Call::Tick { clock, out })?;
-        self.follow(to.console, outcome);
+        self.follow(to.console, outcome, None);
         Ok(())
     }
 
@@ -285,10 +316,10 @@ impl<'a> Simulation<'a> {
             draw: self.reply_draw(),
             hold: self.hold_draw(),
             packet,
-            out: self.out(),
+            outs: [self.out(), self.out()],
         };
         let outcome = self.play_call(to.console, Call::Receive(receive))?;
-        self.follow(to.console, outcome);
+        self.follow(to.console, outcome, Some((from, port)));
         Ok(())
     }
 
@@ -314,8 +345,12 @@ impl<'a> Simulation<'a> {
         self.random.pick(&[LEAST_HOLD_DRAW, MOST_HOLD_DRAW, any])
     }
 
-    /// The source address of a hostile packet: one of a few, or a responder's.
+    /// The source address of a hostile packet: a responder's, one that it had, or another device's.
     fn any_address(&mut self) -> Address {
+        if self.random.chance(50) {
+            let seat = self.random.place(self.seats.len());
+            return self.seats[seat].address;
+        }
         let number = self.random.place(2 * self.seats.len());
         address_of(number)
     }
@@ -366,8 +401,9 @@ impl<'a> Simulation<'a> {
             .collect()
     }
 
-    /// After a call: its packet has to reach the others, due steps have to be taken, and other things may happen.
-    fn follow(&mut self, console: usize, outcome: Option<Outcome>) {
+    /// After a call: its packet has to reach the others, that by unicast who runs where the message came from, due steps have to be
+    /// taken, and other things may happen.
+    fn follow(&mut self, console: usize, outcome: Option<Outcome>, source: Option<(Address, u64)>) {
         let (Some(outcome), Some(to)) = (outcome, self.target(console)) else {
             return;
         };
@@ -378,6 +414,9 @@ impl<'a> Simulation<'a> {
         if let Some(packet) = outcome.sent {
             self.plan_deliveries(to, packet);
         }
+        if let (Some(packet), Some((address, MDNS_PORT))) = (outcome.unicast, source) {
+            self.plan_unicast(to, address, packet);
+        }
         for (step, due) in outcome.claims.due.into_iter().enumerate() {
             self.plan_step(to, step, due);
         }
@@ -386,23 +425,12 @@ impl<'a> Simulation<'a> {
 
     fn plan_deliveries(&mut self, from: Target, packet: Packet) {
         for to in self.others(from.console) {
-            let delay = self.style.delays.time(&mut self.random, self.limits.delay);
-            let delivery = || Event::Delivery {
-                to,
-                from: address_of(from.console),
-                packet: packet.clone(),
-            };
-            self.at(delay, delivery());
-            if self.random.chance(self.style.extras) {
-                let (again, stale) = (self.random.up_to(delay), self.random.up_to(3000));
-                let wait = self.random.pick(&[delay, again, stale]);
-                self.at(wait, delivery());
-            }
-            if self.random.chance(self.style.extras) {
-                let wait = self.random.up_to(delay);
-                let packet = Some(packet.clone());
-                self.at(wait, Event::Refused { to, packet });
-            }
+            self.plan_delivery(from, to, self.limits.delay, packet.clone());
+        }
+        // a truncated query that comes from the same address, before its probe or behind it
+        let is_query = packet[2] & 0x80 == 0;
+        if is_query && self.random.chance(self.style.hostility) {
+            self.plan_truncated(from);
         }
         // a responder's packet from a port that is not its own
         if self.random.chance(self.style.extras) {
@@ -417,10 +445,68 @@ impl<'a> Simulation<'a> {
             let wait = self.random.up_to(self.limits.delay);
             let echo = Event::Delivery {
                 to: from,
-                from: address_of(from.console),
+                from: self.seats[from.console].address,
                 packet: packet.clone(),
             };
             self.at(wait, echo);
+        }
+        self.seen.push(packet);
+    }
+
+    /// All others hear a truncated query from a responder's address, which it did not send.
+    fn plan_truncated(&mut self, from: Target) {
+        let address = self.seats[from.console].address;
+        for to in self.others(from.console) {
+            let Some(setup) = self.seats[to.console].setup.clone() else {
+                continue;
+            };
+            let packet = hostile::truncated(&mut self.random, &setup).into();
+            let wait = self.random.pick(&[0, 0, 50]);
+            let delivery = Event::Delivery {
+                to,
+                from: address,
+                packet,
+            };
+            self.at(wait, delivery);
+        }
+    }
+
+    /// One delivery in time; at times another one, too late or of a packet that is to be taken yet, or a refused call with it.
+    fn plan_delivery(&mut self, from: Target, to: Target, most: u64, packet: Packet) {
+        let address = self.seats[from.console].address;
+        let delay = self.style.delays.time(&mut self.random, most);
+        let delivery = || Event::Delivery {
+            to,
+            from: address,
+            packet: packet.clone(),
+        };
+        self.at(delay, delivery());
+        if self.random.chance(self.style.extras) {
+            let (again, stale) = (self.random.up_to(delay), self.random.up_to(3000));
+            let wait = self.random.pick(&[delay, again, stale]);
+            self.at(wait, delivery());
+        }
+        if self.random.chance(self.style.extras) {
+            let wait = self.random.up_to(delay);
+            let packet = Some(packet.clone());
+            self.at(wait, Event::Refused { to, packet });
+        }
+    }
+
+    /// A packet by unicast reaches who runs at the address; where that is the sender itself, or nobody, it may be lost. Others may
+    /// overhear it.
+    fn plan_unicast(&mut self, from: Target, address: Address, packet: Packet) {
+        let consoles = 0..self.seats.len();
+        for to in consoles
+            .filter_map(|console| self.target(console))
+            .collect::<Vec<_>>()
+        {
+            let there = self.seats[to.console].address == address;
+            let owed = there && to.console != from.console;
+            if owed || there && self.random.chance(50) || self.random.chance(self.style.extras / 4)
+            {
+                self.plan_delivery(from, to, self.limits.unicast, packet.clone());
+            }
         }
         self.seen.push(packet);
     }

@@ -11,6 +11,8 @@ pub struct Style {
     pub hostility: u64,
     /// In percent: how many responders are cut.
     pub cuts: u64,
+    /// In percent: how often a start takes any address that is free, and not its console's.
+    pub moves: u64,
 }
 
 #[derive(Clone, Copy)]
@@ -29,6 +31,7 @@ impl Style {
             extras: random.pick(&[0, 5, 20]),
             hostility: random.pick(&[0, 0, 0, 3, 10, 20]),
             cuts: random.pick(&[0, 0, 20, 60]),
+            moves: random.pick(&[0, 50, 100]),
         }
     }
 }

@@ -4,7 +4,7 @@ use reference::console::hex;
 use reference::setup::Setup;
 use reference::MDNS_PORT;
 
-use crate::console::Answer;
+use crate::console::{Answer, Sent};
 use crate::describe::{packet, text_of};
 use crate::entry::{Call, Entry};
 
@@ -35,7 +35,15 @@ pub fn lines(played: &[(Entry, Option<Answer>)], consoles: usize) -> Vec<String>
 
 fn call_words(call: &Call) -> String {
     match call {
-        Call::Start { draw, setup, .. } => format!("starts, draw {draw}, {}", setup_words(setup)),
+        Call::Start {
+            draw,
+            setup,
+            address,
+            ..
+        } => {
+            let (at, setup) = (hex(address), setup_words(setup));
+            format!("starts, draw {draw}, at {at}, {setup}")
+        }
         Call::Receive(receive) => {
             let (from, heard) = (hex(&receive.from), packet(&receive.packet));
             match receive.port {
@@ -50,8 +58,15 @@ fn call_words(call: &Call) -> String {
 
 fn answer_words(answer: Option<&Answer>) -> String {
     match answer {
-        Some(Answer::Sent(sent)) => format!(": sends {}", packet(sent)),
-        Some(Answer::Unicast(reply)) => format!(": replies {}", packet(reply)),
+        Some(Answer::Sent(Sent { to_all, unicast })) => {
+            let to_all = to_all
+                .as_ref()
+                .map(|sent| format!(": sends {}", packet(sent)));
+            let back = unicast
+                .as_ref()
+                .map(|sent| format!(": sends back {}", packet(sent)));
+            to_all.into_iter().chain(back).collect()
+        }
         Some(Answer::Refused(number)) => format!(": refused {number}"),
         Some(Answer::Started | Answer::Quiet) | None => String::new(),
     }
@@ -83,6 +98,7 @@ mod tests {
             clock: 0,
             draw,
             setup: setup.clone(),
+            address: [0; 16],
         };
         let tick = Call::Tick { clock: 0, out: 0 };
         let list = [

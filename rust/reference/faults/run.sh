@@ -1,10 +1,11 @@
 #!/bin/sh
 # Builds each fault of this folder in a copy of the package and compares it with
 # the good program; succeeds only if every fault shows as a difference.
-# Usage: faults/run.sh [LINES]
+# Usage: faults/run.sh [LINES [NAMES]], where NAMES is a pattern such as 'unicast-*'.
 set -eu
 
 lines=${1:-20000}
+names=${2:-*}
 package=$(cd "$(dirname "$0")/.." && pwd)
 work=$(mktemp -d)
 trap 'rm -rf "$work"' EXIT
@@ -17,7 +18,7 @@ compare=$package/../target/release/compare
 export RUSTFLAGS=-Awarnings
 
 missed=0
-for fault in "$package"/faults/*.patch; do
+for fault in "$package"/faults/$names.patch; do
     name=$(basename "$fault" .patch)
     rm -rf "$work/copy"
     mkdir "$work/copy"

@@ -1,5 +1,5 @@
-//! "Writing a packet": responses, replies to plain resolvers and probes, with
-//! their names compressed.
+//! "Writing a packet": responses, unicast answers, replies to plain resolvers and
+//! probes, with their names compressed.
 
 use crate::message::{Question, HEADER};
 use crate::name::Name;
@@ -115,7 +115,12 @@ impl Packet {
 /// "Records in responses go in the order PTR, SRV, TXT, A, AAAA; class 0x8001,
 /// PTR 1.", NSEC after AAAA. `records` are in that order.
 pub fn response(records: &[&OwnRecord]) -> Vec<u8> {
-    let mut packet = Packet::new(NO_ID, RESPONSE_FLAGS, [0, records.len(), 0, 0]);
+    response_with_id(NO_ID, records)
+}
+
+/// "Unicast answers carry the query's ID (section 18.1)", and are responses otherwise.
+pub fn response_with_id(id: u16, records: &[&OwnRecord]) -> Vec<u8> {
+    let mut packet = Packet::new(id, RESPONSE_FLAGS, [0, records.len(), 0, 0]);
     for record in records {
         let flush = match record.kind {
             Kind::Ptr => 0,
@@ -140,12 +145,13 @@ pub fn plain_reply(id: u16, question: &Question, records: &[&OwnRecord]) -> Vec<
 }
 
 /// "A probe is one question (type 255, class 1) with the claim's records in
-/// Authority, by rising type, class 1."
+/// Authority, by rising type, class 1." "Our own probes now set the bit".
 pub fn probe(setup: &Setup, claim: ClaimName) -> Vec<u8> {
     let mut records = setup.claimed_records(claim);
     records.sort_by_key(|record| record.kind.rtype());
     let mut packet = Packet::new(NO_ID, PROBE_FLAGS, [1, 0, records.len(), 0]);
-    packet.question(&setup.claim_name(claim), rtype::ANY, class::IN);
+    let wants_unicast = class::IN | class::TOP_BIT;
+    packet.question(&setup.claim_name(claim), rtype::ANY, wants_unicast);
     for record in &records {
         packet.record(record, class::IN, record.kind.ttl());
     }
@@ -179,7 +185,7 @@ mod tests {
     fn the_44_byte_probe() {
         let expected = [
             &b"\x00\x00\x00\x00\x00\x01\x00\x00\x00\x01\x00\x00\x04dock\x05local\x00"[..],
-            &b"\x00\xff\x00\x01\xc0\x0c\x00\x01\x00\x01\x00\x00\x00\x78\x00\x04\x0a\x00\x00\x07"[..],
+            &b"\x00\xff\x80\x01\xc0\x0c\x00\x01\x00\x01\x00\x00\x00\x78\x00\x04\x0a\x00\x00\x07"[..],
         ]
         .concat();
         assert_eq!(expected.len(), 44);

@@ -7,7 +7,7 @@ use crate::message::{Message, Section};
 use crate::name::Labels;
 use crate::refusal::Refusal;
 use crate::responder::holds::Address;
-use crate::responder::{Arrival, Claim, Responder, LEAST_OUT};
+use crate::responder::{Arrival, Claim, Outs, Responder, LEAST_OUT};
 use crate::setup::Setup;
 use crate::txt::{self, Answer, Source};
 
@@ -18,11 +18,13 @@ const FIRST_ENTRIES: usize = 64;
 /// One entry more than is legal can be had, to be refused.
 const MOST_TABLE: usize = MOST_ENTRIES + 1;
 
-/// One responder, one cache and one out buffer.
+/// One responder, one cache and two out buffers.
 pub struct Console {
     pub responder: Responder,
     pub cache: Cache,
     out: Vec<u8>,
+    /// The second buffer, of packets by unicast.
+    unicast: Vec<u8>,
 }
 
 /// Why a call has no ordinary answer.
@@ -165,6 +167,7 @@ impl Default for Console {
             responder: Responder::default(),
             cache: Cache::new(FIRST_ENTRIES, SLOT * FIRST_ENTRIES),
             out: vec![0; OUT_BUFFER],
+            unicast: vec![0; OUT_BUFFER],
         }
     }
 }
@@ -195,7 +198,8 @@ impl Console {
             b"tick" => self.tick(fields),
             b"claims" => self.claims(fields),
             b"holds" => self.holds(fields),
-            b"out" => self.out(fields),
+            b"out" => part("out", &self.out, fields),
+            b"unicast" => part("unicast", &self.unicast, fields),
             b"put" => self.put(fields),
             b"look" => self.look(fields),
             b"slot" => self.slot(fields),
@@ -237,8 +241,12 @@ impl Console {
         let hold_draw = fields.number()?;
         let packet = fields.bytes()?;
         let lent = at_most(fields.optional_number(LEAST_OUT as u64)?, OUT_BUFFER)?;
+        let lent_unicast = at_most(fields.optional_number(LEAST_OUT as u64)?, OUT_BUFFER)?;
         fields.end()?;
-        let out = &mut self.out[..lent];
+        let outs = Outs {
+            multicast: &mut self.out[..lent],
+            unicast: &mut self.unicast[..lent_unicast],
+        };
         let arrival = Arrival {
             now,
             from,
@@ -247,12 +255,17 @@ impl Console {
             hold_draw,
             packet: &packet,
         };
-        let answered = self.responder.receive(arrival, out)?;
-        let shown = |length| hex(&self.out[..length]);
-        Ok(match (answered.multicast, answered.unicast) {
-            (Some(length), _) => format!("sent {}", shown(length)),
-            (None, Some(length)) => format!("unicast {}", shown(length)),
-            (None, None) => "quiet".to_string(),
+        let answered = self.responder.receive(arrival, outs)?;
+        let sent = answered
+            .multicast
+            .map(|length| format!("sent {}", hex(&self.out[..length])));
+        let unicast = answered
+            .unicast
+            .map(|length| format!("unicast {}", hex(&self.unicast[..length])));
+        let shown: Vec<String> = sent.into_iter().chain(unicast).collect();
+        Ok(match shown.is_empty() {
+            true => "quiet".to_string(),
+            false => shown.join(" "),
         })
     }
 
@@ -295,17 +308,6 @@ impl Console {
             .iter()
             .map(|hold| format!(" {} {}", hex(&hold.from), hold.due));
         Ok(format!("holds{}", shown.collect::<String>()))
-    }
-
-    fn out(&self, mut fields: Fields) -> Result<String, Trouble> {
-        let at = fields.number()?;
-        let length = fields.number()?;
-        fields.end()?;
-        let end = at
-            .checked_add(length)
-            .filter(|end| *end <= OUT_BUFFER as u64)
-            .ok_or(Trouble::BadLine)?;
-        Ok(format!("out {}", hex(&self.out[at as usize..end as usize])))
     }
 
     fn put(&mut self, mut fields: Fields) -> Result<String, Trouble> {
@@ -375,6 +377,21 @@ impl Console {
         self.cache = Cache::new(entries, store);
         Ok("table".to_string())
     }
+}
+
+/// `AT LEN` of an out buffer; past its end the line is a bad one.
+fn part(word: &str, buffer: &[u8], mut fields: Fields) -> Result<String, Trouble> {
+    let at = fields.number()?;
+    let length = fields.number()?;
+    fields.end()?;
+    let end = at
+        .checked_add(length)
+        .filter(|end| *end <= OUT_BUFFER as u64)
+        .ok_or(Trouble::BadLine)?;
+    Ok(format!(
+        "{word} {}",
+        hex(&buffer[at as usize..end as usize])
+    ))
 }
 
 fn txt_answer(mut fields: Fields) -> Result<String, Trouble> {

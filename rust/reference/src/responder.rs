@@ -4,12 +4,13 @@ pub mod holds;
 mod plain;
 #[cfg(test)]
 mod tests;
+mod unicast;
 
 use std::cmp::Ordering;
 
 use holds::{Address, Hold, LEAST_HOLD_DRAW, MOST_HOLD_DRAW};
 
-use crate::message::{Message, Section};
+use crate::message::{Message, Question, Section};
 use crate::order;
 use crate::refusal::Refusal;
 use crate::setup::{ClaimName, Kind, OwnRecord, Setup, KINDS};
@@ -84,12 +85,26 @@ pub struct Arrival<'a> {
     pub packet: &'a [u8],
 }
 
-/// The lengths of the packets that answer a received one.
+/// The lengths of the packets that answer a received one, each in the buffer of
+/// its kind.
 #[derive(Clone, Copy, Debug, Default, PartialEq, Eq)]
 pub struct Answered {
     pub multicast: Option<usize>,
     /// To where the message came from.
     pub unicast: Option<usize>,
+}
+
+/// The two out buffers of a packet received.
+#[derive(Debug)]
+pub struct Outs<'a> {
+    pub multicast: &'a mut [u8],
+    pub unicast: &'a mut [u8],
+}
+
+/// The own records that answer a query, by the way they go.
+struct Answers {
+    multicast: Vec<OwnRecord>,
+    unicast: Vec<OwnRecord>,
 }
 
 /// A packet that a tick sent.
@@ -159,9 +174,9 @@ impl Responder {
         })
     }
 
-    /// Takes a packet. "Receiving takes no due step." A packet that is sent is
-    /// written to `out`.
-    pub fn receive(&mut self, arrival: Arrival, out: &mut [u8]) -> Result<Answered, Refusal> {
+    /// Takes a packet. "Receiving takes no due step." What is sent is written to
+    /// the buffer of its kind.
+    pub fn receive(&mut self, arrival: Arrival, outs: Outs) -> Result<Answered, Refusal> {
         let Arrival { now, draw, .. } = arrival;
         self.check_time(now)?;
         if !(LEAST_REPLY_DRAW..=MOST_REPLY_DRAW).contains(&draw)
@@ -169,7 +184,8 @@ impl Responder {
         {
             return Err(Refusal::Draw);
         }
-        check_out(out)?;
+        check_out(outs.multicast)?;
+        check_out(outs.unicast)?;
         let message = Message::read_from(arrival.port, arrival.packet)?;
         self.check_setup()?;
 
@@ -180,7 +196,7 @@ impl Responder {
             return Ok(Answered::default());
         }
         if arrival.port != MDNS_PORT {
-            let unicast = self.plain_reply(&message, out);
+            let unicast = self.plain_reply(&message, outs.unicast);
             return Ok(Answered {
                 unicast,
                 ..Answered::default()
@@ -194,18 +210,20 @@ impl Responder {
         let answers = self.answers(now, &message);
         self.take_probe(now, &message, ClaimName::Instance);
         self.take_probe(now, &message, ClaimName::Host);
+        let unicast = self.unicast_answer(&message, &answers.unicast, outs.unicast);
 
         // "SRV, TXT, A, AAAA go out at once in one packet", NSEC with them.
         // "PTR is set for a reply at now plus the draw, unless one is already set"
         let (ptr, at_once): (Vec<_>, Vec<_>) = answers
+            .multicast
             .into_iter()
             .partition(|record| record.kind == Kind::Ptr);
         if !ptr.is_empty() {
             self.reply.get_or_insert(now + draw);
         }
         Ok(Answered {
-            multicast: self.multicast(now, &at_once, out),
-            ..Answered::default()
+            multicast: self.multicast(now, &at_once, outs.multicast),
+            unicast,
         })
     }
 
@@ -356,15 +374,16 @@ impl Responder {
         }
     }
 
-    /// The own records that are due for a query and not omitted.
-    fn answers(&self, now: u64, query: &Message) -> Vec<OwnRecord> {
-        let mut records = self.setup.all_records();
-        records.retain(|record| {
-            self.is_asked_for(query, record)
-                && !is_known(query, record)
-                && !self.is_recent(now, query, record)
-        });
-        records
+    /// The own records that are due for a query and not omitted: (a) leaves a
+    /// record out of both kinds of answer, (b) out of multicasts alone.
+    fn answers(&self, now: u64, query: &Message) -> Answers {
+        let mut due = self.setup.all_records();
+        due.retain(|record| self.is_asked_for(query, record) && !is_known(query, record));
+        let (unicast, mut multicast): (Vec<_>, Vec<_>) = due
+            .into_iter()
+            .partition(|record| self.goes_by_unicast(now, query, record));
+        multicast.retain(|record| !self.is_recent(now, query, record));
+        Answers { multicast, unicast }
     }
 
     /// "A record is due when its claim is held (PTR: the instance claim), a
@@ -375,7 +394,16 @@ impl Responder {
 
     /// The same, whether the claim is held or not.
     fn is_in_question(&self, query: &Message, record: &OwnRecord) -> bool {
-        query.questions.iter().any(|question| {
+        self.questions_for(query, record).next().is_some()
+    }
+
+    /// The questions that ask for a record, whether its claim is held or not.
+    fn questions_for<'a>(
+        &'a self,
+        query: &'a Message,
+        record: &'a OwnRecord,
+    ) -> impl Iterator<Item = &'a Question> {
+        query.questions.iter().filter(|question| {
             question.name.equals(&record.owner)
                 && self.is_asked_by(question.rtype, record)
                 && matches!(question.class(), class::IN | class::ANY)

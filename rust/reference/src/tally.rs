@@ -66,12 +66,35 @@ fn other_port(call: &str, line: &str, answer: &str) -> Option<String> {
     })
 }
 
+/// The kinds of a packet by unicast: a reply to a plain resolver repeats its
+/// question, an answer to questions that want unicast has none.
+fn unicast_kinds(packet: &str) -> Vec<String> {
+    let message = bytes_of(packet).and_then(|bytes| Message::read(&bytes).ok());
+    match message {
+        None => vec!["recv unicast of no message".to_string()],
+        Some(message) if message.questions.is_empty() => wanted_kinds(&message),
+        Some(message) => plain_kinds(&message),
+    }
+}
+
+/// The kinds of an answer to questions that want unicast.
+fn wanted_kinds(message: &Message) -> Vec<String> {
+    let mut kinds = vec![format!("recv wanted unicast of {}", message.records.len())];
+    if message.id != 0 {
+        kinds.push("recv wanted unicast with an ID".to_string());
+    }
+    for record in &message.records {
+        match record.rtype {
+            rtype::PTR => kinds.push("recv wanted unicast with PTR".to_string()),
+            rtype::NSEC => kinds.push("recv wanted unicast with NSEC".to_string()),
+            _ => (),
+        }
+    }
+    kinds
+}
+
 /// The kinds of a reply to a plain resolver.
-fn plain_kinds(reply: &str) -> Vec<String> {
-    let message = bytes_of(reply).and_then(|bytes| Message::read(&bytes).ok());
-    let Some(message) = message else {
-        return vec!["recv unicast of no message".to_string()];
-    };
+fn plain_kinds(message: &Message) -> Vec<String> {
     let mut kinds = vec![format!("recv unicast of {}", message.records.len())];
     for record in &message.records {
         match record.rtype {
@@ -147,6 +170,12 @@ fn kinds(call: &str, answer: &str, entries: &str) -> Vec<String> {
     match (call, fields.as_slice()) {
         (_, ["bad", "line"]) => vec!["bad line".to_string()],
         (_, ["refused", number]) => vec![format!("{call} refused {number}")],
+        ("recv", ["sent", packet, "unicast", unicast]) => {
+            let mut kinds = kinds("recv", &format!("sent {packet}"), entries);
+            kinds.extend(unicast_kinds(unicast));
+            kinds.push("recv sent and unicast".to_string());
+            kinds
+        }
         (_, ["sent", packet, more @ ..]) => {
             let more = more
                 .iter()
@@ -162,7 +191,7 @@ fn kinds(call: &str, answer: &str, entries: &str) -> Vec<String> {
             }
             kinds
         }
-        (_, ["unicast", packet]) => plain_kinds(packet),
+        ("recv", ["unicast", packet]) => unicast_kinds(packet),
         ("holds", ["holds", "-"]) => vec!["holds none".to_string()],
         ("holds", ["holds", shown @ ..]) => vec![format!("holds of {}", shown.len() / 2)],
         ("claims", [_, "instance", state, due, "host", host_state, host_due, "reply", reply]) => {

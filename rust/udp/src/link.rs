@@ -1,4 +1,8 @@
-//! The link: a UDP socket for the group 224.0.0.251 and port 5353, on one interface, that shares the port with other programs.
+//! The link: UDP sockets for the group 224.0.0.251 and port 5353, on one interface, that share the port with other programs.
+//!
+//! What is sent to the group reaches every socket that joined it. What is sent to one address reaches one socket alone (RFC 6762 section 15.1): on Linux, of
+//! those bound to the port, one that is bound to that very address before those that are bound to all addresses, and of equal ones the last that was bound
+//! (those that share by SO_REUSEPORT under one user share the packets out among them). So the group has a socket of its own here, and unicast another.
 
 use std::fmt;
 use std::io;
@@ -8,6 +12,7 @@ use std::time::Duration;
 mod datagram;
 mod error;
 mod interface;
+mod ready;
 mod system;
 
 pub use datagram::Header;
@@ -30,16 +35,27 @@ const LOOPBACK: u32 = 1;
 /// What is heard beside what was sent to the group.
 #[derive(Clone, Copy, Debug, PartialEq, Eq)]
 pub enum Hears {
-    /// Nothing: the socket is bound to the group.
+    /// Nothing.
     GroupAlone,
-    /// What was sent to an address of the interface. Where several programs hear that, a packet reaches one of them (RFC 6762 section 15.1).
-    OwnAddressesToo,
+    /// What was sent to the link's address, for a responder: its probes ask for unicast, and a plain resolver may ask its address. It is bound to that
+    /// address, so that it hears this also beside programs that are bound to all addresses, such as Avahi, whichever began first; those then don't. Of two
+    /// that are bound to one address the later hears it: each responder needs an address of its own.
+    OwnAddress,
+    /// What was sent to any address of the interface, for a querier that wants unicast answers, if no other program on this machine has the port then
+    /// (RFC 6762 section 15.1): else it might take what is for another. A responder that begins later on this machine hears what is sent to its own address.
+    UnicastIfAlone,
 }
 
 pub struct Link {
-    socket: UdpSocket,
+    /// Bound to the group; all is sent by it.
+    group: UdpSocket,
+    /// Bound to what unicast is heard at, if it is.
+    unicast: Option<UdpSocket>,
+    /// Whether the socket for unicast is to be looked at first: each in turn.
+    unicast_next: bool,
     buffer: Vec<u8>,
     address: Ipv4Addr,
+    is_address_shared: bool,
     interface: Interface,
     dropped: Dropped,
 }
@@ -68,18 +84,25 @@ pub struct Packet<'a> {
 impl Link {
     /// A link on the interface of this address.
     pub fn open(address: Ipv4Addr, hears: Hears) -> Result<Link, LinkError> {
-        let socket = system::shared_socket(match hears {
-            Hears::GroupAlone => GROUP,
-            Hears::OwnAddressesToo => Ipv4Addr::UNSPECIFIED,
-        })?;
+        let unicast_at = match hears {
+            Hears::GroupAlone => None,
+            Hears::OwnAddress => Some(address),
+            Hears::UnicastIfAlone => system::is_port_free()?.then_some(Ipv4Addr::UNSPECIFIED),
+        };
         let join = LinkError::at(Step::Join(address));
         let found = Interface::of(address).map_err(&join)?;
         let interface = found.ok_or_else(|| join(error::no_such_interface()))?;
-        prepare(&socket, address).map_err(&join)?;
+        let is_address_shared = unicast_at.is_some_and(system::is_bound);
+        let group = system::shared_socket(GROUP)?;
+        prepare(&group, address).map_err(&join)?;
+        let unicast = unicast_at.map(unicast_socket).transpose()?;
         Ok(Link {
-            socket,
+            group,
+            unicast,
+            unicast_next: false,
             buffer: vec![0; MOST_DATAGRAM],
             address,
+            is_address_shared,
             interface,
             dropped: Dropped::default(),
         })
@@ -89,10 +112,9 @@ impl Link {
     pub fn receive(&mut self, wait: u64) -> Result<Option<Packet<'_>>, LinkError> {
         let failed = LinkError::at(Step::Receive);
         let wait = Duration::from_millis(wait.clamp(1, LONGEST_WAIT));
-        self.socket.set_read_timeout(Some(wait)).map_err(&failed)?;
-        let (length, header) = match datagram::receive(&self.socket, &mut self.buffer) {
-            Err(error) if is_pause(error.kind()) => return Ok(None),
-            received => received.map_err(&failed)?,
+        let received = self.next_datagram(wait).map_err(&failed)?;
+        let Some((length, header)) = received else {
+            return Ok(None);
         };
         if !is_of_link(&header, &self.interface) {
             self.dropped.0 += 1;
@@ -102,29 +124,66 @@ impl Link {
         Ok(Some(Packet { header, bytes }))
     }
 
+    /// The next datagram of either socket, in the buffer.
+    fn next_datagram(&mut self, wait: Duration) -> io::Result<Option<(usize, Header)>> {
+        let mut sockets: Vec<&UdpSocket> = self.unicast.iter().chain([&self.group]).collect();
+        if !self.unicast_next {
+            sockets.reverse();
+        }
+        let Some(first) = pause_is_none(ready::first(&sockets, wait))?.flatten() else {
+            return Ok(None);
+        };
+        self.unicast_next = std::ptr::eq(sockets[first], &self.group);
+        pause_is_none(datagram::receive(sockets[first], &mut self.buffer))
+    }
+
     pub fn dropped(&self) -> Dropped {
         self.dropped
+    }
+
+    /// Whether another program on this machine was bound to the link's own address when it was opened: of what is sent to that address it hears nothing now.
+    pub fn is_address_shared(&self) -> bool {
+        self.is_address_shared
+    }
+
+    pub fn hears_unicast(&self) -> bool {
+        self.unicast.is_some()
+    }
+
+    /// From now on only what was sent to the group is heard.
+    pub fn hear_group_alone(&mut self) {
+        self.unicast = None;
     }
 
     /// Sends to the group.
     pub fn send(&self, packet: &[u8]) -> Result<(), LinkError> {
         let group = SocketAddrV4::new(GROUP, PORT);
-        self.socket
+        self.group
             .send_to(packet, group)
             .map_err(LinkError::at(Step::Send))?;
         Ok(())
     }
 
-    /// Sends to where a packet came from, by the same socket, from the address that it was sent to or, if that was the group, from the interface's.
+    /// Sends to where a packet came from, from the link's port, and from the address that it was sent to or, if that was the group, from the link's. It goes
+    /// to the link alone, through no router.
     pub fn reply(&self, packet: &[u8], to: &Header) -> Result<(), LinkError> {
         let from = if to.destination == GROUP {
             self.address
         } else {
             to.destination
         };
-        datagram::send(&self.socket, packet, to.source, from, self.interface.index)
+        datagram::send(&self.group, packet, to.source, from, self.interface.index)
             .map_err(LinkError::at(Step::Reply(to.source)))
     }
+}
+
+/// A socket that hears no group.
+fn unicast_socket(address: Ipv4Addr) -> Result<UdpSocket, LinkError> {
+    let socket = system::shared_socket(address)?;
+    system::hear_own_groups_only(&socket)
+        .and_then(|()| system::tell_destinations(&socket))
+        .map_err(LinkError::at(Step::Open))?;
+    Ok(socket)
 }
 
 fn prepare(socket: &UdpSocket, address: Ipv4Addr) -> io::Result<()> {
@@ -138,7 +197,7 @@ fn prepare(socket: &UdpSocket, address: Ipv4Addr) -> io::Result<()> {
 }
 
 /// Whether a packet is taken as one of the link (RFC 6762 section 11). What was sent to the group from port 5353 is, whatever its source: no router passes it
-/// on, and what answers it goes to the group. All else may be answered by unicast, or was sent by it: its source has to be in a subnet of the interface.
+/// on. Of all else the source has to be in a subnet of the interface.
 fn is_of_link(header: &Header, interface: &Interface) -> bool {
     let to_group = header.destination == GROUP;
     if to_group && header.source.port() == PORT {
@@ -161,9 +220,13 @@ pub fn default_interface() -> Result<Ipv4Addr, LinkError> {
     }
 }
 
-fn is_pause(kind: io::ErrorKind) -> bool {
-    use io::ErrorKind::{Interrupted, TimedOut, WouldBlock};
-    matches!(kind, WouldBlock | TimedOut | Interrupted)
+/// Nothing where a call came to no end because of a signal, or because what it was to give is no longer there.
+fn pause_is_none<T>(answer: io::Result<T>) -> io::Result<Option<T>> {
+    use io::ErrorKind::{Interrupted, WouldBlock};
+    match answer {
+        Err(error) if matches!(error.kind(), WouldBlock | Interrupted) => Ok(None),
+        answer => answer.map(Some),
+    }
 }
 
 #[cfg(test)]
@@ -184,26 +247,76 @@ mod tests {
         })
     }
 
+    /// An address of the loopback interface that no other process's tests use.
+    fn own(number: u8) -> Ipv4Addr {
+        let [.., high, low] = std::process::id().to_be_bytes();
+        Ipv4Addr::new(127, 128 + number, high, low)
+    }
+
     #[test]
     fn several_share_the_port_and_hear_each_other() {
         let mut first = Link::open(Ipv4Addr::LOCALHOST, Hears::GroupAlone).unwrap();
-        let mut second = Link::open(Ipv4Addr::LOCALHOST, Hears::OwnAddressesToo).unwrap();
+        let mut second = Link::open(own(1), Hears::OwnAddress).unwrap();
+        let mut third = Link::open(own(2), Hears::UnicastIfAlone).unwrap();
+        assert!(!third.hears_unicast());
         let mark = b"several share the port";
         second.send(mark).unwrap();
-        for link in [&mut first, &mut second] {
+        for link in [&mut first, &mut second, &mut third] {
             assert!(hears(link, mark, GROUP));
         }
     }
 
+    /// Sends from a link to port 5353 of an address.
+    fn send_to(link: &Link, bytes: &[u8], address: Ipv4Addr) {
+        let header = Header {
+            source: SocketAddrV4::new(address, PORT),
+            destination: link.address,
+            interface: LOOPBACK,
+        };
+        link.reply(bytes, &header).unwrap();
+    }
+
+    #[test]
+    fn unicast_to_the_own_address_is_heard_beside_others() {
+        let _earlier = unicast_socket(Ipv4Addr::UNSPECIFIED).unwrap();
+        let mut link = Link::open(own(3), Hears::OwnAddress).unwrap();
+        let _later = unicast_socket(Ipv4Addr::UNSPECIFIED).unwrap();
+        let sender = Link::open(own(4), Hears::GroupAlone).unwrap();
+        send_to(&sender, b"to one alone", own(3));
+        assert!(hears(&mut link, b"to one alone", own(3)));
+        // of two at one address the later hears it, and knows
+        assert!(!link.is_address_shared());
+        let mut later = Link::open(own(3), Hears::OwnAddress).unwrap();
+        assert!(later.is_address_shared());
+        send_to(&sender, b"to the later", own(3));
+        assert!(hears(&mut later, b"to the later", own(3)));
+        later.hear_group_alone();
+        send_to(&sender, b"to the earlier", own(3));
+        assert!(hears(&mut link, b"to the earlier", own(3)));
+        assert!(!hears(&mut later, b"to the earlier", own(3)));
+    }
+
+    #[test]
+    fn neither_socket_is_heard_alone() {
+        let mut link = Link::open(own(5), Hears::OwnAddress).unwrap();
+        for _ in 0..20 {
+            send_to(&link, b"to us", own(5));
+            link.send(b"to all of us").unwrap();
+        }
+        assert!(hears(&mut link, b"to us", own(5)));
+        assert!(hears(&mut link, b"to all of us", GROUP));
+        assert!(hears(&mut link, b"to us", own(5)));
+    }
+
     #[test]
     fn a_reply_comes_from_where_the_packet_was_sent_to() {
-        let link = Link::open(Ipv4Addr::LOCALHOST, Hears::OwnAddressesToo).unwrap();
+        let link = Link::open(own(6), Hears::OwnAddress).unwrap();
         let asker = UdpSocket::bind((Ipv4Addr::LOCALHOST, 0)).unwrap();
         asker
             .set_read_timeout(Some(Duration::from_secs(2)))
             .unwrap();
         let port = asker.local_addr().unwrap().port();
-        for destination in [GROUP, Ipv4Addr::LOCALHOST] {
+        for destination in [GROUP, own(6)] {
             let header = Header {
                 source: SocketAddrV4::new(Ipv4Addr::LOCALHOST, port),
                 destination,
@@ -213,7 +326,7 @@ mod tests {
             let mut buffer = [0; 16];
             let (length, source) = asker.recv_from(&mut buffer).unwrap();
             assert_eq!(&buffer[..length], b"a reply");
-            assert_eq!(source, (Ipv4Addr::LOCALHOST, PORT).into());
+            assert_eq!(source, (own(6), PORT).into());
         }
     }
 

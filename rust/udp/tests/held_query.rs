@@ -1,5 +1,5 @@
-//! A browser whose known answers take more than one packet, and the example responder, on the loopback interface. All packets there come from one address, and of
-//! an address one query is held at a time: so this is one test, and its names carry the process id, so that runs beside each other do not meet.
+//! A browser whose known answers take more than one packet, and the example responder, on the loopback interface. Of an address one query is held at a time: so
+//! this is one test, and its names carry the process id, so that runs beside each other do not meet.
 
 use std::io::{BufRead, BufReader};
 use std::net::Ipv4Addr;
@@ -9,7 +9,7 @@ use std::time::{Duration, Instant};
 
 use kurgashel::{Message, Section};
 use udp::link::{Hears, Link};
-use udp::query::{compose, KnownAnswer, Question};
+use udp::query::{compose, KnownAnswer, Question, Wants};
 use udp::{name, rtype};
 
 const RESPONDER: &str = env!("CARGO_BIN_EXE_responder");
@@ -83,8 +83,8 @@ fn known_answers_of_a_second_packet() {
         ttl: 4500,
         rdata: booth,
     };
-    let (whole, _) = compose(std::slice::from_ref(&question), &[]);
-    let (rest, _) = compose(&[], &[known]);
+    let (whole, _) = compose(std::slice::from_ref(&question), Wants::Multicast, &[]);
+    let (rest, _) = compose(&[], Wants::Multicast, &[known]);
     let mut cut = whole.clone();
     cut[2] |= TRUNCATED;
 

@@ -1,5 +1,5 @@
-//! A plain resolver, which asks from a port of its own, and the example responder, on the loopback interface. Names carry the process id, so that runs beside
-//! each other do not meet.
+//! A plain resolver, which asks from a port of its own, and the example responder, on the loopback interface. Names carry the process id, and each responder
+//! has an address of its own, so that runs beside each other do not meet.
 
 use std::net::{Ipv4Addr, SocketAddr, UdpSocket};
 use std::process::{Child, Command, Stdio};
@@ -21,10 +21,17 @@ impl Drop for Running {
     }
 }
 
+/// An address of the loopback interface that only this test uses.
+fn own(number: u8) -> Ipv4Addr {
+    let [.., high, low] = std::process::id().to_be_bytes();
+    Ipv4Addr::new(127, 64 + number, high, low)
+}
+
 /// A responder for a host of this label with the address 10.0.0.7.
-fn responder(host: &str) -> Running {
+fn responder(interface: Ipv4Addr, host: &str) -> Running {
     let mut command = Command::new(RESPONDER);
-    command.args(["--interface", "127.0.0.1", "--address", "10.0.0.7"]);
+    command.args(["--interface", &interface.to_string()]);
+    command.args(["--address", "10.0.0.7"]);
     command.args(["--instance", host, "--service", "_plain._udp"]);
     command.args(["--host", host, "--port", "4000", "--seconds", "20"]);
     Running(command.stdout(Stdio::null()).spawn().unwrap())
@@ -56,7 +63,7 @@ fn ask(question: &[u8], to: Ipv4Addr) -> Option<(Vec<u8>, SocketAddr)> {
     Some((reply[..length].to_vec(), source))
 }
 
-/// Asks until there is a reply: the name has to be held first, and of several programs that hear this address one gets the query, by the asker's port.
+/// Asks until there is a reply: the name has to be held first.
 fn ask_until_answered(question: &[u8], to: Ipv4Addr) -> (Vec<u8>, SocketAddr) {
     (0..80).find_map(|_| ask(question, to)).expect("a reply")
 }
@@ -71,19 +78,19 @@ fn reply(question: &[u8], owner: &[u8]) -> Vec<u8> {
 #[test]
 fn a_plain_query_is_answered_by_unicast() {
     let host = label("plain");
-    let _running = responder(&host);
+    let _running = responder(own(1), &host);
     let question = question(&host);
-    for to in [GROUP, Ipv4Addr::LOCALHOST] {
+    for to in [GROUP, own(1)] {
         let (bytes, source) = ask_until_answered(&question, to);
         assert_eq!(bytes, reply(&question, b"\xc0\x0c"));
-        assert_eq!(source, (Ipv4Addr::LOCALHOST, PORT).into());
+        assert_eq!(source, (own(1), PORT).into());
     }
 }
 
 #[test]
 fn the_question_comes_back_as_it_was_spelled() {
     let host = label("spelled");
-    let _running = responder(&host);
+    let _running = responder(own(2), &host);
     let question = question(&host.to_uppercase());
     // the host's label is written as it is held; behind it the question's "local" is pointed to
     let mut owner = vec![host.len() as u8];
@@ -96,7 +103,7 @@ fn the_question_comes_back_as_it_was_spelled() {
 #[test]
 fn a_name_of_no_one_is_not_answered() {
     let host = label("held");
-    let _running = responder(&host);
+    let _running = responder(own(3), &host);
     ask_until_answered(&question(&host), GROUP);
     for _ in 0..5 {
         assert_eq!(ask(&question(&label("of-no-one")), GROUP), None);

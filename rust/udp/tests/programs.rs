@@ -1,4 +1,5 @@
-//! The two programs on the loopback interface. Names carry the process id, so that runs beside each other do not meet.
+//! The two programs on the loopback interface. Names carry the process id, and each responder has an address of its own, so that runs beside each other do not
+//! meet.
 
 use std::process::{Child, Command, Output, Stdio};
 
@@ -10,11 +11,14 @@ fn service(test: &str) -> String {
     format!("_{test}{}._tcp", std::process::id())
 }
 
+/// A responder at an address of the loopback interface that the port tells apart.
 fn responder(service: &str, host: &str, port: u16, seconds: u64) -> Child {
+    let [.., high, low] = std::process::id().to_be_bytes();
+    let interface = format!("127.{}.{high}.{low}", 32 + port % 16);
     let (port, seconds) = (port.to_string(), seconds.to_string());
     let host = format!("{host}-{}", std::process::id());
     let mut command = Command::new(RESPONDER);
-    command.args(["--interface", "127.0.0.1", "--instance", "booth"]);
+    command.args(["--interface", &interface, "--instance", "booth"]);
     command.args(["--address", "10.0.0.7", "--txt", "room=3"]);
     command.args(["--service", service, "--host", &host, "--port", &port]);
     command.args(["--seconds", &seconds]);
@@ -67,7 +71,7 @@ fn of_two_responders_one_holds_the_name_and_the_browser_finds_it() {
 #[test]
 fn signals_stop_a_program_cleanly() {
     for signal in ["INT", "TERM"] {
-        let child = responder(&service("stop"), "stop", 4000, 20);
+        let child = responder(&service("stop"), "stop", 4002, 20);
         std::thread::sleep(std::time::Duration::from_millis(1000));
         let id = child.id().to_string();
         let sent = Command::new("sh")
@@ -97,7 +101,7 @@ fn help_and_errors() {
         assert_eq!(wrong.status.code(), Some(1));
         assert!(String::from_utf8_lossy(&wrong.stderr).contains("no option '--dog'"));
     }
-    let mut refused = responder("_no--good._tcp", "no", 1, 1);
+    let mut refused = responder("_no--good._tcp", "no", 4003, 1);
     assert_eq!(refused.wait().unwrap().code(), Some(1));
     let words = "--instance a\nb --service _voice._tcp --host dock --port 1 --seconds 1";
     let feed = Command::new(RESPONDER)

@@ -13,7 +13,7 @@ use Rattle.claims.specs.declared.records.Own.{Own}
 use Rattle.claims.specs.declared.records.Own.the-variants.{Ptr}
 use Rattle.claims.specs.declared.When.the-variants.{Never, At}
 use Rattle.claims.specs.declared.Progress.{Progress}
-use Rattle.claims.specs.answers.Answers.{asksOf, gapFor, isDue, isOmitted, isWanted, wantedOf, judgedOf}
+use Rattle.claims.specs.answers.Answers.{gapFor, isDue, isOmitted, isWanted, wantedOf, multicastAsks, judgedOf}
 use Rattle.claims.specs.answers.Held.{toHold, heldBack, receiveOf}
 use Rattle.claims.specs.declared.answers.Facts.{Facts}
 use Rattle.claims.specs.declared.answers.Coming.{Coming}
@@ -114,9 +114,9 @@ module _ (progress : Progress) (now : ℕ) (q : Asks) (aaaa : Bool) where
 
 module _ (progress : Progress) (c : Coming) (f : Facts) (aaaa : Bool) where
   -- A record that goes at once, as all but PTR do, goes out where it is wanted; and PTR never does.
-  pub at-once : (r : Own) → goesAtOnce r ≡ true → has r (judgedOf progress c f aaaa .answers) ≡ has r (wantedOf progress (asksOf f) (c .now) aaaa)
+  pub at-once : (r : Own) → goesAtOnce r ≡ true → has r (judgedOf progress c f aaaa .answers) ≡ has r (wantedOf progress (multicastAsks progress f (c .now)) (c .now) aaaa)
   unfolding judgedOf atOnce
-  at-once r e = has-each (λ o. goesAtOnce o && has o (wantedOf progress (asksOf f) (c .now) aaaa)) r ∙ rw e
+  at-once r e = has-each (λ o. goesAtOnce o && has o (wantedOf progress (multicastAsks progress f (c .now)) (c .now) aaaa)) r ∙ rw e
 
   pub ptr-later : has Ptr (judgedOf progress c f aaaa .answers) ≡ false
   unfolding judgedOf atOnce
@@ -137,14 +137,14 @@ module _ (progress : Progress) (c : Coming) (f : Facts) (aaaa : Bool) where
   -- Where none is set, one is set at now plus the draw for a PTR that is due and has no cause; else none.
   pub reply-set :
       progress .reply ≡ Never
-      → IsDue progress (c .now) (asksOf f) aaaa Ptr
-      → (Cause progress (c .now) (asksOf f) aaaa Ptr → ⊥)
+      → IsDue progress (c .now) (multicastAsks progress f (c .now)) aaaa Ptr
+      → (Cause progress (c .now) (multicastAsks progress f (c .now)) aaaa Ptr → ⊥)
       → judgedOf progress c f aaaa .progress .reply ≡ At (afterMs (c .now) (c .draw))
   unfolding judgedOf
-  reply-set e d n = simp (e, goes-out progress (c .now) (asksOf f) aaaa Ptr d n)
+  reply-set e d n = simp (e, goes-out progress (c .now) (multicastAsks progress f (c .now)) aaaa Ptr d n)
 
   pub reply-unset :
-      progress .reply ≡ Never → has Ptr (wantedOf progress (asksOf f) (c .now) aaaa) ≡ false → judgedOf progress c f aaaa .progress .reply ≡ Never
+      progress .reply ≡ Never → has Ptr (wantedOf progress (multicastAsks progress f (c .now)) (c .now) aaaa) ≡ false → judgedOf progress c f aaaa .progress .reply ≡ Never
   unfolding judgedOf
   reply-unset e h = simp (e, h)
 

@@ -27,7 +27,7 @@ use Rattle.claims.specs.declared.When.the-variants.{Never, At}
 use Rattle.claims.specs.declared.Progress.{Progress}
 use Rattle.claims.specs.holds.Holds.{noHolds, heldOf, someFrom, someFree, knowingAll, oncePerAddress}
 use Rattle.claims.proofs.holds.Lists.{once-queued, once-known}
-use Rattle.claims.specs.answers.Answers.{heardFor, heardOf, asksOf, wantedOf, setReply, joined, judgedOf, plainOf}
+use Rattle.claims.specs.answers.Answers.{heardFor, heardOf, wantedOf, multicastAsks, setReply, joined, judgedOf, plainOf}
 use Rattle.claims.specs.answers.Held.{toHold, holdOf, heldBack, receiveOf}
 use Rattle.claims.proofs.answers.Causes.{held-or-judged}
 use Rattle.claims.specs.declared.answers.Heard.{Heard}
@@ -141,12 +141,12 @@ module _ (c : Coming) (f : Facts) (aaaa : Bool) where
 
   -- what goes out at once is wanted
   pub answered-wanted :
-      (progress : Progress) (r : Own) → has r (receiveOf progress c f aaaa .answers) ≡ true → has r (wantedOf progress (asksOf f) (c .now) aaaa) ≡ true
+      (progress : Progress) (r : Own) → has r (receiveOf progress c f aaaa .answers) ≡ true → has r (wantedOf progress (multicastAsks progress f (c .now)) (c .now) aaaa) ≡ true
   unfolding heldBack judgedOf atOnce
   answered-wanted progress r =
-      held-or-judged progress c f aaaa (λ b x. has r (x .answers) ≡ true → has r (wantedOf progress (asksOf f) (c .now) aaaa) ≡ true)
+      held-or-judged progress c f aaaa (λ b x. has r (x .answers) ≡ true → has r (wantedOf progress (multicastAsks progress f (c .now)) (c .now) aaaa) ≡ true)
       (λ e h. clash (sym (has-each (λ o. false) r) ∙ h))
-      (λ e h. second (goesAtOnce r) _ (sym (has-each (λ o. goesAtOnce o && has o (wantedOf progress (asksOf f) (c .now) aaaa)) r) ∙ h))
+      (λ e h. second (goesAtOnce r) _ (sym (has-each (λ o. goesAtOnce o && has o (wantedOf progress (multicastAsks progress f (c .now)) (c .now) aaaa)) r) ∙ h))
     where
       second : (x y : Bool) → (x && y) ≡ true → y ≡ true
       second true y h = h
@@ -227,8 +227,8 @@ module _ (c : Coming) (f : Facts) (aaaa : Bool) where
         (record {
           instance = heard-kept (progress .instance) (progress .draw) (f .instance) s (p .instance);
           host = heard-kept (progress .host) (progress .draw) (f .host) s (p .host);
-          sent = all-marked-kept most (atOnce (wantedOf progress (asksOf f) (c .now) aaaa)) (progress .sent) (c .now) (p .sent) now-kept;
-          reply = reply-kept (has Ptr (wantedOf progress (asksOf f) (c .now) aaaa)) (progress .reply) (p .reply);
+          sent = all-marked-kept most (atOnce (wantedOf progress (multicastAsks progress f (c .now)) (c .now) aaaa)) (progress .sent) (c .now) (p .sent) now-kept;
+          reply = reply-kept (has Ptr (wantedOf progress (multicastAsks progress f (c .now)) (c .now) aaaa)) (progress .reply) (p .reply);
           holds = joined-kept (progress .holds) (p .holds);
           last = now-kept;
         }))

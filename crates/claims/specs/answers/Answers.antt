@@ -1,8 +1,8 @@
 -- A packet received (specification, 'A claim's life' and 'Which answers go out'), on what the message says. Claims and answers are both judged on the state
 -- that the call is given. Assumes nothing: these are definitions.
-use Prim.Native.Nat.{ℕ}
-use mathlib.Core.Bool.{Bool, cond, not, _&&_, _||_}
-use Rattle.claims.specs.records.Own.{claimFor, present, has, each}
+use Prim.Native.Nat.{ℕ, _*_}
+use mathlib.Core.Bool.{Bool, true, false, cond, not, _&&_, _||_}
+use Rattle.claims.specs.records.Own.{ownTtl, claimFor, present, has, each}
 use Rattle.claims.specs.records.Sets.{noRecord, atOnce}
 use Rattle.claims.specs.Time.{deferral, multicastGap, defenceGap, afterMs, recently, sentOf, markedAll}
 use Rattle.claims.specs.Claims.{heldNow, claimOf, afterConflict, afterProbe}
@@ -73,6 +73,32 @@ isWanted progress q now aaaa o = isDue progress q aaaa o && not (isOmitted progr
 unfoldable pub wantedOf : Progress → Asks → ℕ → Bool → Set
 wantedOf progress q now aaaa = each (isWanted progress q now aaaa)
 
+-- ---- questions that want unicast (RFC 6762, section 5.4)
+
+-- "a quarter of its TTL", in ms
+abbrev pub quarterTtl : Own → ℕ
+quarterTtl o = 250 * ownTtl o
+
+-- "A record or NSEC asked for .. only by questions with it goes to the asker by unicast if it was multicast less than a quarter of its TTL ago, else by multicast."
+abbrev pub isToAsker : Progress → Facts → ℕ → Own → Bool
+isToAsker progress f now o = not (has o (f .qm)) && recently (sentOf o (progress .sent)) now (quarterTtl o)
+
+-- of the records that a query asks for those that go by unicast, if they go at all, or those that go by multicast
+unfoldable pub askedBy : (unicast : Bool) → Progress → Facts → ℕ → Set
+askedBy unicast progress f now = each (λ o. has o (asksOf f .asked) && cond unicast (isToAsker progress f now o) (not (isToAsker progress f now o)))
+
+-- what a query asks of all on the link, and what it asks for its sender alone: unicast answers "have no gap"
+unfoldable pub multicastAsks : Progress → Facts → ℕ → Asks
+multicastAsks progress f now = record {
+  asked = askedBy false progress f now;
+  known = f .known;
+  instancegap = gapOf (f .instance .probe);
+  hostgap = gapOf (f .host .probe);
+}
+
+unfoldable pub unicastAsks : Progress → Facts → ℕ → Asks
+unicastAsks progress f now = record { asked = askedBy true progress f now; known = f .known; instancegap = 0; hostgap = 0 }
+
 -- "PTR is set for a reply at now plus the draw, unless one is already set"
 abbrev pub setReply : Bool → When → ℕ → When
 setReply asks Never due = cond asks (At due) Never
@@ -83,7 +109,7 @@ setReply asks (At was) due = At was
 unfoldable pub joined : Holds → Coming → Facts → Holds
 joined holds c f = cond (f .response) holds (knowingAll (c .from) (f .known) holds)
 
--- "SRV, TXT, A, AAAA go out at once in one packet." "Receiving takes no due step."
+-- "SRV, TXT, A, AAAA go out at once in one packet." "Receiving takes no due step." Unicast answers "go at once, PTR too, .. don't count as multicasts".
 unfoldable pub judgedOf : Progress → Coming → Facts → Bool → Received
 judgedOf progress c f aaaa =
     record {
@@ -91,13 +117,14 @@ judgedOf progress c f aaaa =
           record {
             instance = heardOf (progress .instance) (f .response) (f .instance) (afterMs (c .now) (progress .draw)) (afterMs (c .now) deferral);
             host = heardOf (progress .host) (f .response) (f .host) (afterMs (c .now) (progress .draw)) (afterMs (c .now) deferral);
-            sent = markedAll (atOnce (wantedOf progress (asksOf f) (c .now) aaaa)) (progress .sent) (c .now);
-            reply = setReply (has Ptr (wantedOf progress (asksOf f) (c .now) aaaa)) (progress .reply) (afterMs (c .now) (c .draw));
+            sent = markedAll (atOnce (wantedOf progress (multicastAsks progress f (c .now)) (c .now) aaaa)) (progress .sent) (c .now);
+            reply = setReply (has Ptr (wantedOf progress (multicastAsks progress f (c .now)) (c .now) aaaa)) (progress .reply) (afterMs (c .now) (c .draw));
             holds = joined (progress .holds) c f;
             draw = progress .draw;
             last = c .now;
           };
-      answers = atOnce (wantedOf progress (asksOf f) (c .now) aaaa);
+      answers = atOnce (wantedOf progress (multicastAsks progress f (c .now)) (c .now) aaaa);
+      unicast = wantedOf progress (unicastAsks progress f (c .now)) (c .now) aaaa;
     }
 
 -- ---- a query from a port other than 5353: replies to plain resolvers
@@ -118,5 +145,6 @@ plainOf progress now f aaaa = record {
     draw = progress .draw;
     last = now;
   };
-  answers = dueTo progress (asksOf f) aaaa;
+  answers = noRecord;
+  unicast = dueTo progress (asksOf f) aaaa;
 }

@@ -38,6 +38,7 @@ heldBack progress c f = record {
     last = c .now;
   };
   answers = noRecord;
+  unicast = noRecord;
 }
 
 unfoldable pub receiveOf : Progress → Coming → Facts → Bool → Received

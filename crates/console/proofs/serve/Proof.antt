@@ -6,10 +6,10 @@ use Rattle.console.proofs.serve.Statement.{statement}
 use Rattle.console.proofs.serve.Tie as tie
 
 abbrev Inv-loop : tie.InvT-loop
-Inv-loop input₀ store₀ out₀ text₀ held₀ start₀ seen₀ filled₀ turns₀ input store out text held start seen filled turns = (length input ≡ length input₀) × (start ≤ seen) × (seen ≤ filled) × (filled ≤ length input)
+Inv-loop input₀ store₀ out₀ unicast₀ text₀ held₀ start₀ seen₀ filled₀ turns₀ input store out unicast text held start seen filled turns = (length input ≡ length input₀) × (start ≤ seen) × (seen ≤ filled) × (filled ≤ length input)
 
 abbrev μ-loop : tie.MeasureT-loop
-μ-loop input₀ store₀ out₀ text₀ held₀ start₀ seen₀ filled₀ turns₀ input store out text held start seen filled turns = turns
+μ-loop input₀ store₀ out₀ unicast₀ text₀ held₀ start₀ seen₀ filled₀ turns₀ input store out unicast text held start seen filled turns = turns
 
 at-first-requires : tie.Need-at-first-requires Inv-loop μ-loop
 at-first-requires c κs = search needs
@@ -42,7 +42,7 @@ loop-less : tie.Need-loop-less Inv-loop μ-loop
 loop-less c = search needs
 
 loop-again : tie.Need-loop-again Inv-loop μ-loop
-loop-again c = search needs
+loop-again c = let inv = c .before .before .before .before .before .before .before .before .before .before .before .loop .inv in (inv .0, search needs, search needs, inv .3)
 
 keep-requires : tie.Need-keep-requires Inv-loop μ-loop
 keep-requires c κs = search needs

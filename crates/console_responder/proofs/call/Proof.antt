@@ -18,7 +18,11 @@ start-requires : tie.Need-start-requires
 start-requires c κs = search needs
 
 returns : tie.Need-returns
-returns c = let a = c .before .before .before .before .before .before .before .args in after-start (a .line .now) (a .held) (a .lent .now) _ (c .before .before .before .before .before .field .ensures) (sym (c .before .before .before .same-bytes .ensures) ∙ c .before .before .if1 .taken) _ (c .start .ensures)
+returns c =
+    let if1 = c .before .before in
+    let field = if1 .before .before .before in
+    let a = field .before .before .args in
+    after-start (a .line .now) (a .held) (a .out .now) (a .unicast .now) _ (field .field .ensures) (sym (if1 .before .same-bytes .ensures) ∙ if1 .if1 .taken) _ (c .start .ensures)
 
 slice-aggregate-same-bytes-2 : tie.Need-slice-aggregate-same-bytes-2
 slice-aggregate-same-bytes-2 c = search needs
@@ -30,7 +34,13 @@ recv-requires : tie.Need-recv-requires
 recv-requires c κs = search needs
 
 returns-2 : tie.Need-returns-2
-returns-2 c = let a = c .before .before .before .before .before .before .before .before .before .before .before .args in after-recv (a .line .now) (a .held) (a .lent .now) _ (c .before .before .before .before .before .before .before .before .before .field .ensures) (sym (c .before .before .before .before .before .before .before .same-bytes .ensures) ∙ c .before .before .before .before .before .before .if1 .left) (sym (c .before .before .before .before .same-bytes2 .ensures) ∙ c .before .before .before .if2 .taken) _ _ (c .recv .ensures)
+returns-2 c =
+    let if2 = c .before .before .before .before in
+    let if1 = if2 .before .before .before in
+    let field = if1 .before .before .before in
+    let a = field .before .before .args in
+    after-recv (a .line .now) (a .held) (a .out .now) (a .unicast .now) _ (field .field .ensures) (sym (if1 .before .same-bytes .ensures) ∙ if1 .if1 .left) (sym (if2 .before .same-bytes2 .ensures) ∙ if2 .if2 .taken) _ _ _
+    (c .recv .ensures)
 
 slice-aggregate-same-bytes-3 : tie.Need-slice-aggregate-same-bytes-3
 slice-aggregate-same-bytes-3 c = search needs
@@ -42,7 +52,14 @@ tick-requires : tie.Need-tick-requires
 tick-requires c κs = search needs
 
 returns-3 : tie.Need-returns-3
-returns-3 c = let a = c .before .before .before .before .before .before .before .before .before .before .before .before .before .before .args in after-tick (a .line .now) (a .held) (a .lent .now) _ (c .before .before .before .before .before .before .before .before .before .before .before .before .field .ensures) (sym (c .before .before .before .before .before .before .before .before .before .before .same-bytes .ensures) ∙ c .before .before .before .before .before .before .before .before .before .if1 .left) (sym (c .before .before .before .before .before .before .before .same-bytes2 .ensures) ∙ c .before .before .before .before .before .before .if2 .left) (sym (c .before .before .before .before .same-bytes3 .ensures) ∙ c .before .before .before .if3 .taken) _ _ (c .tick .ensures)
+returns-3 c =
+    let if3 = c .before .before .before in
+    let if2 = if3 .before .before .before in
+    let if1 = if2 .before .before .before in
+    let field = if1 .before .before .before in
+    let a = field .before .before .args in
+    after-tick (a .line .now) (a .held) (a .out .now) (a .unicast .now) _ (field .field .ensures) (sym (if1 .before .same-bytes .ensures) ∙ if1 .if1 .left) (sym (if2 .before .same-bytes2 .ensures) ∙ if2 .if2 .left)
+    (sym (if3 .before .same-bytes3 .ensures) ∙ if3 .if3 .taken) _ _ (c .tick .ensures)
 
 slice-aggregate-same-bytes-4 : tie.Need-slice-aggregate-same-bytes-4
 slice-aggregate-same-bytes-4 c = search needs
@@ -54,7 +71,15 @@ claims-requires : tie.Need-claims-requires
 claims-requires c κs = search needs
 
 returns-4 : tie.Need-returns-4
-returns-4 c = let a = c .before .before .before .before .before .before .before .before .before .before .before .before .before .before .before .before .args in after-other (a .line .now) (a .held) (a .lent .now) _ (c .before .before .before .before .before .before .before .before .before .before .before .before .before .before .field .ensures) (sym (c .before .before .before .before .before .before .before .before .before .before .before .before .same-bytes .ensures) ∙ c .before .before .before .before .before .before .before .before .before .before .before .if1 .left) (sym (c .before .before .before .before .before .before .before .before .before .same-bytes2 .ensures) ∙ c .before .before .before .before .before .before .before .before .if2 .left) (sym (c .before .before .before .before .before .before .same-bytes3 .ensures) ∙ c .before .before .before .before .before .if3 .left)
+returns-4 c =
+    let if4 = c .before .before in
+    let if3 = if4 .before .before .before in
+    let if2 = if3 .before .before .before in
+    let if1 = if2 .before .before .before in
+    let field = if1 .before .before .before in
+    let a = field .before .before .args in
+    after-other (a .line .now) (a .held) (a .out .now) (a .unicast .now) _ (field .field .ensures) (sym (if1 .before .same-bytes .ensures) ∙ if1 .if1 .left) (sym (if2 .before .same-bytes2 .ensures) ∙ if2 .if2 .left)
+    (sym (if3 .before .same-bytes3 .ensures) ∙ if3 .if3 .left)
 
 slice-aggregate-same-bytes-5 : tie.Need-slice-aggregate-same-bytes-5
 slice-aggregate-same-bytes-5 c = search needs
@@ -66,7 +91,16 @@ holds-requires : tie.Need-holds-requires
 holds-requires c κs = search needs
 
 returns-5 : tie.Need-returns-5
-returns-5 c = let a = c .before .before .before .before .before .before .before .before .before .before .before .before .before .before .before .before .before .before .before .args in after-other (a .line .now) (a .held) (a .lent .now) _ (c .before .before .before .before .before .before .before .before .before .before .before .before .before .before .before .before .before .field .ensures) (sym (c .before .before .before .before .before .before .before .before .before .before .before .before .before .before .before .same-bytes .ensures) ∙ c .before .before .before .before .before .before .before .before .before .before .before .before .before .before .if1 .left) (sym (c .before .before .before .before .before .before .before .before .before .before .before .before .same-bytes2 .ensures) ∙ c .before .before .before .before .before .before .before .before .before .before .before .if2 .left) (sym (c .before .before .before .before .before .before .before .before .before .same-bytes3 .ensures) ∙ c .before .before .before .before .before .before .before .before .if3 .left)
+returns-5 c =
+    let if5 = c .before .before in
+    let if4 = if5 .before .before .before in
+    let if3 = if4 .before .before .before in
+    let if2 = if3 .before .before .before in
+    let if1 = if2 .before .before .before in
+    let field = if1 .before .before .before in
+    let a = field .before .before .args in
+    after-other (a .line .now) (a .held) (a .out .now) (a .unicast .now) _ (field .field .ensures) (sym (if1 .before .same-bytes .ensures) ∙ if1 .if1 .left) (sym (if2 .before .same-bytes2 .ensures) ∙ if2 .if2 .left)
+    (sym (if3 .before .same-bytes3 .ensures) ∙ if3 .if3 .left)
 
 slice-aggregate-same-bytes-6 : tie.Need-slice-aggregate-same-bytes-6
 slice-aggregate-same-bytes-6 c = search needs
@@ -74,17 +108,61 @@ slice-aggregate-same-bytes-6 c = search needs
 same-bytes-requires-6 : tie.Need-same-bytes-requires-6
 same-bytes-requires-6 c κs = search needs
 
-out-requires : tie.Need-out-requires
-out-requires c κs = search needs
+part-requires : tie.Need-part-requires
+part-requires c κs = search needs
 
 returns-6 : tie.Need-returns-6
-returns-6 c = let a = c .before .before .before .before .before .before .before .before .before .before .before .before .before .before .before .before .before .before .before .before .before .before .before .before .args in after-other (a .line .now) (a .held) (a .lent .now) _ (c .before .before .before .before .before .before .before .before .before .before .before .before .before .before .before .before .before .before .before .before .before .before .field .ensures) (sym (c .before .before .before .before .before .before .before .before .before .before .before .before .before .before .before .before .before .before .before .before .same-bytes .ensures) ∙ c .before .before .before .before .before .before .before .before .before .before .before .before .before .before .before .before .before .before .before .if1 .left) (sym (c .before .before .before .before .before .before .before .before .before .before .before .before .before .before .before .before .before .same-bytes2 .ensures) ∙ c .before .before .before .before .before .before .before .before .before .before .before .before .before .before .before .before .if2 .left) (sym (c .before .before .before .before .before .before .before .before .before .before .before .before .before .before .same-bytes3 .ensures) ∙ c .before .before .before .before .before .before .before .before .before .before .before .before .before .if3 .left)
+returns-6 c =
+    let if6 = c .before .before .before .before in
+    let if5 = if6 .before .before .before in
+    let if4 = if5 .before .before .before in
+    let if3 = if4 .before .before .before in
+    let if2 = if3 .before .before .before in
+    let if1 = if2 .before .before .before in
+    let field = if1 .before .before .before in
+    let a = field .before .before .args in
+    after-other (a .line .now) (a .held) (a .out .now) (a .unicast .now) _ (field .field .ensures) (sym (if1 .before .same-bytes .ensures) ∙ if1 .if1 .left) (sym (if2 .before .same-bytes2 .ensures) ∙ if2 .if2 .left)
+    (sym (if3 .before .same-bytes3 .ensures) ∙ if3 .if3 .left)
+
+slice-aggregate-same-bytes-7 : tie.Need-slice-aggregate-same-bytes-7
+slice-aggregate-same-bytes-7 c = search needs
+
+same-bytes-requires-7 : tie.Need-same-bytes-requires-7
+same-bytes-requires-7 c κs = search needs
+
+part-requires-2 : tie.Need-part-requires-2
+part-requires-2 c κs = search needs
+
+returns-7 : tie.Need-returns-7
+returns-7 c =
+    let if7 = c .before .before .before .before in
+    let if6 = if7 .before .before .before in
+    let if5 = if6 .before .before .before in
+    let if4 = if5 .before .before .before in
+    let if3 = if4 .before .before .before in
+    let if2 = if3 .before .before .before in
+    let if1 = if2 .before .before .before in
+    let field = if1 .before .before .before in
+    let a = field .before .before .args in
+    after-other (a .line .now) (a .held) (a .out .now) (a .unicast .now) _ (field .field .ensures) (sym (if1 .before .same-bytes .ensures) ∙ if1 .if1 .left) (sym (if2 .before .same-bytes2 .ensures) ∙ if2 .if2 .left)
+    (sym (if3 .before .same-bytes3 .ensures) ∙ if3 .if3 .left)
 
 bad-line-requires : tie.Need-bad-line-requires
 bad-line-requires c κs = search needs
 
-returns-7 : tie.Need-returns-7
-returns-7 c = let a = c .before .before .before .before .before .before .before .before .before .before .before .before .before .before .before .before .before .before .before .before .before .before .args in after-other (a .line .now) (a .held) (a .lent .now) _ (c .before .before .before .before .before .before .before .before .before .before .before .before .before .before .before .before .before .before .before .before .field .ensures) (sym (c .before .before .before .before .before .before .before .before .before .before .before .before .before .before .before .before .before .before .same-bytes .ensures) ∙ c .before .before .before .before .before .before .before .before .before .before .before .before .before .before .before .before .before .if1 .left) (sym (c .before .before .before .before .before .before .before .before .before .before .before .before .before .before .before .same-bytes2 .ensures) ∙ c .before .before .before .before .before .before .before .before .before .before .before .before .before .before .if2 .left) (sym (c .before .before .before .before .before .before .before .before .before .before .before .before .same-bytes3 .ensures) ∙ c .before .before .before .before .before .before .before .before .before .before .before .if3 .left)
+returns-8 : tie.Need-returns-8
+returns-8 c =
+    let if7 = c .before .before in
+    let if6 = if7 .before .before .before in
+    let if5 = if6 .before .before .before in
+    let if4 = if5 .before .before .before in
+    let if3 = if4 .before .before .before in
+    let if2 = if3 .before .before .before in
+    let if1 = if2 .before .before .before in
+    let field = if1 .before .before .before in
+    let a = field .before .before .args in
+    after-other (a .line .now) (a .held) (a .out .now) (a .unicast .now) _ (field .field .ensures) (sym (if1 .before .same-bytes .ensures) ∙ if1 .if1 .left) (sym (if2 .before .same-bytes2 .ensures) ∙ if2 .if2 .left)
+    (sym (if3 .before .same-bytes3 .ensures) ∙ if3 .if3 .left)
 
 pub call-spec : {M : Type 1} → statement M
 call-spec =
@@ -113,7 +191,11 @@ call-spec =
     returns-5
     slice-aggregate-same-bytes-6
     same-bytes-requires-6
-    out-requires
+    part-requires
     returns-6
+    slice-aggregate-same-bytes-7
+    same-bytes-requires-7
+    part-requires-2
+    returns-7
     bad-line-requires
-    returns-7)
+    returns-8)

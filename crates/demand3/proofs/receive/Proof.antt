@@ -9,8 +9,11 @@ receive-requires c κs = search needs
 same-length : tie.Need-same-length
 same-length c = search needs
 
+same-length-2 : tie.Need-same-length-2
+same-length-2 c = search needs
+
 returns : tie.Need-returns
-returns c = receive-seen _ _ _ _ _ (c .before .before .receive .ensures)
+returns c = receive-seen _ _ _ _ _ _ _ (c .before .before .before .before .receive .ensures)
 
 pub receive-spec : {M : Type 1} → statement M
-receive-spec = tie.close (tie.spec receive-requires same-length returns)
+receive-spec = tie.close (tie.spec receive-requires same-length same-length-2 returns)

@@ -1,16 +1,19 @@
-use mathlib.Core.Path.{_≡_, sym, _∙_}
+use mathlib.Core.Path.{_≡_, refl, sym, ap, _∙_}
 use native.Mathlib.Omega.{arith}
 use Rattle.wire.specs.message.Layout.{questionAt}
 use Rattle.wire.specs.message.Readable.{readable}
 use Rattle.wire.proofs.message.Walk.{question-found, question-broken}
 use Rattle.facts.proofs.Asked.{askedIn, asked-done, asked-broken, asked-turn, asked-all}
+use Rattle.facts.specs.Questions.{isQm, isQu}
+use Rattle.facts.specs.declared.AskedFor.{AskedFor}
 use borrow.Author.Needs.{needs}
 use Rattle.facts.proofs.asked_for.Statement.{statement}
 use Rattle.facts.proofs.asked_for.Tie as tie
 
 abbrev Inv-loop : tie.InvT-loop
 Inv-loop p setup asked₀ here₀ left₀ asked here left =
-    askedIn setup asked₀ (readable (questionAt p) left₀ here₀) ≡ askedIn setup asked (readable (questionAt p) left here)
+    (askedIn isQm setup (asked₀ .qm) (readable (questionAt p) left₀ here₀) ≡ askedIn isQm setup (asked .qm) (readable (questionAt p) left here))
+    × (askedIn isQu setup (asked₀ .qu) (readable (questionAt p) left₀ here₀) ≡ askedIn isQu setup (asked .qu) (readable (questionAt p) left here))
 
 abbrev μ-loop : tie.MeasureT-loop
 μ-loop p setup asked₀ here₀ left₀ asked here left = left
@@ -19,7 +22,7 @@ no-record-requires : tie.Need-no-record-requires Inv-loop μ-loop
 no-record-requires c κs = search needs
 
 loop-holds : tie.Need-loop-holds Inv-loop μ-loop
-loop-holds c = search needs
+loop-holds c = (refl, refl)
 
 question-at-requires : tie.Need-question-at-requires Inv-loop μ-loop
 question-at-requires c κs = search needs
@@ -27,8 +30,8 @@ question-at-requires c κs = search needs
 enum-known-q : tie.Need-enum-known-q Inv-loop μ-loop
 enum-known-q c = search needs
 
-asked-with-requires : tie.Need-asked-with-requires Inv-loop μ-loop
-asked-with-requires c κs =
+asked-too-requires : tie.Need-asked-too-requires Inv-loop μ-loop
+asked-too-requires c κs =
     (c .before .before .before .before .before .loop .here, sym (c .before .before .before .question-at .ensures) ∙ c .before .q .given .1)
 
 enum-told : tie.Need-enum-told Inv-loop μ-loop
@@ -38,9 +41,11 @@ returns : tie.Need-returns Inv-loop μ-loop
 returns c =
     let a = c .before .before .before .before .before .before .before .before .args in
     let l = c .before .before .before .before .loop in
-    asked-all (a .p .now) (a .l) (a .setup) _ (c .before .before .before .before .before .no-record .ensures) _
-    (asked-broken (a .p .now) (a .setup) _ (l .left) (l .here) (l .asked) (l .inv)
-    (question-broken (a .p .now) (l .here) _ (c .before .before .question-at .ensures) (c .enum-told .given .1)))
+    let none = c .before .before .before .before .before .no-record .ensures in
+    let broken = question-broken (a .p .now) (l .here) _ (c .before .before .question-at .ensures) (c .enum-told .given .1) in (
+      asked-all isQm (a .p .now) (a .l) (a .setup) _ none _ (asked-broken isQm (a .p .now) (a .setup) _ (l .left) (l .here) (l .asked .qm) (l .inv .0) broken),
+      asked-all isQu (a .p .now) (a .l) (a .setup) _ none _ (asked-broken isQu (a .p .now) (a .setup) _ (l .left) (l .here) (l .asked .qu) (l .inv .1) broken),
+    )
 
 sub-left : tie.Need-sub-left Inv-loop μ-loop
 sub-left c = search needs
@@ -52,16 +57,19 @@ loop-again : tie.Need-loop-again Inv-loop μ-loop
 loop-again c =
     let a = c .before .before .before .before .before .before .before .before .before .before .args in
     let l = c .before .before .before .before .before .before .loop in
-    asked-turn (a .p .now) (a .setup) _ (l .left) (l .here) (l .asked) (l .inv) (omega arith) _
-    (question-found (a .p .now) (l .here) _ (c .before .before .before .before .question-at .ensures) _ (c .before .before .q .given .1)) _
-    (c .asked-with .ensures)
+    let met = question-found (a .p .now) (l .here) _ (c .before .before .before .before .question-at .ensures) _ (c .before .before .q .given .1) in (
+      asked-turn isQm (a .p .now) (a .setup) _ (l .left) (l .here) (l .asked .qm) (l .inv .0) (omega arith) _ met _ (ap (λ (x : AskedFor). x .qm) (c .asked-too .ensures)),
+      asked-turn isQu (a .p .now) (a .setup) _ (l .left) (l .here) (l .asked .qu) (l .inv .1) (omega arith) _ met _ (ap (λ (x : AskedFor). x .qu) (c .asked-too .ensures)),
+    )
 
 returns-2 : tie.Need-returns-2 Inv-loop μ-loop
 returns-2 c =
     let a = c .before .before .before .before .before .args in
     let l = c .before .loop in
-    asked-all (a .p .now) (a .l) (a .setup) _ (c .before .before .no-record .ensures) _
-    (asked-done (a .p .now) (a .setup) _ (l .left) (l .here) (l .asked) (l .inv) (omega arith))
+    let none = c .before .before .no-record .ensures in (
+      asked-all isQm (a .p .now) (a .l) (a .setup) _ none _ (asked-done isQm (a .p .now) (a .setup) _ (l .left) (l .here) (l .asked .qm) (l .inv .0) (omega arith)),
+      asked-all isQu (a .p .now) (a .l) (a .setup) _ none _ (asked-done isQu (a .p .now) (a .setup) _ (l .left) (l .here) (l .asked .qu) (l .inv .1) (omega arith)),
+    )
 
 pub asked-for-spec : {M : Type 1} → statement M
 asked-for-spec =
@@ -73,7 +81,7 @@ asked-for-spec =
     loop-holds
     question-at-requires
     enum-known-q
-    asked-with-requires
+    asked-too-requires
     enum-told
     returns
     sub-left

@@ -17,12 +17,15 @@ returns-2 c =
     let time = c .before .before in
     receive-2 _ _ (told (time .before .time-refused .ensures) (time .if1 .left)) (told (c .before .draws-refused .ensures) (c .if2 .taken))
 
+rooms-refused-requires : tie.Need-rooms-refused-requires
+rooms-refused-requires c κs = tt
+
 returns-3 : tie.Need-returns-3
 returns-3 c =
-    let draw = c .before in
+    let draw = c .before .before in
     let time = draw .before .before in
     receive-3 _ _ (told (time .before .time-refused .ensures) (time .if1 .left)) (told (draw .before .draws-refused .ensures) (draw .if2 .left))
-    (c .if3 .taken)
+    (told (c .before .rooms-refused .ensures) (c .if3 .taken))
 
 read-from-requires : tie.Need-read-from-requires
 read-from-requires c κs = tt
@@ -37,10 +40,11 @@ returns-4 : tie.Need-returns-4
 returns-4 c =
     let l = c .before .before .before in
     let read = l .before .before in
-    let draw = read .before .before in
+    let rooms = read .before in
+    let draw = rooms .before .before in
     let time = draw .before .before in
     receive-7 _ _ (told (time .before .time-refused .ensures) (time .if1 .left)) (told (draw .before .draws-refused .ensures) (draw .if2 .left))
-    (read .before .if3 .left) _ (read .read-from .ensures) _ (l .l .given .1) (told (c .before .state-refused .ensures) (c .if4 .taken))
+    (told (rooms .before .rooms-refused .ensures) (rooms .if3 .left)) _ (read .read-from .ensures) _ (l .l .given .1) (told (c .before .state-refused .ensures) (c .if4 .taken))
 
 enum-known-n : tie.Need-enum-known-n
 enum-known-n c = search needs
@@ -49,19 +53,21 @@ returns-5 : tie.Need-returns-5
 returns-5 c =
     let l = c .before .before .before in
     let read = l .before .before in
-    let draw = read .before .before in
+    let rooms = read .before in
+    let draw = rooms .before .before in
     let time = draw .before .before in
     receive-read _ _ (told (time .before .time-refused .ensures) (time .if1 .left)) (told (draw .before .draws-refused .ensures) (draw .if2 .left))
-    (read .before .if3 .left) _ (read .read-from .ensures) _ (l .l .given .1) (told (c .before .state-refused .ensures) (c .if4 .left))
+    (told (rooms .before .rooms-refused .ensures) (rooms .if3 .left)) _ (read .read-from .ensures) _ (l .l .given .1) (told (c .before .state-refused .ensures) (c .if4 .left))
 
 returns-6 : tie.Need-returns-6
 returns-6 c =
     let n = c .before in
     let read = n .before .before in
-    let draw = read .before .before in
+    let rooms = read .before in
+    let draw = rooms .before .before in
     let time = draw .before .before in
     receive-message _ _ (told (time .before .time-refused .ensures) (time .if1 .left)) (told (draw .before .draws-refused .ensures) (draw .if2 .left))
-    (read .before .if3 .left) _ (read .read-from .ensures) _ (n .n .given .1)
+    (told (rooms .before .rooms-refused .ensures) (rooms .if3 .left)) _ (read .read-from .ensures) _ (n .n .given .1)
 
 pub admit-spec : {M : Type 1} → statement M
 admit-spec =
@@ -71,6 +77,7 @@ admit-spec =
     returns
     draws-refused-requires
     returns-2
+    rooms-refused-requires
     returns-3
     read-from-requires
     enum-known-l

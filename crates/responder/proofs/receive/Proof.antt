@@ -1,9 +1,10 @@
 use mathlib.Core.Path.{ap, _∙_}
+use lib.ListN.{length}
 use Rattle.wire.proofs.message.Walk.{layout-shows}
 use Rattle.facts.specs.Facts.{factsOf}
 use Rattle.responder.proofs.Refusals.{receive-accepted}
-use Rattle.responder.proofs.Refusing.{can-send, is-admitted, is-refused}
-use Rattle.responder.proofs.Settling.{receive-refused, receives, replies}
+use Rattle.responder.proofs.Refusing.{both-large, can-send, is-admitted, is-refused}
+use Rattle.responder.proofs.Settling.{receive-refused, receives}
 use borrow.Author.Needs.{needs}
 use Rattle.responder.proofs.receive.Statement.{statement}
 use Rattle.responder.proofs.receive.Tie as tie
@@ -17,60 +18,50 @@ enum-known-l c = search needs
 facts-requires : tie.Need-facts-requires
 facts-requires c κs = search needs
 
-plain-requires : tie.Need-plain-requires
-plain-requires c κs = search needs
-
-reply-requires : tie.Need-reply-requires
-reply-requires c κs =
-    let l = c .before .before .before .before .before .before .before .before in
-    let admit = l .before .before in
-    let a = admit .before .before .before .args in
-    let admitted = is-admitted _ _ _ (admit .admit .ensures) _ (l .l .given .1) in
-    let accepted = receive-accepted _ _ (admitted .0) in
-    (can-send (a .state) (a .out .now) (accepted .buffer) (accepted .right), (admitted .1, admitted .2))
-
-same-length : tie.Need-same-length
-same-length c = search needs
-
-returns : tie.Need-returns
-returns c =
-    let if1 = c .before .before .before .before .before .before .before in
-    let facts = if1 .before in
-    let l = facts .before .before .before in
-    let admit = l .before .before in
-    let admitted = is-admitted _ _ _ (admit .admit .ensures) _ (l .l .given .1) in
-    replies _ _ _ _ _ _ _ (if1 .if1 .taken) (admitted .0) (admitted .2) (facts .facts .ensures ∙ ap (factsOf _) (layout-shows _ _ (admitted .1) (admitted .2)))
-    (c .before .before .before .before .before .before .plain .ensures) (c .before .before .reply .ensures)
-
-receive-requires : tie.Need-receive-requires
-receive-requires c κs = search needs
+hear-requires : tie.Need-hear-requires
+hear-requires c κs = search needs
 
 send-requires : tie.Need-send-requires
 send-requires c κs =
     let l = c .before .before .before .before .before .before .before .before in
     let admit = l .before .before in
-    let a = admit .before .before .before .args in
+    let a = admit .before .before .before .before .args in
     let accepted = receive-accepted _ _ (is-admitted _ _ _ (admit .admit .ensures) _ (l .l .given .1) .0) in
-    can-send (a .state) (a .out .now) (accepted .buffer) (accepted .right)
+    can-send (a .state) (a .out .now) (both-large (length (a .out .now)) (length (a .unicast .now)) (accepted .buffers) .0) (accepted .right)
+
+reply-requires : tie.Need-reply-requires
+reply-requires c κs =
+    let l = c .before .before .before .before .before .before .before .before .before .before .before .before in
+    let admit = l .before .before in
+    let a = admit .before .before .before .before .args in
+    let admitted = is-admitted _ _ _ (admit .admit .ensures) _ (l .l .given .1) in
+    let accepted = receive-accepted _ _ (admitted .0) in
+    (can-send (a .state) (a .unicast .now) (both-large (length (a .out .now)) (length (a .unicast .now)) (accepted .buffers) .1) (accepted .right), (admitted .1, admitted .2))
+
+answer-with-requires : tie.Need-answer-with-requires
+answer-with-requires c κs = search needs
 
 enum-known-n : tie.Need-enum-known-n
 enum-known-n c = search needs
 
+same-length : tie.Need-same-length
+same-length c = search needs
+
 same-length-2 : tie.Need-same-length-2
 same-length-2 c = search needs
 
-returns-2 : tie.Need-returns-2
-returns-2 c =
-    let if1 = c .before .before .before .before .before .before .before in
-    let facts = if1 .before in
-    let l = facts .before .before .before in
+returns : tie.Need-returns
+returns c =
+    let l = c .before .before .before .before .before .before .before .before .before .before .before .before .before .before .before .before in
+    let facts = c .before .before .before .before .before .before .before .before .before .before .before .before .before in
     let admit = l .before .before in
     let admitted = is-admitted _ _ _ (admit .admit .ensures) _ (l .l .given .1) in
-    receives _ _ _ _ _ _ _ (if1 .if1 .left) (admitted .0) (admitted .2) (facts .facts .ensures ∙ ap (factsOf _) (layout-shows _ _ (admitted .1) (admitted .2)))
-    (c .before .before .before .before .before .before .receive .ensures) (c .before .before .send .ensures)
+    receives _ _ _ _ _ _ _ _ _ _ _ (admitted .0) (admitted .2)
+    (facts .facts .ensures ∙ ap (factsOf _) (layout-shows _ _ (admitted .1) (admitted .2)))
+    (c .before .before .before .before .before .before .before .before .before .before .before .before .hear .ensures) (c .before .before .before .before .before .before .before .send .ensures) (c .before .before .before .reply .ensures) (c .answer-with .ensures)
 
-returns-3 : tie.Need-returns-3
-returns-3 c = let admit = c .before .before .before in receive-refused _ _ _ _ (is-refused _ _ _ (admit .admit .ensures) _ (c .before .n .given .1))
+returns-2 : tie.Need-returns-2
+returns-2 c = let admit = c .before .before .before in receive-refused _ _ _ _ _ (is-refused _ _ _ (admit .admit .ensures) _ (c .before .n .given .1))
 
 pub receive-spec : {M : Type 1} → statement M
 receive-spec =
@@ -79,13 +70,12 @@ receive-spec =
     admit-requires
     enum-known-l
     facts-requires
-    plain-requires
-    reply-requires
-    same-length
-    returns
-    receive-requires
+    hear-requires
     send-requires
+    reply-requires
+    answer-with-requires
     enum-known-n
+    same-length
     same-length-2
-    returns-2
-    returns-3)
+    returns
+    returns-2)

@@ -25,11 +25,14 @@ send-requires c κs =
 same-length : tie.Need-same-length
 same-length c = search needs
 
+answer-with-requires : tie.Need-answer-with-requires
+answer-with-requires c κs = tt
+
 returns-2 : tie.Need-returns-2
 returns-2 c =
-    let tick = c .before .before .before .before .before in
+    let tick = c .before .before .before .before .before .before in
     let if1 = tick .before .before in
-    ticks _ _ _ (if1 .before .tick-refusal .ensures) _ _ _ (if1 .if1 .left) (tick .tick .ensures) (c .before .before .send .ensures)
+    ticks _ _ _ (if1 .before .tick-refusal .ensures) _ _ _ _ (if1 .if1 .left) (tick .tick .ensures) (c .before .before .before .send .ensures) (c .answer-with .ensures)
 
 pub tick-spec : {M : Type 1} → statement M
-tick-spec = tie.close (tie.spec tick-refusal-requires returns tick-requires send-requires same-length returns-2)
+tick-spec = tie.close (tie.spec tick-refusal-requires returns tick-requires send-requires answer-with-requires same-length returns-2)

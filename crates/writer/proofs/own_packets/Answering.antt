@@ -324,15 +324,15 @@ module _ (s : Setup) (o : List ℕ) where
       ok : Valid s
       ok = valid s (sym is ∙ t)
 
-      module _ (chosen : Set) (list : Picked) (p : Picks (responseRecords s chosen) list) where
-        pub empty-nothing : list .n ≡ 0 → Answered (refusal s o) (responsePacket s chosen) o Nothing o
+      module _ (id : ℕ) (chosen : Set) (list : Picked) (p : Picks (responseRecords s chosen) list) where
+        pub empty-nothing : list .n ≡ 0 → Answered (refusal s o) (responsePacket s id chosen) o Nothing o
         unfolding responsePacket
         empty-nothing z =
             let e : responseRecords s chosen ≡ [] = sym (p .those) ∙ ap (λ (k : ℕ). map recordAt (take k (list .order))) z in
-            nothing (refusal s o) (responsePacket s chosen) o accepted
-            (ap (λ (l : List Own). noneIfEmpty l (packetIn s responseStyle [] (responseRecords s chosen))) e)
+            nothing (refusal s o) (responsePacket s id chosen) o accepted
+            (ap (λ (l : List Own). noneIfEmpty l (packetIn s (responseStyle id) [] (responseRecords s chosen))) e)
 
-        pub response-ready : (style : Style) → style ≡ responseStyle → PacketReady s style [] (listed list) o
+        pub response-ready : (style : Style) → style ≡ responseStyle id → PacketReady s style [] (listed list) o
         response-ready style e = rw (e, p .those) (record {
           ok = sym is ∙ t;
           named = λ f. let z : _≡_ {A = ℕ} 0 1 = cc in absurd (omega arith);
@@ -342,20 +342,21 @@ module _ (s : Setup) (o : List ℕ) where
           slots = omega (arith, response-labels s ok chosen);
         })
 
-        pub response-sent : (list .n ≡ 0 → ⊥) → (style : Style) → style ≡ responseStyle → (n : ℕ) (o₁ : List ℕ) → n ≡ length (packetIn s style [] (listed list))
-            → o₁ ≡ laidOver (packetIn s style [] (listed list)) o → Answered (refusal s o) (responsePacket s chosen) o (Sent n) o₁
+        pub response-sent : (list .n ≡ 0 → ⊥) → (style : Style) → style ≡ responseStyle id → (n : ℕ) (o₁ : List ℕ)
+            → n ≡ length (packetIn s style [] (listed list)) → o₁ ≡ laidOver (packetIn s style [] (listed list)) o
+            → Answered (refusal s o) (responsePacket s id chosen) o (Sent n) o₁
         unfolding responsePacket
         response-sent nz style e n o₁ en w =
-            sent (refusal s o) (responsePacket s chosen) o n o₁ accepted
+            sent (refusal s o) (responsePacket s id chosen) o n o₁ accepted
             (omega (
               arith,
               ap length packet,
-              packet-some s ok responseStyle [] (responseRecords s chosen)
+              packet-some s ok (responseStyle id) [] (responseRecords s chosen)
                   (λ f. let z : _≡_ {A = ℕ} 0 1 = cc in absurd (omega arith)),
             ))
             (en ∙ ap length (as-listed ∙ sym packet)) (w ∙ ap (λ (l : List ℕ). laidOver l o) (as-listed ∙ sym packet))
           where
-            as-listed : packetIn s style [] (listed list) ≡ packetIn s responseStyle [] (responseRecords s chosen)
+            as-listed : packetIn s style [] (listed list) ≡ packetIn s (responseStyle id) [] (responseRecords s chosen)
             as-listed = ap₂ (λ (x : Style) (l : List Own). packetIn s x [] l) e (p .those)
 
             some : (l : List Own) → (length l ≡ 0 → ⊥) → (b : List ℕ) → noneIfEmpty l b ≡ b
@@ -367,7 +368,7 @@ module _ (s : Setup) (o : List ℕ) where
                 ap length (sym (p .those)) ∙ length-map (take (list .n) (list .order)) recordAt
                 ∙ length-take-le (list .n) (list .order) (omega (arith, p .few, p .sized))
 
-            packet : responsePacket s chosen ≡ packetIn s responseStyle [] (responseRecords s chosen)
+            packet : responsePacket s id chosen ≡ packetIn s (responseStyle id) [] (responseRecords s chosen)
             packet = some (responseRecords s chosen) (λ z. nz (sym many ∙ z)) _
 
       module _ (claim : Claim) (list : Picked) (p : Picks (probeRecords s claim) list) (k : Own) (ek : k ≡ firstOf claim) (n : OwnBytes)

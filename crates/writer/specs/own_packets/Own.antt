@@ -31,9 +31,9 @@ probeRecords s claim = picked (hasRecord s) (claimed claim)
 unfoldable pub plainRecords : Setup → Set → List Own
 plainRecords s chosen = responseRecords s (withData chosen)
 
--- a response has the chosen records, a probe asks for the claim's name, and a plain reply repeats the ID and the question of its query
-unfoldable pub responseOf : Setup → Set → Message
-responseOf s chosen = styledMessage s responseStyle [] (responseRecords s chosen)
+-- a response has an ID and the chosen records, a probe asks for the claim's name, and a plain reply repeats the ID and the question of its query
+unfoldable pub responseOf : Setup → ℕ → Set → Message
+responseOf s id chosen = styledMessage s (responseStyle id) [] (responseRecords s chosen)
 
 unfoldable pub probeOf : Setup → Claim → Message
 probeOf s claim = styledMessage s probeStyle (ownName s (firstOf claim)) (probeRecords s claim)
@@ -46,8 +46,8 @@ abbrev pub noneIfEmpty : List Own → List ℕ → List ℕ
 noneIfEmpty [] packet = []
 noneIfEmpty (o ∷ os) packet = packet
 
-unfoldable pub responsePacket : Setup → Set → List ℕ
-responsePacket s chosen = noneIfEmpty (responseRecords s chosen) (packetIn s responseStyle [] (responseRecords s chosen))
+unfoldable pub responsePacket : Setup → ℕ → Set → List ℕ
+responsePacket s id chosen = noneIfEmpty (responseRecords s chosen) (packetIn s (responseStyle id) [] (responseRecords s chosen))
 
 unfoldable pub probePacket : Setup → Claim → List ℕ
 probePacket s claim = packetIn s probeStyle (ownName s (firstOf claim)) (probeRecords s claim)

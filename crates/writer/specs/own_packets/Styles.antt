@@ -14,10 +14,10 @@ use Rattle.writer.specs.declared.own_packets.TtlRule.{TtlRule}
 use Rattle.writer.specs.declared.own_packets.TtlRule.the-variants.{Each, Fixed}
 use Rattle.writer.specs.declared.own_packets.Style.{Style}
 
--- "ID 0. Responses have flags 0x8400, probes 0."; "A probe is one question (type 255, class 1) with the claim's records in Authority, .. class 1."
-abbrev pub responseStyle : Style
-responseStyle = record {
-  id = 0;
+-- "Responses have flags 0x8400"; the ID is 0 to all, and "Unicast answers carry the query's ID"
+abbrev pub responseStyle : ℕ → Style
+responseStyle id = record {
+  id = id;
   flags = 0x8400;
   asks = false;
   qtype = 0;
@@ -28,13 +28,15 @@ responseStyle = record {
   whole = false;
 }
 
+-- "ID 0. .. probes 0."; "A probe is one question (type 255, ..) with the claim's records in Authority, .. class 1."; "Our own probes now set the bit" of the
+-- question's class
 abbrev pub probeStyle : Style
 probeStyle = record {
   id = 0;
   flags = 0;
   asks = true;
   qtype = 255;
-  qclass = 1;
+  qclass = 0x8001;
   authority = true;
   ttl = Each;
   flush = false;

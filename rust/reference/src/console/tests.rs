@@ -27,7 +27,7 @@ fn the_example_dialogue() {
     assert!(first.ends_with(" more"));
     assert_eq!(
         ask(&mut console, "tick 0"),
-        "sent 00000000000100000001000004646f636b056c6f63616c0000ff0001c00c000100010000007800040a000007"
+        "sent 00000000000100000001000004646f636b056c6f63616c0000ff8001c00c000100010000007800040a000007"
     );
     assert_eq!(ask(&mut console, "tick 0"), "quiet");
     assert_eq!(
@@ -55,7 +55,8 @@ fn a_reply_to_a_plain_resolver() {
         ),
         format!("unicast {reply}")
     );
-    assert_eq!(ask(&mut console, "out 0 4"), "out 12348400");
+    assert_eq!(ask(&mut console, "unicast 0 4"), "unicast 12348400");
+    assert_eq!(ask(&mut console, "out 0 4"), "out 00008400");
     assert_eq!(
         ask(
             &mut console,
@@ -63,6 +64,35 @@ fn a_reply_to_a_plain_resolver() {
         ),
         "quiet"
     );
+}
+
+#[test]
+fn answers_by_unicast_and_both_ways() {
+    let mut console = Console::default();
+    ask(&mut console, START);
+    for now in [0, 0, 250, 250, 500, 500, 750, 750] {
+        ask(&mut console, &format!("tick {now}"));
+    }
+    let host = "04646f636b056c6f63616c00";
+    let a = "800100000078";
+    let unicast = format!("123484000000000100000000{host}0001{a}00040a000007");
+    let nsec = format!("000084000000000100000000{host}002f{a}0005c00c000140");
+    let wanted = format!("{host}00018001");
+    for (packet, answer) in [
+        (
+            format!("123400000001000000000000{wanted}"),
+            format!("unicast {unicast}"),
+        ),
+        (
+            format!("123400000002000000000000{wanted}c00c001c0001"),
+            format!("sent {nsec} unicast {unicast}"),
+        ),
+    ] {
+        let line = format!("recv 750 0a000001 5353 20 400 {packet}");
+        assert_eq!(ask(&mut console, &line), answer);
+    }
+    assert_eq!(ask(&mut console, "out 0 6"), "out 000084000000");
+    assert_eq!(ask(&mut console, "unicast 0 6"), "unicast 123484000000");
 }
 
 #[test]
@@ -141,6 +171,16 @@ fn bad_lines() {
         "recv 0 0a000001 5353 20 x -",
         "holds 0",
         "holds ",
+        "recv 0 0a000001 5353 20 400 - 1452 4097",
+        "recv 0 0a000001 5353 20 400 - 1452 -",
+        "recv 0 0a000001 5353 20 400 - 1452 1452 0",
+        "recv 0 0a000001 5353 20 400 - 1452 ",
+        "unicast",
+        "unicast 0",
+        "unicast 4096 1",
+        "unicast 0 4097",
+        "unicast 18446744073709551615 1",
+        "unicast 0 0 0",
         "out 4096 1",
         "out 18446744073709551615 1",
         "out 4097 0",
@@ -185,6 +225,11 @@ fn numbers_wider_than_a_field_keep_their_meaning() {
         ("recv 0 0a000001 5353 020 0500 H", "quiet"),
         ("recv 0 0a000001 5353 20 400 H 1451", "refused 3"),
         ("recv 0 0a000001 5353 20 400 H 4096", "quiet"),
+        ("recv 0 0a000001 5353 20 400 H 1452 1451", "refused 3"),
+        ("recv 0 0a000001 5353 20 400 H 1451 1452", "refused 3"),
+        ("recv 0 0a000001 5353 20 400 H 1452 01452", "quiet"),
+        ("recv 0 0a000001 5353 20 400 H 4096 4096", "quiet"),
+        ("unicast 4096 0", "unicast -"),
         ("put 0 70889 H", "refused 5"),
         ("put 0 70889 000000000000000000000000", "cached 0 0"),
         ("put 0 5353 H", "cached 0 0"),

@@ -27,20 +27,19 @@ impl Responder {
 #[cfg(test)]
 mod tests {
     use super::super::tests::*;
-    use super::super::{Arrival, Claim, LEAST_OUT};
+    use super::super::{Arrival, Claim};
     use super::*;
     use crate::MDNS_PORT;
 
     /// Gives the reply to a query from port 1024, or nothing.
     fn asked(responder: &mut Responder, now: u64, query: &[u8]) -> Option<Vec<u8>> {
-        let mut out = [0; LEAST_OUT];
         let arrival = Arrival {
             port: 1024,
             ..arrival(now, query)
         };
-        let answered = responder.receive(arrival, &mut out).unwrap();
-        assert_eq!(answered.multicast, None);
-        answered.unicast.map(|length| out[..length].to_vec())
+        let packets = take(responder, arrival).unwrap();
+        assert_eq!(packets.multicast, None);
+        packets.unicast
     }
 
     fn types_of(responder: &mut Responder, query: &[u8]) -> Vec<u16> {
@@ -148,13 +147,12 @@ mod tests {
     fn responses_from_other_ports_are_refused() {
         let mut responder = held();
         let conflict = response(&[(HOST, 1, 1, 120, OTHER_A)]);
-        let mut out = [0; LEAST_OUT];
         for port in [0, 53, MDNS_PORT - 1, MDNS_PORT + 65_536] {
             let arrival = Arrival {
                 port,
                 ..arrival(2100, &conflict)
             };
-            let refused = responder.receive(arrival, &mut out);
+            let refused = take(&mut responder, arrival);
             assert_eq!(refused.err().map(|refusal| refusal.number()), Some(5));
         }
         assert_eq!(responder.last, 2000);

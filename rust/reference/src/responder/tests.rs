@@ -66,12 +66,30 @@ pub(super) fn arrival(now: u64, packet: &[u8]) -> Arrival<'_> {
     }
 }
 
-/// Gives the packet sent, or nothing.
+/// The packets of a call, by the way they go.
+pub(super) struct Packets {
+    pub multicast: Option<Vec<u8>>,
+    pub unicast: Option<Vec<u8>>,
+}
+
+pub(super) fn take(responder: &mut Responder, arrival: Arrival) -> Result<Packets, Refusal> {
+    let (mut first, mut second) = ([0; LEAST_OUT], [0; LEAST_OUT]);
+    let outs = Outs {
+        multicast: &mut first,
+        unicast: &mut second,
+    };
+    let answered = responder.receive(arrival, outs)?;
+    Ok(Packets {
+        multicast: answered.multicast.map(|length| first[..length].to_vec()),
+        unicast: answered.unicast.map(|length| second[..length].to_vec()),
+    })
+}
+
+/// Gives the packet sent by multicast, or nothing; none goes by unicast.
 pub(super) fn receive(responder: &mut Responder, now: u64, packet: &[u8]) -> Option<Vec<u8>> {
-    let mut out = [0; LEAST_OUT];
-    let answered = responder.receive(arrival(now, packet), &mut out).unwrap();
-    assert_eq!(answered.unicast, None);
-    answered.multicast.map(|length| out[..length].to_vec())
+    let packets = take(responder, arrival(now, packet)).unwrap();
+    assert_eq!(packets.unicast, None);
+    packets.multicast
 }
 
 /// The types of the records sent.
@@ -255,7 +273,7 @@ fn the_tiebreak_defers_the_earlier() {
 
 #[test]
 fn known_answers_at_half_the_ttl() {
-    let ask_a: &[(&[u8], u16, u16)] = &[(HOST, 1, 0x8001)];
+    let ask_a: &[(&[u8], u16, u16)] = &[(HOST, 1, 1)];
     for (ttl, expected) in [(59, vec![1]), (60, vec![]), (0x8000_0078, vec![1])] {
         let known = (HOST_OTHER_CASE, 1, 0x8001, ttl, OWN_A);
         assert_eq!(
@@ -277,7 +295,7 @@ fn questions() {
     for (name, rtype, class, expected) in [
         (HOST, 1, 1, vec![1]),
         (HOST_OTHER_CASE, 255, 255, vec![1]),
-        (HOST, 1, 0x80ff, vec![1]),
+        (HOST, 1, 255, vec![1]),
         (HOST, 1, 3, vec![]),
         (HOST, 28, 1, vec![47]),
         (HOST_OTHER_CASE, 28, 0x80ff, vec![47]),
@@ -418,20 +436,21 @@ fn refusals_in_order() {
     let malformed = packet(0, &[(&[0xc0, 12], 1, 1)], [&[], &[], &[]]);
     let of_response = packet(0x8000, &[(&[0xc0, 12], 1, 1)], [&[], &[], &[]]);
     let opcode = packet(0x0800, &[(&[0xc0, 12], 1, 1)], [&[], &[], &[]]);
-    for (now, port, draws, message, room, number) in [
-        (1999, 1, (19, 400), &[0; 11][..], 0, 1),
-        (MOST_TIME + 1, 1, (19, 400), &[0; 11], 0, 1),
-        (2000, 1, (19, 400), &[0; 11], 0, 2),
-        (2000, 1, (121, 400), &[0; 11], 0, 2),
-        (2000, 1, (20, 399), &[0; 11], 0, 2),
-        (2000, 1, (120, 501), &[0; 11], 0, 2),
-        (2000, 1, (20, 400), &[0; 11], 1451, 3),
-        (2000, 1, (120, 500), &[0; 11], 1452, 4),
-        (2000, 1, (20, 400), &of_response, 1452, 5),
-        (2000, 1, (20, 400), &opcode, 1452, 5),
-        (2000, 1, (20, 400), &malformed, 1452, 6),
-        (2000, MDNS_PORT, (20, 400), &opcode, 1452, 5),
-        (2000, MDNS_PORT, (20, 400), &malformed, 1452, 6),
+    for (now, port, draws, message, rooms, number) in [
+        (1999, 1, (19, 400), &[0; 11][..], [0, 0], 1),
+        (MOST_TIME + 1, 1, (19, 400), &[0; 11], [0, 0], 1),
+        (2000, 1, (19, 400), &[0; 11], [0, 0], 2),
+        (2000, 1, (121, 400), &[0; 11], [0, 0], 2),
+        (2000, 1, (20, 399), &[0; 11], [0, 0], 2),
+        (2000, 1, (120, 501), &[0; 11], [0, 0], 2),
+        (2000, 1, (20, 400), &[0; 11], [1451, 1452], 3),
+        (2000, 1, (20, 400), &[0; 11], [1452, 1451], 3),
+        (2000, 1, (120, 500), &[0; 11], [1452, 1452], 4),
+        (2000, 1, (20, 400), &of_response, [1452, 1452], 5),
+        (2000, 1, (20, 400), &opcode, [1452, 1452], 5),
+        (2000, 1, (20, 400), &malformed, [1452, 1452], 6),
+        (2000, MDNS_PORT, (20, 400), &opcode, [1452, 1452], 5),
+        (2000, MDNS_PORT, (20, 400), &malformed, [1452, 1452], 6),
     ] {
         let arrival = Arrival {
             port,
@@ -439,7 +458,11 @@ fn refusals_in_order() {
             hold_draw: draws.1,
             ..arrival(now, message)
         };
-        let refused = responder.receive(arrival, &mut out[..room]);
+        let outs = Outs {
+            multicast: &mut out[..rooms[0]],
+            unicast: &mut [0; LEAST_OUT][..rooms[1]],
+        };
+        let refused = responder.receive(arrival, outs);
         assert_eq!(refused.map_err(Refusal::number), Err(number));
     }
     for (now, room, number) in [(1999, 0, 1), (2000, 1451, 3)] {

@@ -136,7 +136,8 @@ impl Script {
                         (1, usize::MAX),
                         (1000, 700),
                     ]);
-                    self.say(format!("out {at} {length}"));
+                    let buffer = self.random.pick(&["out", "unicast"]);
+                    self.say(format!("{buffer} {at} {length}"));
                 }
                 3 => {
                     let line: &[u8] = self.random.pick(&[
@@ -164,6 +165,15 @@ impl Script {
                         b"recv 0 5353 20 000000000000000000000000",
                         b"recv 0 0a0001 5353 20 400 000000000000000000000000",
                         b"recv 0 - 5353 20 400 000000000000000000000000",
+                        b"recv 0 0a000001 5353 20 400 000000000000000000000000 1452 4097",
+                        b"recv 0 0a000001 5353 20 400 000000000000000000000000 1452 -",
+                        b"recv 0 0a000001 5353 20 400 000000000000000000000000 1452 1452 1452",
+                        b"unicast",
+                        b"unicast 0",
+                        b"unicast 0 -",
+                        b"unicast 0 0 0",
+                        b"Unicast 0 0",
+                        b"unicasts 0 0",
                         b"holds 0",
                         b"hold",
                         b"put 0 5353",
@@ -206,7 +216,10 @@ impl Script {
             0 => format!("tick {last}"),
             1 => format!("tick {last} 1452"),
             2 => format!("recv {last} 0a000001 5353 20 400 000000000000000000000000"),
-            3 => format!("recv {last} 0a000001 5353 20 400 000000000000000000000000 4096"),
+            3 => {
+                let rooms = self.random.pick(&["4096", "4096 4096", "1452 1452"]);
+                format!("recv {last} 0a000001 5353 20 400 000000000000000000000000 {rooms}")
+            }
             4 => format!("put {received} 5353 000084000000000000000000"),
             5 => format!("look {received} 046465736b056c6f63616c00 1 0"),
             6 => "txt 6b 036b3d31 -".to_string(),

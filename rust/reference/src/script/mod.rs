@@ -8,6 +8,7 @@ mod plain;
 pub mod random;
 mod responder;
 mod store;
+mod unicast;
 
 use crate::console::Console;
 use packet::{corner, largest, Draft};
@@ -175,6 +176,13 @@ mod tests {
             "recv unicast with SRV",
             "recv unicast with PTR",
             "recv unicast in other case",
+            "recv wanted unicast of 1",
+            "recv wanted unicast of 4",
+            "recv wanted unicast with an ID",
+            "recv wanted unicast with PTR",
+            "recv wanted unicast with NSEC",
+            "recv sent and unicast",
+            "unicast unicast",
             "recv quiet from another port",
             "recv refused 5 from another port",
             "put cached from another port",

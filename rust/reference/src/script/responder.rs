@@ -109,6 +109,7 @@ impl Script {
             "slot 0",
             "slot 63",
             "out 0 4096",
+            "unicast 0 4096",
             "look 0 00 0 0",
         ] {
             self.say(line);
@@ -178,6 +179,10 @@ impl Script {
             self.recv_more_known(now);
             return;
         }
+        if self.random.chance(8) {
+            self.recv_wanting_unicast();
+            return;
+        }
         match self.random.below(100) {
             0..=9 => self.climb(),
             10..=12 => self.relapse(),
@@ -204,9 +209,10 @@ impl Script {
                 self.recv(now, &packet);
             }
             97 => {
+                let buffer = self.random.pick(&["out", "unicast"]);
                 let at = self.random.below(1500);
                 let length = self.random.below(200);
-                self.say(format!("out {at} {length}"));
+                self.say(format!("{buffer} {at} {length}"));
             }
             _ => {
                 self.say("claims");
@@ -340,7 +346,17 @@ impl Script {
             1 => 120,
             _ => self.random.within(20..=120),
         };
-        let room = self.random.pick(&["", "", "", "", " 1452", " 4096"]);
+        let room = self.random.pick(&[
+            "",
+            "",
+            "",
+            "",
+            " 1452",
+            " 4096",
+            " 1452 1452",
+            " 4096 1452",
+            " 1452 4096",
+        ]);
         let (from, hold) = (self.hex(source), self.hold_draw());
         let packet = self.hex(packet);
         let line = format!("recv {now} {from} {port} {draw} {hold} {packet}{room}");
@@ -752,8 +768,13 @@ impl Script {
         }
         let mut packet = draft.encode(&mut self.random);
         let (mut time, mut port, mut draw, mut hold, mut room) = (now, MDNS_PORT, 20, 400, 1452);
+        let mut second_room = "";
         for _ in 0..self.random.within(1..=3) {
-            match self.random.below(8) {
+            match self.random.below(9) {
+                8 => {
+                    let rooms = [" 0", " 1", " 1451", " 1451", " 1452", " 4096", " 4097"];
+                    second_room = self.random.pick(&rooms);
+                }
                 0 => time = self.bad_time(last),
                 1 => port = self.random.pick(&OTHER_PORTS),
                 2 => {
@@ -776,7 +797,7 @@ impl Script {
         }
         let (from, packet) = (self.source(), self.hex(&packet));
         let from = self.hex(&from);
-        let line = format!("recv {time} {from} {port} {draw} {hold} {packet} {room}");
+        let line = format!("recv {time} {from} {port} {draw} {hold} {packet} {room}{second_room}");
         self.say(line);
     }
 

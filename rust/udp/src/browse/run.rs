@@ -14,12 +14,14 @@ use crate::clock::Clock;
 use crate::command::End;
 use crate::draw::{self, Draws};
 use crate::link::{self, Hears, Link};
-use crate::query::{compose, Question};
+use crate::query::{compose, Question, Wants};
 use crate::refusal::{text, Tally};
 use crate::stop;
 
 /// How long the browser waits for a packet before it looks at its schedule, in milliseconds.
 const TURN: u64 = 5;
+/// How long after a query that wants them unicast answers are taken (RFC 6762 section 6), in milliseconds.
+const UNICAST: u64 = 2000;
 
 pub fn run(options: &Options) -> Result<End, Box<dyn Error>> {
     let interface = match options.interface {
@@ -29,13 +31,14 @@ pub fn run(options: &Options) -> Result<End, Box<dyn Error>> {
     let first = Draws::open()?.within(&draw::REPLY)?;
     let mut session = Session {
         options,
-        link: Link::open(interface, Hears::GroupAlone)?,
+        link: Link::open(interface, Hears::UnicastIfAlone)?,
         clock: Clock::begin(),
         cache: match options.entries {
             Some(entries) => Cache::with_entries(entries)?,
             None => Cache::default(),
         },
         schedule: Schedule::new(first),
+        begun: None,
         screen: Screen::default(),
         refused: Tally::default(),
         turned_away: 0,
@@ -50,6 +53,8 @@ struct Session<'a> {
     clock: Clock,
     cache: Cache,
     schedule: Schedule,
+    /// When the first query went out.
+    begun: Option<u64>,
     screen: Screen,
     refused: Tally,
     turned_away: u64,
@@ -90,9 +95,13 @@ impl Session<'_> {
         Ok(())
     }
 
-    /// Sends one query with all questions that are due and fit.
+    /// Sends one query with all questions that are due and fit. The first, when the browser is new on the link, wants unicast answers if they can be heard; no
+    /// later one does (RFC 6762 section 5.4).
     fn ask(&mut self) -> Result<(), Box<dyn Error>> {
         let now = self.clock.now();
+        if self.begun.is_some_and(|begun| now > begun + UNICAST) {
+            self.link.hear_group_alone();
+        }
         let service = &self.options.service;
         let due = self.schedule.due(now, wants(&self.cache, now, service)?);
         if due.is_empty() {
@@ -100,11 +109,16 @@ impl Session<'_> {
         }
         let questions: Vec<Question> = due.iter().map(|want| want.question.clone()).collect();
         let known = known_pointers(&self.cache, now, service)?;
-        let (packet, asked) = compose(&questions, &known);
+        let wants = match self.begun {
+            None if self.link.hears_unicast() => Wants::UnicastToo,
+            _ => Wants::Multicast,
+        };
+        let (packet, asked) = compose(&questions, wants, &known);
         for want in due.into_iter().take(asked) {
             self.schedule.mark_asked(now, want);
         }
         self.link.send(&packet)?;
+        self.begun.get_or_insert(now);
         Ok(())
     }
 

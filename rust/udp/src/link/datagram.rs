@@ -62,12 +62,16 @@ impl Message {
     }
 }
 
+/// Linux's MSG_DONTWAIT and MSG_DONTROUTE.
+const WITHOUT_WAITING: i32 = 0x40;
+const WITHOUT_ROUTER: i32 = 0x04;
+
 extern "C" {
     fn recvmsg(socket: i32, message: *mut Message, flags: i32) -> isize;
     fn sendmsg(socket: i32, message: *const Message, flags: i32) -> isize;
 }
 
-/// The next datagram of a socket that tells destinations: its length and its header.
+/// The next datagram of a socket that tells destinations, if it is there: its length and its header.
 pub fn receive(socket: &UdpSocket, buffer: &mut [u8]) -> io::Result<(usize, Header)> {
     let mut address = SocketAddress::new(Ipv4Addr::UNSPECIFIED, 0);
     let mut control = Control::default();
@@ -77,7 +81,7 @@ pub fn receive(socket: &UdpSocket, buffer: &mut [u8]) -> io::Result<(usize, Head
     };
     let mut message = Message::new(&mut address, &mut slice, &mut control);
     // SAFETY: the message's parts outlive the call, and each has its true size.
-    let length = check(unsafe { recvmsg(socket.as_raw_fd(), &mut message, 0) })?;
+    let length = check(unsafe { recvmsg(socket.as_raw_fd(), &mut message, WITHOUT_WAITING) })?;
     if (control.level, control.kind) != (IPPROTO_IP, IP_PKTINFO) {
         return Err(io::Error::other("the system tells no destination"));
     }
@@ -89,7 +93,7 @@ pub fn receive(socket: &UdpSocket, buffer: &mut [u8]) -> io::Result<(usize, Head
     Ok((length as usize, header))
 }
 
-/// Sends to an address from one of this machine's own, by an interface.
+/// Sends to an address on the link of an interface, from one of this machine's own.
 pub fn send(
     socket: &UdpSocket,
     packet: &[u8],
@@ -112,6 +116,6 @@ pub fn send(
     };
     let message = Message::new(&mut address, &mut slice, &mut control);
     // SAFETY: as for `receive`; sending only reads them.
-    check(unsafe { sendmsg(socket.as_raw_fd(), &message, 0) })?;
+    check(unsafe { sendmsg(socket.as_raw_fd(), &message, WITHOUT_ROUTER) })?;
     Ok(())
 }

@@ -6,6 +6,7 @@ use std::net::Ipv4Addr;
 use std::ptr;
 
 use super::system::{check, SocketAddress, AF_INET};
+use super::LOOPBACK;
 
 #[derive(Clone, Copy, Debug, PartialEq, Eq)]
 pub struct Subnet {
@@ -30,19 +31,24 @@ pub struct Interface {
 impl Interface {
     /// The interface that has this address, as it is set up now.
     pub fn of(address: Ipv4Addr) -> io::Result<Option<Interface>> {
-        let all = subnets()?;
-        let Some(&(index, _)) = all.iter().find(|(_, subnet)| subnet.address == address) else {
-            return Ok(None);
-        };
-        let own = all.into_iter().filter(|(other, _)| *other == index);
-        Ok(Some(Interface {
-            index,
-            subnets: own.map(|(_, subnet)| subnet).collect(),
-        }))
+        let mut interfaces: Vec<Interface> = Vec::new();
+        for (index, subnet) in subnets()? {
+            match interfaces.iter_mut().find(|found| found.index == index) {
+                Some(found) => found.subnets.push(subnet),
+                None => interfaces.push(Interface {
+                    index,
+                    subnets: vec![subnet],
+                }),
+            }
+        }
+        Ok(interfaces.into_iter().find(|found| found.has(address)))
     }
 
+    /// Whether an address is its own. On the loopback interface all addresses of its subnets are, so that programs on one machine have one each.
     pub fn has(&self, address: Ipv4Addr) -> bool {
-        self.subnets.iter().any(|subnet| subnet.address == address)
+        let all = self.index == LOOPBACK;
+        let is_own = |subnet: &Subnet| subnet.address == address || all && subnet.contains(address);
+        self.subnets.iter().any(is_own)
     }
 
     pub fn is_near(&self, source: Ipv4Addr) -> bool {
@@ -123,6 +129,9 @@ mod tests {
     fn the_loopback_interface() {
         let found = Interface::of(Ipv4Addr::LOCALHOST).unwrap().unwrap();
         assert!(found.has(Ipv4Addr::LOCALHOST));
+        assert!(found.has(Ipv4Addr::new(127, 0, 0, 2)));
+        let other = Interface::of(Ipv4Addr::new(127, 1, 2, 3)).unwrap();
+        assert_eq!(other, Some(found.clone()));
         assert!(found.is_near(Ipv4Addr::new(127, 9, 9, 9)));
         assert!(!found.is_near(Ipv4Addr::new(192, 0, 2, 1)));
         assert_eq!(Interface::of(Ipv4Addr::new(192, 0, 2, 199)).unwrap(), None);

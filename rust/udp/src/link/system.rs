@@ -52,27 +52,50 @@ extern "C" {
     fn bind(socket: i32, address: *const SocketAddress, length: u32) -> i32;
 }
 
-/// A socket bound to an address and the port, which other sockets may be bound to as well.
+/// A socket bound to an address and the port, which other sockets may be bound to as well. By SO_REUSEADDR, which Avahi, python-zeroconf and systemd-resolved
+/// set too: of equal sockets the last that was bound then gets what is sent to one address. A program that sets SO_REUSEPORT alone shares with nothing else.
 pub fn shared_socket(address: Ipv4Addr) -> Result<UdpSocket, LinkError> {
-    let open = LinkError::at(Step::Open);
+    let owned = open()?;
+    share(&owned, SO_REUSEADDR)?;
+    if bind_to(&owned, address).is_err() {
+        share(&owned, SO_REUSEPORT)?;
+        bind_to(&owned, address).map_err(LinkError::at(Step::Bind))?;
+    }
+    Ok(UdpSocket::from(owned))
+}
+
+fn share(socket: &OwnedFd, option: i32) -> Result<(), LinkError> {
+    let shared = set(socket, SOL_SOCKET, option, 1i32.to_ne_bytes());
+    shared.map_err(LinkError::at(Step::Open))
+}
+
+/// Whether no other socket of this machine is bound to the port: whether one that is not shared can be (RFC 6762 section 15.1).
+pub fn is_port_free() -> Result<bool, LinkError> {
+    Ok(bind_to(&open()?, Ipv4Addr::UNSPECIFIED).is_ok())
+}
+
+/// Whether another socket of this machine is bound to this very address and the port, as the system lists them.
+pub fn is_bound(address: Ipv4Addr) -> bool {
+    let number = u32::from_ne_bytes(address.octets());
+    let bound = format!("{number:08X}:{PORT:04X}");
+    let list = std::fs::read_to_string("/proc/net/udp").unwrap_or_default();
+    list.lines()
+        .any(|line| line.split_whitespace().nth(1) == Some(&bound))
+}
+
+fn open() -> Result<OwnedFd, LinkError> {
     // SAFETY: plain numbers; a new descriptor or -1 comes back.
     let descriptor = check(unsafe { socket(AF_INET, SOCK_DGRAM | SOCK_CLOEXEC, 0) });
     // SAFETY: the descriptor is new and owned by no one else.
-    let owned = unsafe { OwnedFd::from_raw_fd(descriptor.map_err(&open)?) };
-    for option in [SO_REUSEADDR, SO_REUSEPORT] {
-        set(&owned, SOL_SOCKET, option, 1i32.to_ne_bytes()).map_err(&open)?;
-    }
+    Ok(unsafe { OwnedFd::from_raw_fd(descriptor.map_err(LinkError::at(Step::Open))?) })
+}
+
+fn bind_to(socket: &OwnedFd, address: Ipv4Addr) -> io::Result<()> {
     let address = SocketAddress::new(address, PORT);
+    let length = size_of::<SocketAddress>() as u32;
     // SAFETY: the address outlives the call, and its true size is given.
-    let bound = unsafe {
-        bind(
-            owned.as_raw_fd(),
-            &address,
-            size_of::<SocketAddress>() as u32,
-        )
-    };
-    check(bound).map_err(LinkError::at(Step::Bind))?;
-    Ok(UdpSocket::from(owned))
+    check(unsafe { bind(socket.as_raw_fd(), &address, length) })?;
+    Ok(())
 }
 
 /// Multicasts leave by the interface of this address.

@@ -19,15 +19,16 @@ usage: responder --instance LABEL --service TYPE --host LABEL --port NUMBER [opt
   --txt STRING         a TXT string, such as 'room=3'; may be given several times
   --address IPV4       the host's address (in A); else the interface's
   --address6 IPV6      the host's IPv6 address (in AAAA); else there is no AAAA
-  --interface ADDRESS  the interface to use, by its IPv4 address; else the one that multicasts leave by
+  --interface ADDRESS  the interface to use, by its IPv4 address, which no other responder on this machine uses; else the one that multicasts leave by
   --draw NUMBER        wait this many milliseconds (0..250) before the first probe; else a random time
   --at MILLISECONDS    begin at this time of the wall clock (since 1970), so that several begin together
   --seconds NUMBER     stop after this many seconds; else on Ctrl-C
-  --verbose            also tell of each packet that the library refuses, and of replies to plain clients that can't be sent
+  --verbose            also tell of each packet that the library refuses, and of unicast answers that can't be sent
   --help               this text
 
 It prints one line for each change of a claim: waiting, probing, deferred, held or lost. A lost name is lost for good: start again with another.
 Once a name is held, plain DNS clients are answered too, such as 'dig -p 5353 @ADDRESS dock.local A', if they are in a subnet of the interface.
+It hears what is sent to 224.0.0.251 and to ADDRESS, port 5353, also beside programs such as Avahi that are bound to all addresses.
 It ends with status 0 when stopped, 1 on an error, and 3 when both names are lost.
 ";
 

@@ -19,7 +19,13 @@ pub fn run(options: &Options) -> Result<End, Box<dyn Error>> {
         Some(interface) => interface,
         None => link::default_interface()?,
     };
-    let link = Link::open(interface, Hears::OwnAddressesToo)?;
+    let link = Link::open(interface, Hears::OwnAddress)?;
+    if link.is_address_shared() {
+        let wants = "a responder needs an address of its own (--interface)";
+        eprintln!(
+            "another program on this machine is bound to {interface}, port 5353, too: {wants}"
+        );
+    }
     let mut draws = Draws::open()?;
     let draw = match options.draw {
         Some(draw) => draw,

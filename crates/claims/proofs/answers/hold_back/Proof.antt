@@ -12,9 +12,12 @@ add-requires c κs = search needs
 no-record-requires : tie.Need-no-record-requires
 no-record-requires c κs = search needs
 
+no-record-requires-2 : tie.Need-no-record-requires-2
+no-record-requires-2 c κs = search needs
+
 returns : tie.Need-returns
 unfolding heldBack
-returns c = simp (c .no-record .ensures, c .before .add .ensures, c .before .before .hold-of .ensures)
+returns c = simp (c .no-record2 .ensures, c .before .no-record .ensures, c .before .before .add .ensures, c .before .before .before .hold-of .ensures)
 
 pub hold-back-spec : {M : Type 1} → statement M
-hold-back-spec = tie.close (tie.spec hold-of-requires add-requires no-record-requires returns)
+hold-back-spec = tie.close (tie.spec hold-of-requires add-requires no-record-requires no-record-requires-2 returns)

@@ -12,7 +12,13 @@ slice-relend-prefix-receive : tie.Need-slice-relend-prefix-receive
 slice-relend-prefix-receive c = search needs
 
 slice-aggregate-receive : tie.Need-slice-aggregate-receive
-slice-aggregate-receive c = sym (length-take-le _ (c .before .before .before .args .out .now) (omega arith))
+slice-aggregate-receive c = sym (length-take-le _ (c .before .before .before .before .args .out .now) (omega arith))
+
+slice-relend-prefix-receive-2 : tie.Need-slice-relend-prefix-receive-2
+slice-relend-prefix-receive-2 c = search needs
+
+slice-aggregate-receive-2 : tie.Need-slice-aggregate-receive-2
+slice-aggregate-receive-2 c = sym (length-take-le _ (c .before .before .before .before .before .args .unicast .now) (omega arith))
 
 receive-requires : tie.Need-receive-requires
 receive-requires c κs = search needs
@@ -20,12 +26,25 @@ receive-requires c κs = search needs
 same-length : tie.Need-same-length
 same-length c = search needs
 
+same-length-2 : tie.Need-same-length-2
+same-length-2 c = search needs
+
 returns : tie.Need-returns
 returns c =
-    let a = c .before .before .before .before .before .before .args in
-    received-over (a .held) (a .out .now) (a .time) (a .n) (omega arith) _
-    (λ (k : ℕ). record { time = a .time; from = a .from; port = a .port; draw = a .draw; hold = a .hold; packet = a .packet .now; room = k }) (λ k. refl) _
-    (c .before .before .receive .ensures .answers) (c .before .before .receive .ensures .writes)
+    let receive = c .before .before .before .before in
+    let a = receive .before .before .before .before .before .before .args in
+    received-over (a .held) (a .out .now) (a .unicast .now) (a .n) (a .m) (omega arith) (omega arith) _ _
+    (λ (i j : ℕ). record {
+      time = a .time;
+      from = a .from;
+      port = a .port;
+      draw = a .draw;
+      hold = a .hold;
+      packet = a .packet .now;
+      room = i;
+      unicastroom = j;
+    })
+    (λ i j. refl) (λ i j. refl) _ (receive .receive .ensures .answers) (receive .receive .ensures .writes) (receive .receive .ensures .replies)
 
 pub receive-spec : {M : Type 1} → statement M
 receive-spec =
@@ -33,6 +52,9 @@ receive-spec =
     (tie.spec
     slice-relend-prefix-receive
     slice-aggregate-receive
+    slice-relend-prefix-receive-2
+    slice-aggregate-receive-2
     receive-requires
     same-length
+    same-length-2
     returns)

@@ -31,6 +31,9 @@ returns-2 c = let a = c .before .before .before .before .before .before .before 
 step-requires : tie.Need-step-requires
 step-requires c κs = search needs
 
+slice-aggregate-shown : tie.Need-slice-aggregate-shown
+slice-aggregate-shown c = search needs
+
 shown-requires : tie.Need-shown-requires
 shown-requires c κs = search needs
 
@@ -38,7 +41,13 @@ same-length : tie.Need-same-length
 same-length c = search needs
 
 returns-3 : tie.Need-returns-3
-returns-3 c = let a = c .before .before .before .before .before .before .before .before .before .before .before .before .before .before .before .args in is-tick (a .line .now) (a .held) (a .out .now) (sym (c .before .before .before .before .before .before .before .before .before .before .before .before .is-tick .ensures) ∙ not-false _ (c .before .before .before .before .before .before .before .before .before .before .before .if1 .left)) (c .before .before .before .before .before .before .before .before .before .lent .result) (c .before .before .before .before .before .before .before .before .before .lent .ensures) (omega arith) _ (c .before .before .before .before .before .before .before .before .before .before .number .ensures) _ _ (c .before .before .before .before .before .before .step .ensures)
+returns-3 c =
+    let step = c .before .before .before .before .before .before .before in
+    let lent = step .before .before .before in
+    let time = lent .before in
+    let a = time .before .before .before .before .before .args in
+    is-tick (a .line .now) (a .held) (a .out .now) (sym (time .before .before .is-tick .ensures) ∙ not-false _ (time .before .if1 .left)) _ (lent .lent .ensures)
+    (omega arith) _ (time .number .ensures) _ _ (step .step .ensures)
 
 pub tick-spec : {M : Type 1} → statement M
 tick-spec =
@@ -52,6 +61,7 @@ tick-spec =
     bad-line-requires-2
     returns-2
     step-requires
+    slice-aggregate-shown
     shown-requires
     same-length
     returns-3)

@@ -1,7 +1,7 @@
 -- `console_responder::setup::start` meets its contract. Assumes nothing.
 use mathlib.Core.Path.{sym, _∙_}
 use borrow.Author.Tests.{not-true, not-false}
-use Rattle.console_responder.proofs.After.{not-start, start-refused, start-quiet, start-sent, start-unicast}
+use Rattle.console_responder.proofs.After.{not-start, start-refused, start-quiet, start-sent, start-unicast, start-both}
 use borrow.Author.Needs.{needs}
 use Rattle.console_responder.proofs.setup.start.Statement.{statement}
 use Rattle.console_responder.proofs.setup.start.Tie as tie
@@ -63,6 +63,15 @@ slice-aggregate-only-3 c = search needs
 only-requires-3 : tie.Need-only-requires-3
 only-requires-3 c κs = search needs
 
+enum-told-4 : tie.Need-enum-told-4
+enum-told-4 c = search needs
+
+slice-aggregate-only-4 : tie.Need-slice-aggregate-only-4
+slice-aggregate-only-4 c = search needs
+
+only-requires-4 : tie.Need-only-requires-4
+only-requires-4 c κs = search needs
+
 returns-2 : tie.Need-returns-2
 returns-2 c =
     let a = c .before .before .before .before .before .before .before .before .before .before .before .before .args in
@@ -82,6 +91,11 @@ returns-5 : tie.Need-returns-5
 returns-5 c =
     let a = c .before .before .before .before .before .before .before .before .before .before .before .before .before .args in
     start-unicast (a .line .now) (a .held) (sym (c .before .before .before .before .before .before .before .before .before .before .before .is-start .ensures) ∙ not-false _ (c .before .before .before .before .before .before .before .before .before .before .if1 .left)) _ _ _ (c .before .before .before .before .before .before .before .before .before .told .ensures) (c .before .before .before .before .before .before .before .before .number .ensures) (c .before .before .before .before .before .before .before .number2 .ensures) _ (c .before .before .before .before .before .before .start .ensures .0) _ (c .before .before .before .before .enum-told3 .given .1)
+
+returns-6 : tie.Need-returns-6
+returns-6 c =
+    let a = c .before .before .before .before .before .before .before .before .before .before .before .before .before .args in
+    start-both (a .line .now) (a .held) (sym (c .before .before .before .before .before .before .before .before .before .before .before .is-start .ensures) ∙ not-false _ (c .before .before .before .before .before .before .before .before .before .before .if1 .left)) _ _ _ (c .before .before .before .before .before .before .before .before .before .told .ensures) (c .before .before .before .before .before .before .before .before .number .ensures) (c .before .before .before .before .before .before .before .number2 .ensures) _ (c .before .before .before .before .before .before .start .ensures .0) _ _ (c .before .before .before .before .enum-told4 .given .1)
 
 pub start-spec : {M : Type 1} → statement M
 start-spec =
@@ -106,7 +120,11 @@ start-spec =
     enum-told-3
     slice-aggregate-only-3
     only-requires-3
+    enum-told-4
+    slice-aggregate-only-4
+    only-requires-4
     returns-2
     returns-3
     returns-4
-    returns-5)
+    returns-5
+    returns-6)

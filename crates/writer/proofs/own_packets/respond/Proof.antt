@@ -28,7 +28,7 @@ returns-3 : tie.Need-returns-3
 returns-3 c =
     let a = c .before .before .before .before .before .before .before .args in
     empty-nothing (a .s) (a .out .now) (c .before .before .before .before .before .if1 .left) _ (c .before .before .before .before .check-setup .ensures)
-    (not-false _ (c .before .before .before .if2 .left)) _ _ (c .before .before .pick .ensures) (c .if3 .taken)
+    (not-false _ (c .before .before .before .if2 .left)) (a .id) _ _ (c .before .before .pick .ensures) (c .if3 .taken)
 
 response-style-requires : tie.Need-response-style-requires
 response-style-requires c κs = search needs
@@ -43,7 +43,7 @@ write-packet-requires c κs =
     let p = c .before .before .before .before .before .pick .ensures in (
       response-ready (a .s) (a .out .now) (c .before .before .before .before .before .before .before .before .if1 .left) _
           (c .before .before .before .before .before .before .before .check-setup .ensures)
-          (not-false _ (c .before .before .before .before .before .before .if2 .left)) _ _ p _ (c .before .before .response-style .ensures),
+          (not-false _ (c .before .before .before .before .before .before .if2 .left)) (a .id) _ _ p _ (c .before .before .response-style .ensures),
       (p .few, p .sized),
     )
 
@@ -57,7 +57,7 @@ returns-4 c =
     let p = c .before .before .before .before .before .before .before .before .pick .ensures in
     let w = c .before .before .write-packet .ensures in
     response-sent (a .s) (a .out .now) (ten .before .if1 .left) _ (ten .check-setup .ensures)
-    (not-false _ (c .before .before .before .before .before .before .before .before .before .if2 .left)) _ _ p
+    (not-false _ (c .before .before .before .before .before .before .before .before .before .if2 .left)) (a .id) _ _ p
     (c .before .before .before .before .before .before .if3 .left) _ (c .before .before .before .before .before .response-style .ensures) _ _ (w .0) (w .1)
 
 pub respond-spec : {M : Type 1} → statement M

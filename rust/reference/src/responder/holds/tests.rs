@@ -1,7 +1,7 @@
 //! Holding, adding and deciding, by examples made by hand.
 
 use super::super::tests::*;
-use super::super::{Arrival, Claim, Responder, LEAST_OUT};
+use super::super::{Arrival, Claim, Responder};
 use super::*;
 
 const TRUNCATED: u16 = 0x0200;
@@ -25,10 +25,8 @@ fn from(responder: &mut Responder, last: u8, draw: u64, now: u64, packet: &[u8])
         hold_draw: draw,
         ..arrival(now, packet)
     };
-    let mut out = [0; LEAST_OUT];
-    let answered = responder.receive(arrival, &mut out).unwrap();
-    let sent = answered.multicast;
-    sent.map_or(vec![], |length| types(&out[..length]))
+    let sent = take(responder, arrival).unwrap().multicast;
+    sent.map_or(vec![], |packet| types(&packet))
 }
 
 fn held_from(responder: &Responder) -> Vec<(u8, u64)> {
@@ -154,7 +152,7 @@ fn a_hold_is_the_last_step_and_a_ptr_reply_stays_set() {
         draw: 100,
         ..arrival(3300, &ask)
     };
-    responder.receive(arrival, &mut [0; LEAST_OUT]).unwrap();
+    take(&mut responder, arrival).unwrap();
     let mut later = responder.clone();
     assert_eq!(tick(&mut responder, 3400), Some((vec![12], true)));
     let rest = vec![33, 16, 1, 47, 47];
@@ -233,7 +231,7 @@ fn probes_and_queries_from_other_ports_are_not_held() {
             port,
             ..arrival(2950, &message)
         };
-        responder.receive(arrival, &mut [0; LEAST_OUT]).unwrap();
+        take(&mut responder, arrival).unwrap();
         assert_eq!(tick(&mut responder, 3300), expected);
     }
     let mut responder = held();
@@ -241,9 +239,7 @@ fn probes_and_queries_from_other_ports_are_not_held() {
         port: 1024,
         ..arrival(2100, &probe)
     };
-    let mut out = [0; LEAST_OUT];
-    let answered = responder.receive(arrival, &mut out).unwrap();
-    assert!(answered.unicast.is_some());
+    assert!(take(&mut responder, arrival).unwrap().unicast.is_some());
     assert_eq!(held_from(&responder), []);
 }
 

@@ -1,0 +1,40 @@
+//! Waiting for several sockets at once: Linux's `poll`.
+
+use std::ffi::{c_int, c_ulong};
+use std::io;
+use std::os::fd::AsRawFd;
+use std::time::Duration;
+
+use super::system::check;
+
+const POLLIN: i16 = 1;
+
+#[repr(C)]
+struct Polled {
+    descriptor: c_int,
+    wanted: i16,
+    given: i16,
+}
+
+extern "C" {
+    fn poll(polled: *mut Polled, count: c_ulong, wait: c_int) -> c_int;
+}
+
+/// The first of these from which there is something to read (or an error), if there is one before the wait is over.
+pub fn first(sockets: &[&impl AsRawFd], wait: Duration) -> io::Result<Option<usize>> {
+    let of = |socket: &&_| Polled {
+        descriptor: AsRawFd::as_raw_fd(*socket),
+        wanted: POLLIN,
+        given: 0,
+    };
+    let mut polled: Vec<Polled> = sockets.iter().map(of).collect();
+    // SAFETY: the list outlives the call, and its true length is given.
+    check(unsafe {
+        poll(
+            polled.as_mut_ptr(),
+            polled.len() as c_ulong,
+            wait.as_millis() as c_int,
+        )
+    })?;
+    Ok(polled.iter().position(|polled| polled.given != 0))
+}
