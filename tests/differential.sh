@@ -60,6 +60,25 @@ recv wanted unicast with NSEC
 recv sent and unicast
 recv refused 3
 unicast unicast
+stop quiet
+stop sent response of 1
+stop sent response of 2
+stop sent response of 3
+stop sent response of 4
+stop sent response of 5
+stop refused 1
+stop refused 3
+update port sent
+update port quiet
+update txt sent
+update txt quiet
+update refused 1
+update refused 3
+update refused 7
+update refused 10
+update refused 11
+claims updated never
+claims updated once
 tick sent probe more
 tick sent response of 3 more
 tick sent response of 5

@@ -2,7 +2,7 @@
 # Demand 3, tried: random hostile lists of several responders' calls, played through the proved console (rust/linksim).
 # With the premises kept no list may violate it. Then the check has to show that it can see: with packets up to 600 ms under way, or
 # those by unicast up to 1,000 ms, two responders hold one name, with steps up to 500 ms late one holds too late, and the reference
-# program with a planted fault is found out with the premises kept.
+# program with a planted fault is found out with the premises kept. Stops and updates are played too.
 # Usage: tests/link.sh [SECONDS [SEED]], by default 60 s from seed 1.
 set -eu
 root=$(cd "$(dirname "$0")/.." && pwd)

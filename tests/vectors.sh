@@ -5,7 +5,7 @@ set -eu
 root=$(cd "$(dirname "$0")/.." && pwd)
 cargo build --release --quiet --manifest-path "$root/rust/reference/Cargo.toml"
 programs=$root/rust/target/release
-for part in reader txt responder plain truncated unicast cache form; do python3 "$root/tests/vectors/$part.py"; done | cmp - "$root/crates/console/stdin"
+for part in reader txt responder plain truncated unicast changes cache form; do python3 "$root/tests/vectors/$part.py"; done | cmp - "$root/crates/console/stdin"
 "$programs/reference" <"$root/crates/console/stdin" | cmp - "$root/crates/console/stdout"
 echo "$(grep -c . "$root/crates/console/stdout") stored answers are those of the reference program"
 "$programs/packets" | python3 "$root/tests/vectors/subsets.py" | cmp - "$root/crates/readings/specs/Subsets.antt"

@@ -20,7 +20,7 @@
 extern "C" {
 #endif
 
-/* Refusals; each call tests those that apply to it in the order 1, 2, 3, 8, 4, 5, 6, 7, and the TXT lookup 9, 6. */
+/* Refusals; each call tests those that apply to it in the order 1, 2, 3, 8, 4, 5, 6, 7, 10, 11, and the TXT lookup 9, 6. */
 enum {
     KURGASHEL_ACCEPTED = 0,
     KURGASHEL_TIME = 1,      /* time above 2^62, before the state's last time or an entry's receive time, or a kept time too late */
@@ -29,13 +29,15 @@ enum {
     KURGASHEL_LENGTH = 4,    /* message under 12 or over 8,972 bytes */
     KURGASHEL_HEADER = 5,    /* opcode or RCODE not zero, or a response from a source port other than 5353 */
     KURGASHEL_MALFORMED = 6, /* malformed message, TXT or looked-up name */
-    KURGASHEL_SETUP = 7,     /* names or data of a set-up or a state break the rules, or a buffer of one has another size */
+    KURGASHEL_SETUP = 7,     /* names or data of a set-up, a state or an update break the rules, or a buffer of one has another size */
     KURGASHEL_CACHE = 8,     /* not 1 to 512 entries, not 1,024 bytes of store for each, or an entry with a length too great */
-    KURGASHEL_KEY = 9        /* TXT key empty, or with a byte that no key has */
+    KURGASHEL_KEY = 9,       /* TXT key empty, or with a byte that no key has */
+    KURGASHEL_NAME_LOST = 10, /* update of an instance whose name is lost */
+    KURGASHEL_TOO_SOON = 11  /* update less than 6,000 ms after the last one */
 };
 
 #define KURGASHEL_PORT 5353          /* the port that packets come from and go to */
-#define KURGASHEL_STATE_BYTES 841    /* a responder's state */
+#define KURGASHEL_STATE_BYTES 850    /* a responder's state */
 #define KURGASHEL_SETUP_BYTES 579    /* sizeof (struct kurgashel_setup) */
 #define KURGASHEL_OUT_BYTES 1452     /* the least out buffer; no packet is longer */
 #define KURGASHEL_MOST_ENTRIES 512   /* the most entries of a cache; the least is 1 */
@@ -88,6 +90,17 @@ struct kurgashel_answer kurgashel_receive(uint8_t *state, size_t state_bytes, ui
 /* Takes the steps that are due, up to the first that sends: its packet is written to `out`. Call it when a step is due (kurgashel_due), at most 50 ms late,
  * and again at once where `more`; calls between do no harm. Refusals 1, 3, 7. */
 struct kurgashel_answer kurgashel_tick(uint8_t *state, size_t state_bytes, uint64_t now, uint8_t *out, size_t out_bytes);
+
+/* Ends a responder: the records that it holds are written to `out` with TTL 0, a goodbye to all (RFC 6762, 10.1), and both its claims are lost for good. A
+ * responder that holds nothing says nothing. Refusals 1, 3, 7. */
+struct kurgashel_answer kurgashel_stop(uint8_t *state, size_t state_bytes, uint64_t now, uint8_t *out, size_t out_bytes);
+
+/* Changes the port of the SRV record, or the TXT record: 1..400 bytes of strings, each behind its length byte. Where the instance's name is held, the record
+ * with its new data is written to `out` for all (RFC 6762, 8.4), and once more 1,000 ms later by a tick; where it is not yet held, the responder begins anew to
+ * claim it with the new data. New data may equal the old. Refusals 1, 3, 7, 10, 11. */
+struct kurgashel_answer kurgashel_update_port(uint8_t *state, size_t state_bytes, uint64_t now, uint16_t port, uint8_t *out, size_t out_bytes);
+struct kurgashel_answer kurgashel_update_txt(uint8_t *state, size_t state_bytes, uint64_t now, const uint8_t *txt, size_t txt_bytes, uint8_t *out,
+                                             size_t out_bytes);
 
 /* How a claim stands: of the instance's name (0) or the host's name (any other number). A buffer that is no state says lost. */
 enum { KURGASHEL_INSTANCE = 0, KURGASHEL_HOST = 1 };

@@ -1,5 +1,5 @@
 // The exported responder and TXT lookup from C: buffer sizes, refusals that keep every byte, the two packets of the specification, answers to all and to the
-// asker, and states of any bytes. Says what fails, and the count. Run by tests/capi.sh.
+// asker, stops and updates, and states of any bytes. Says what fails, and the count. Run by tests/capi.sh.
 #include "kurgashel.h"
 #include <stdio.h>
 #include <string.h>
@@ -51,7 +51,10 @@ static void sizes(void) {
     expect(is(kurgashel_tick(NULL, 0, 0, NULL, 0), 3), "tick: 3 comes before 7");
     expect(is(kurgashel_tick(NULL, 0, 0, out, KURGASHEL_OUT_BYTES), 7), "tick: no state is 7");
     expect(is(kurgashel_receive(NULL, 0, 0, NULL, 0, 5353, 20, 400, NULL, 0, out, KURGASHEL_OUT_BYTES, unicast, KURGASHEL_OUT_BYTES), 4), "receive: 4 comes before 7");
-    expect(is(kurgashel_tick(state, 685, 0, out, KURGASHEL_OUT_BYTES), 7), "tick: a state of 685 bytes, as older versions kept them, is 7");
+    expect(is(kurgashel_tick(state, 841, 0, out, KURGASHEL_OUT_BYTES), 7), "tick: a state of 841 bytes, as older versions kept them, is 7");
+    expect(is(kurgashel_stop(NULL, 0, 0, NULL, 0), 3) && is(kurgashel_stop(NULL, 0, 0, out, KURGASHEL_OUT_BYTES), 7), "stop: 3, then 7");
+    expect(is(kurgashel_update_port(NULL, 0, 0, 1, out, KURGASHEL_OUT_BYTES), 7), "update of the port: no state is 7");
+    expect(is(kurgashel_update_txt(NULL, 0, 0, NULL, 0, out, KURGASHEL_OUT_BYTES), 7), "update of the TXT: no state is 7");
     expect(kurgashel_claim(NULL, 0, 0) == KURGASHEL_LOST, "no state is lost");
     expect(!kurgashel_due(NULL, 0).due && !kurgashel_due(NULL, 0).time, "no state has a step to come");
     expect(kurgashel_cache_take(NULL, 0, NULL, 0, 0, 5353, NULL, 0).refusal == 8, "cache: no table is 8, before 4");
@@ -219,6 +222,69 @@ static void wanted_by_unicast(void) {
     expect(!a.refusal && a.length && a.unicast_length == 38 && !memcmp(unicast, reply, 38) && out[7] == 1, "the address to the asker and the SRV to all");
 }
 
+static struct kurgashel_answer stop(uint64_t now) { return kurgashel_stop(state, KURGASHEL_STATE_BYTES, now, out, KURGASHEL_OUT_BYTES); }
+static struct kurgashel_answer update_port(uint64_t now, uint16_t port) {
+    return kurgashel_update_port(state, KURGASHEL_STATE_BYTES, now, port, out, KURGASHEL_OUT_BYTES);
+}
+static struct kurgashel_answer update_txt(uint64_t now, const char *txt, size_t bytes) {
+    return kurgashel_update_txt(state, KURGASHEL_STATE_BYTES, now, (const uint8_t *)txt, bytes, out, KURGASHEL_OUT_BYTES);
+}
+
+// A stop says goodbye to what is held, and ends both claims.
+static void stops(void) {
+    uint64_t now = settled();
+    keep();
+    expect(is(stop(4900), 1), "a stop before the last call");
+    expect(is(kurgashel_stop(state, KURGASHEL_STATE_BYTES, now, out, KURGASHEL_OUT_BYTES - 1), 3), "with an out buffer of 1,451 bytes");
+    memset(out, 0xEE, sizeof out);
+    struct kurgashel_answer a = stop(now);
+    // PTR, SRV, TXT and A, each with TTL 0
+    expect(!a.refusal && !a.more && !a.unicast_length && a.length == 103 && out[2] == 0x84 && out[7] == 4 && out[a.length] == 0xEE, "one packet of four records");
+    struct kurgashel_message m = kurgashel_message(out, a.length);
+    size_t at = 12, records = 0, gone = 0;
+    for (struct kurgashel_record r; records < 4 && (r = kurgashel_record(out, a.length, at)).found; at = r.next, records++) gone += !r.ttl;
+    expect(!m.refusal && records == 4 && gone == 4 && at == a.length, "each with TTL 0");
+    expect(claim(KURGASHEL_INSTANCE) == KURGASHEL_LOST && claim(KURGASHEL_HOST) == KURGASHEL_LOST && none_due(), "both names are lost, and no step is to come");
+    expect(!memcmp(state, &good, sizeof good), "the set-up stays");
+    expect(quiet(stop(now)) && quiet(tick(now + 10000)), "a second stop says nothing, nor does a tick");
+    keep();
+    expect(is(update_port(now + 10000, 1), 10), "an update of a name that is lost");
+    start(&good, 0, 0);
+    expect(quiet(stop(0)) && claim(KURGASHEL_HOST) == KURGASHEL_LOST, "a stop of one that holds nothing says nothing, and ends its claims");
+}
+
+// An update announces the new data, or begins to claim with them.
+static void updates(void) {
+    uint64_t now = settled();
+    keep();
+    expect(is(update_port(4900, 1), 1) && is(kurgashel_update_port(state, KURGASHEL_STATE_BYTES, now, 1, out, KURGASHEL_OUT_BYTES - 1), 3), "1, then 3");
+    char long_txt[401] = { 0 };
+    expect(is(update_txt(now, "", 0), 7) && is(update_txt(now, "\2a", 2), 7) && is(update_txt(now, long_txt, 401), 7), "TXT that breaks the rules");
+    memset(out, 0xEE, sizeof out);
+    struct kurgashel_answer a = update_port(now, 0x1234);
+    expect(!a.refusal && !a.more && !a.unicast_length && a.length && out[7] == 1 && out[a.length] == 0xEE, "the SRV alone is announced");
+    struct kurgashel_record r = kurgashel_record(out, a.length, 12);
+    expect(r.found && r.rtype == 33 && r.ttl == 120 && out[r.rdata + 4] == 0x12 && out[r.rdata + 5] == 0x34, "with the new port");
+    expect(state[154] == 0x12 && state[155] == 0x34 && !memcmp(state, &good, 154) && !memcmp(state + 156, (const uint8_t *)&good + 156, sizeof good - 156), "which is the only change of the set-up");
+    expect(claim(KURGASHEL_INSTANCE) == KURGASHEL_HELD && due(now + 1000), "still held; the second step in 1,000 ms");
+    a = tick(now + 1000);
+    expect(a.length && none_due(), "which is taken");
+    keep();
+    expect(is(update_txt(now + 5999, "\1a", 2), 11), "an update less than 6,000 ms after the last");
+    a = update_txt(now + 6000, "\6room=4", 7);
+    r = kurgashel_record(out, a.length, 12);
+    expect(!a.refusal && out[7] == 1 && r.found && r.rtype == 16 && r.rdata_length == 7 && !memcmp(out + r.rdata, "\6room=4", 7), "at 6,000 ms the TXT, with the new strings");
+    expect(!memcmp(state + 156, "\6room=4", 7) && !state[163] && !state[556] && state[557] == 7, "they stand in the set-up, zeros behind them");
+    a = update_txt(now + 12000, "\6room=4", 7);
+    expect(!a.refusal && a.length, "equal data are announced all the same");
+
+    start(&good, 0, 100);
+    tick(100);
+    expect(claim(KURGASHEL_INSTANCE) == KURGASHEL_PROBING && quiet(update_port(150, 5)) && claim(KURGASHEL_INSTANCE) == KURGASHEL_WAITING, "while probing: back to waiting");
+    state[588] = 7;
+    expect(due(250), "and the first probe after the start draw");
+}
+
 // whose known answers count: those of the same address, in whatever form it is handed
 static void addresses(void) {
     static const uint8_t mapped[16] = { [10] = 0xff, 0xff, 10, 0, 0, 9 }, compatible[16] = { [12] = 10, 0, 0, 9 }, nobody[16], other[4] = { 10, 0, 0, 8 };
@@ -269,10 +335,10 @@ static void four_and_a_fifth(void) {
 
 // the times and the draw below 256
 static void small_numbers(void) {
-    for (size_t i = 0; i < 10; i++) memset(state + 579 + 9 * i + 1, 0, 7);
-    for (size_t i = 0; i < 4; i++) memset(state + 669 + 39 * i + 17, 0, 7);
-    memset(state + 825, 0, 7);
-    memset(state + 833, 0, 7);
+    for (size_t i = 0; i < 11; i++) memset(state + 579 + 9 * i + 1, 0, 7);
+    for (size_t i = 0; i < 4; i++) memset(state + 678 + 39 * i + 17, 0, 7);
+    memset(state + 834, 0, 7);
+    memset(state + 842, 0, 7);
 }
 
 // every buffer of the right length is a state: a case beyond the last is lost, a flag counts by its low bit
@@ -296,7 +362,7 @@ static void any_bytes(void) {
 
     // the second held query's due time: 2^62 + 2,000 may be kept, 1 ms more is refused; a flag of 2 is a free place, whatever stands there
     uint64_t now = settled(), latest = (1ull << 62) + 2000;
-    uint8_t *second = state + 669 + 39 + 16;
+    uint8_t *second = state + 678 + 39 + 16;
     second[0] = 255;
     for (int i = 0; i < 8; i++) second[1 + i] = latest >> (56 - 8 * i);
     expect(due(latest) && quiet(tick(now)) && second[0] == 1 && due(latest), "a flag counts by its low bit, and is written as 1");
@@ -328,6 +394,8 @@ int main(void) {
     hold_draws();
     held_queries();
     wanted_by_unicast();
+    stops();
+    updates();
     addresses();
     four_and_a_fifth();
     any_bytes();

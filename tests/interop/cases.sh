@@ -5,6 +5,7 @@ cases="avahi_finds_us zeroconf_finds_us systemd_finds_us we_find_avahi we_find_z
     keeps_the_instance_against_avahi keeps_the_host_against_avahi keeps_the_instance_against_zeroconf
     dig_is_answered a_reply_as_it_lies no_reply_beyond_the_link
     a_unicast_answer_as_it_lies the_browser_asks_for_unicast yields_beside_avahi
+    avahi_sees_our_changes zeroconf_sees_our_changes our_browser_sees_our_changes
     two_of_ours_by_chance two_of_ours_in_step"
 
 service=_voice._tcp
@@ -19,7 +20,7 @@ run_case() { # NAME
     while ! "$1"; do
         tries=$((tries - 1))
         echo "FAILED"
-        tail -n 12 "$work"/*.log "$work"/ours* 2>/dev/null | sed 's/^/    | /'
+        tail -n 12 "$work"/*.log "$work"/ours* "$work"/peer* 2>/dev/null | sed 's/^/    | /'
         clear_case
         if [ "$tries" = 0 ]; then
             failed=$((failed + 1))
@@ -312,6 +313,60 @@ yields_beside_avahi() {
     avahi_is_up other || return 1
     [ "$(date +%s%3N)" -lt "$at" ] || { echo "    Avahi came up too late"; return 1; }
     wait_for 9 ours-b "lost +$booth" && has "$(cat "$work/ours-b")" "lost +$booth" && ! grep -E "held +$booth" "$work/ours-b"
+}
+
+# Our responder on machine a, which takes lines from a pipe (file descriptor 7).
+we_hold_and_take_lines() {
+    rm -f "$work/lines"
+    mkfifo "$work/lines" && exec 7<>"$work/lines" || return 1
+    input=$work/lines we_hold --control
+    taker=$last
+}
+
+# The time of the wall clock at which our responder did what a line of its tells.
+ours_at() { # WORD
+    local begun
+    begun=$(begun_at ours) && awk -v begun="$begun" -v word="$1" '$3 == word { printf "%.0f", begun + $1; exit }' "$work/ours"
+}
+
+# Waits for a stamped line, and says how long it came after what our responder did; at most so many milliseconds.
+seen_after() { # WORD MOST FILE PATTERN
+    local line after
+    wait_for 5 "$3" "$4" || return 1
+    line=$(grep -E -- "$4" "$work/$3" | head -n 1)
+    after=$((${line%% *} - $(ours_at "$1")))
+    echo "    $after ms after our line '$1': ${line#* }"
+    [ "$after" -le "$2" ]
+}
+
+# Changes the TXT; then says goodbye by SIGTERM.
+change_txt() { echo 'txt room=4 PassReq' >&7 && wait_for 5 ours ' updated +txt room=4 PassReq$'; }
+say_goodbye() { kill "$taker" && exec 7>&- && wait_for 5 ours ' goodbye$'; }
+
+# A goodbye is to be seen within a second: RFC 6762 section 10.1 has who hears it keep the record for a second; 1,500 ms are allowed, since the machine is
+# shared.
+avahi_sees_our_changes() {
+    avahi_is_up other && we_hold_and_take_lines || return 1
+    start_stamped_on b peer avahi-browse -p $service
+    wait_for 5 peer ' \+;wire;IPv4;booth;' && change_txt || return 1
+    # it shows a TXT once only: so another is begun, which takes it from Avahi's cache
+    start_stamped_on b peer2 sh -c "until avahi-browse -rpt $service | grep room=4; do sleep 0.05; done"
+    seen_after updated 1500 peer2 '=;wire;IPv4;booth;.*room=4' || return 1
+    say_goodbye && seen_after goodbye 1500 peer ' -;wire;IPv4;booth;'
+}
+
+zeroconf_sees_our_changes() {
+    we_hold_and_take_lines || return 1
+    start_stamped_on c peer "$python" "$root/tests/interop/zeroconf_browse.py" 10.77.0.3 $service.local. 20
+    wait_for 5 peer 'added booth' && sleep 1 && change_txt && seen_after updated 500 peer 'updated booth.*room=4' || return 1
+    say_goodbye && seen_after goodbye 1500 peer 'removed booth'
+}
+
+our_browser_sees_our_changes() {
+    we_hold_and_take_lines || return 1
+    start_stamped_on c peer "$browser" --interface 10.77.0.3 --seconds 50 --service $service
+    wait_for 5 peer 'txt +room=3' && change_txt && seen_after updated 500 peer 'txt +room=4' || return 1
+    say_goodbye && seen_after goodbye 500 peer 'leaving +booth' && seen_after goodbye 1500 peer 'gone +booth'
 }
 
 # Two of our responders that want the same two names with other data, begun in the same millisecond.

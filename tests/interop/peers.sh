@@ -2,13 +2,21 @@
 
 running=
 
-# Starts a command on a machine in the background, with its output in a file of the work folder; its process id is then in $last.
+# Starts a command on a machine in the background, with its output in a file of the work folder; its process id is then in $last. It reads from $input.
 start_on() { # MACHINE FILE COMMAND...
     local machine=$1 file=$2
     shift 2
-    timeout -k 2 60 ip netns exec "$link-$machine" "$@" >"$work/$file" 2>&1 &
+    timeout -k 2 60 ip netns exec "$link-$machine" "$@" >"$work/$file" 2>&1 <"${input:-/dev/null}" &
     last=$!
     running="$running $last"
+}
+
+# The same, with each line behind the time at which it came.
+start_stamped_on() { # MACHINE FILE COMMAND...
+    local machine=$1 file=$2
+    shift 2
+    # shellcheck disable=SC2016
+    start_on "$machine" "$file" sh -c 'stamp=$1 python=$2; shift 2; stdbuf -oL "$@" 2>&1 | "$python" "$stamp"' sh "$root/tests/interop/stamp.py" "$python" "$@"
 }
 
 # Ends what a case started; the bus stays.

@@ -1,10 +1,11 @@
-"""Browses a service with python-zeroconf and prints the names found within some seconds: ADDRESS SERVICE SECONDS."""
+"""Browses a service with python-zeroconf and prints the names found, changed (with the TXT) and removed within some seconds: ADDRESS SERVICE SECONDS."""
 
 import sys
 import time
 
 from zeroconf import ServiceBrowser, Zeroconf
 
+TXT, CLASS_IN = 16, 1
 address, service, seconds = sys.argv[1:]
 
 
@@ -13,7 +14,8 @@ class Listener:
         print(f"added {name}", flush=True)
 
     def update_service(self, zeroconf, kind, name):
-        pass
+        record = zeroconf.cache.get_by_details(name, TXT, CLASS_IN)
+        print(f"updated {name} txt {record.text if record else None}", flush=True)
 
     def remove_service(self, zeroconf, kind, name):
         print(f"removed {name}", flush=True)

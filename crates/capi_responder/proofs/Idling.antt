@@ -33,7 +33,7 @@ use Rattle.capi_responder.specs.idle.Idle.{nothingDue, isIdle}
 use Rattle.capi_responder.proofs.codec.Whole.{round-trip}
 use Rattle.capi_responder.proofs.idle.Bytes.{Bytes}
 use Rattle.capi_responder.proofs.idle.Resting.{AtRest, at-rest}
-use Rattle.capi_responder.proofs.Calling.{Gives, call-taken}
+use Rattle.capi_responder.proofs.Calling.{Gives, tick-taken}
 
 -- the tests that an idle tick passes
 record Idle (b : List ℕ) (time room : ℕ) : Type 0 where
@@ -108,7 +108,7 @@ module _ (b : List ℕ) (bytes : Bytes b) (time room : ℕ) (idle : isIdle b tim
       record { is-answer = simp (z, w); is-more = simp (z, w); is-after = simp (z, w); is-out = simp (z, w) }
 
   -- the bytes up to the time of the last call are those that would be written
-  front : progressBytes after ≡ take 254 (progressBytes (progressAt b)) ++ bytes64 time
+  front : progressBytes after ≡ take 263 (progressBytes (progressAt b)) ++ bytes64 time
   unfolding progressBytes multicastsBytes lastBytes holdsBytes holdBytes setBytes bytes64
   front = refl
 
@@ -116,9 +116,9 @@ module _ (b : List ℕ) (bytes : Bytes b) (time room : ℕ) (idle : isIdle b tim
   unfolding withTime withProgress
   time-written =
       let l : _ = i .long in
-      let e : take 833 b ++ bytes64 time ≡ take 579 b ++ progressBytes after =
-      ap (λ (x : List ℕ). x ++ bytes64 time) (take-add 579 254 b ∙ ap (λ (x : List ℕ). take 579 b ++ take 254 x) (r .same))
-      ∙ append-assoc (take 579 b) (take 254 (progressBytes (progressAt b))) (bytes64 time) ∙ ap (λ (x : List ℕ). take 579 b ++ x) (sym front) in
+      let e : take 842 b ++ bytes64 time ≡ take 579 b ++ progressBytes after =
+      ap (λ (x : List ℕ). x ++ bytes64 time) (take-add 579 263 b ∙ ap (λ (x : List ℕ). take 579 b ++ take 263 x) (r .same))
+      ∙ append-assoc (take 579 b) (take 263 (progressBytes (progressAt b))) (bytes64 time) ∙ ap (λ (x : List ℕ). take 579 b ++ x) (sym front) in
       simp l e
 
   says : decode (withProgress b after) ≡ stateWith b after
@@ -129,5 +129,5 @@ module _ (b : List ℕ) (bytes : Bytes b) (time room : ℕ) (idle : isIdle b tim
   idle-call {out} is-called is-bytes =
       let p : decode b .progress ≡ progressAt b = ap (λ (s : State). s .progress) is-state in
       let w : _ = is-bytes ∙ time-written in
-      call-taken b out (ticked t) refl (gives out) refl is-called refl
+      tick-taken b out t refl refl is-called (gives out) refl
       (rw p (w, ap decode w ∙ says))

@@ -8,8 +8,10 @@ use lib.ListN.{length}
 use Rattle.claims.specs.declared.Progress.{Progress}
 use Rattle.responder.specs.declared.State.{State}
 use Rattle.responder.specs.Refusals.{receiveRefusal, tickRefusal}
+use Rattle.responder.specs.Handed.{Arrival, Tick}
 use Rattle.responder.specs.Calls.{blank, receiveOf, tickOf}
-use Rattle.responder.specs.Runs.{Call, received, ticked, refusalOfCall, stateAfter}
+use Rattle.responder.specs.changes.Changes.{stopOf}
+use Rattle.responder.specs.Runs.{Call, received, ticked, stopped, refusalOfCall, stateAfter}
 use Rattle.responder.proofs.Refusals.{blank-refused}
 use Rattle.capi_responder.specs.codec.Layout.{stateSize}
 use Rattle.capi_responder.specs.codec.Codec.{decode, stateWith}
@@ -19,17 +21,24 @@ pub told : (t : Bool) → (t ≡ false → ⊥) → t ≡ true
 told true h = refl
 told false h = absurd (h refl)
 
--- ---- a packet received, or a tick
+-- ---- a packet received, a tick, or a stop
 
 -- it leaves the set-up as it is
 same : (s : State) (t : Bool) (progress : Progress) → cond t (record { setup = s .setup; progress = progress }) s .setup ≡ s .setup
 same s true progress = refl
 same s false progress = refl
 
-pub same-setup : (s : State) (c : Call) → stateAfter s c .setup ≡ s .setup
-unfolding receiveOf tickOf
-same-setup s (received a) = same s (eqb (receiveRefusal s a) 0) _
-same-setup s (ticked t) = same s (eqb (tickRefusal s t) 0) _
+pub same-received : (s : State) (a : Arrival) → stateAfter s (received a) .setup ≡ s .setup
+unfolding receiveOf
+same-received s a = same s (eqb (receiveRefusal s a) 0) _
+
+pub same-ticked : (s : State) (t : Tick) → stateAfter s (ticked t) .setup ≡ s .setup
+unfolding tickOf
+same-ticked s t = same s (eqb (tickRefusal s t) 0) _
+
+pub same-stopped : (s : State) (t : Tick) → stateAfter s (stopped t) .setup ≡ s .setup
+unfolding stopOf
+same-stopped s t = same s (eqb (tickRefusal s t) 0) _
 
 module _ (b : List ℕ) (c : Call) where
   blank-bytes : eqb (length b) stateSize ≡ false → decode b ≡ blank

@@ -1,4 +1,4 @@
--- Start, packet received and tick on lent bytes: the answer in numbers, the bytes that the state then has, and what they say. The contracts are the
+-- Start, packet received, tick, stop and update on lent bytes: the answer in numbers, the bytes that the state then has, and what they say. The contracts are the
 -- records `Starts`, `Calls` and `Receives`. Assumes nothing: these are definitions.
 use Prim.Native.Nat.{ℕ}
 use mathlib.Core.Path.{_≡_}
@@ -6,6 +6,7 @@ use mathlib.Core.Bool.{Bool, false, cond}
 use mathlib.Core.List.{List}
 use lib.ListN.{length}
 use lib.Dec.{eqb}
+use lib.Seq.{sets}
 use Rattle.own.specs.declared.records.Setup.{Setup}
 use Rattle.writer.specs.own_packets.Own.{laidOver}
 use Rattle.responder.specs.declared.State.{State}
@@ -13,9 +14,11 @@ use Rattle.responder.specs.declared.Answer.{Answer}
 use Rattle.responder.specs.declared.Started.{Started}
 use Rattle.responder.specs.Calls.{blank, refusalOf, lengthOf, unicastLengthOf, unicastPacket, startOf}
 use Rattle.responder.specs.Handed.{Arrival}
-use Rattle.responder.specs.Runs.{Call, received, answerTo, moreAfter, stateAfter, packetOf}
+use Rattle.own.specs.changes.Changes.{NewData, newPort, newTxt, stringsOf}
+use Rattle.responder.specs.Runs.{Call, received, ticked, stopped, updated, answerTo, moreAfter, stateAfter, packetOf}
+use Rattle.capi_responder.specs.codec.Layout as layout
 use Rattle.capi_responder.specs.codec.Layout.{stateSize}
-use Rattle.capi_responder.specs.codec.Codec.{setupOf, decode, withProgress, withSetup}
+use Rattle.capi_responder.specs.codec.Codec.{bytes16, stringsBytes, setupOf, decode, withProgress, withSetup}
 use Rattle.capi_responder.specs.declared.Called.{Called}
 
 -- The specification's values for an answer
@@ -48,11 +51,23 @@ pub record Starts (b setup : List ℕ) (time draw : ℕ) (a : Called) (b′ : Li
   pub bytes : b′ ≡ startedBytes b setup time draw
   pub says : decode b′ ≡ startedState b setup time draw
 
--- ---- a packet received, and a tick
+-- ---- a packet received, a tick, a stop, and an update
+
+-- the bytes of a state with other data: the port, or the TXT strings with their length, where they stand
+unfoldable pub withData : List ℕ → NewData → List ℕ
+withData b (newPort port) = sets b layout.port (bytes16 port)
+withData b (newTxt txt) = sets b layout.txt (stringsBytes (stringsOf txt))
+
+-- only an update changes the set-up
+abbrev pub setupAfter : List ℕ → Call → List ℕ
+setupAfter b (received a) = b
+setupAfter b (ticked t) = b
+setupAfter b (stopped t) = b
+setupAfter b (updated u) = withData b (u .new)
 
 -- the state's bytes after a call
 unfoldable pub bytesAfter : List ℕ → Call → List ℕ
-bytesAfter b c = unlessRefused (answerTo (decode b) c) (withProgress b (stateAfter (decode b) c .progress)) b
+bytesAfter b c = unlessRefused (answerTo (decode b) c) (withProgress (setupAfter b c) (stateAfter (decode b) c .progress)) b
 
 pub record Calls (b : List ℕ) (c : Call) (out : List ℕ) (a : Called) (b′ out′ : List ℕ) : Type 0 where
   pub answers : a ≡ calledWith (answerTo (decode b) c) (moreAfter (decode b) c)

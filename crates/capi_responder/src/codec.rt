@@ -237,6 +237,7 @@ fn progress_at(b: &[u8]) -> Progress
         sent: multicasts_at(b),
         reply: when_at(b, layout::REPLY),
         holds: holds_at(b),
+        updated: when_at(b, layout::UPDATED),
         draw: be64(b, layout::DRAW),
         last: be64(b, layout::LAST),
     }

@@ -220,10 +220,12 @@ fn lay_progress(out: &mut [u8], progress: Progress)
     let sent = progress.sent;
     let reply = progress.reply;
     let holds = progress.holds;
+    let updated = progress.updated;
     put_claim(out, layout::INSTANCE_CLAIM, instance);
     put_claim(out, layout::HOST_CLAIM, host);
     put_multicasts(out, sent);
     put_when(out, layout::REPLY, reply);
+    put_when(out, layout::UPDATED, updated);
     put_holds(out, holds);
     put_number(out, layout::DRAW, progress.draw);
     put_number(out, layout::LAST, progress.last);

@@ -60,7 +60,7 @@ fn reply_rests(b: &[u8], at: usize, time: u64) -> bool
     due <= LAST_KEPT
 }
 
-// A last multicast, if there was one, is a time that a state may keep, and its bytes are those that would be written.
+// A last multicast or the last update, if there was one, is a time that a state may keep, and its bytes are those that would be written.
 fn when_kept(b: &[u8], at: usize) -> bool
     requires { ⌜ (at + layout.caseSize ≤ length (now b)) × (length (now b) ≡ layout.stateSize) ⌝ }
     ensures { λ r. ⌜ r ≡ whenKept (now (b .entry)) at ⌝ }
@@ -121,6 +121,9 @@ fn nothing_due(b: &[u8], time: u64) -> bool
         return false;
     }
     if !reply_rests(b, layout::REPLY, time) {
+        return false;
+    }
+    if !when_kept(b, layout::UPDATED) {
         return false;
     }
     if !none_held(b) {

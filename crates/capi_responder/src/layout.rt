@@ -26,7 +26,7 @@ pub const FLAG_SIZE: usize = 1;
 
 pub const AAAA_SIZE: usize = 16;
 
-// A number of 64 bits; and a case byte with its number: a claim, a last multicast, the reply.
+// A number of 64 bits; and a case byte with its number: a claim, a last multicast, the reply, the last update.
 pub const NUMBER_SIZE: usize = 8;
 
 pub const CASE_SIZE: usize = 1 + NUMBER_SIZE;
@@ -75,7 +75,9 @@ pub const MULTICASTS: usize = HOST_CLAIM + CASE_SIZE;
 
 pub const REPLY: usize = MULTICASTS + MULTICASTS_SIZE;
 
-pub const HOLDS: usize = REPLY + CASE_SIZE;
+pub const UPDATED: usize = REPLY + CASE_SIZE;
+
+pub const HOLDS: usize = UPDATED + CASE_SIZE;
 
 pub const DRAW: usize = HOLDS + HOLDS_SIZE;
 

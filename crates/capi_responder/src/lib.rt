@@ -1,5 +1,6 @@
 // The responder for C and Rust: start, packet received and tick on a state that the caller lends as bytes (modules `layout` and `codec`), with the answer
 // in numbers. What a state says is in `state`. c/include/kurgashel.h declares these functions.
+pub mod changes;
 pub mod codec;
 pub mod encoder;
 pub mod idle;

@@ -27,7 +27,7 @@ use Rattle.causes.specs.Plain.{isReplied}
 abbrev pub holder : State
 holder = record {
   setup = sample;
-  progress = record { instance = Held; host = Held; sent = neverSent; reply = Never; holds = noHolds; draw = 0; last = 0 };
+  progress = record { instance = Held; host = Held; sent = neverSent; reply = Never; holds = noHolds; updated = Never; draw = 0; last = 0 };
 }
 
 -- the query, and the call that is handed its packet
@@ -55,7 +55,7 @@ quQuery = queryOf 0 0x8001 59
 abbrev pub announced : State
 announced = record {
   setup = sample;
-  progress = record { instance = Held; host = Held; sent = markedAll (only A) neverSent 0; reply = Never; holds = noHolds; draw = 0; last = 0 };
+  progress = record { instance = Held; host = Held; sent = markedAll (only A) neverSent 0; reply = Never; holds = noHolds; updated = Never; draw = 0; last = 0 };
 }
 
 abbrev pub quAsked : ℕ → Arrival

@@ -26,40 +26,43 @@ use Rattle.claims.proofs.records.Sets.{every-at, every-from, sent-each}
 use Rattle.claims.proofs.Times.{after-within}
 
 -- the tests of the times that are kept, all passed
-pub record AllKept (a b c d e f : Bool) : Type 0 where
+pub record AllKept (a b c d e f g : Bool) : Type 0 where
   pub instance : a ≡ true
   pub host : b ≡ true
   pub sent : c ≡ true
   pub reply : d ≡ true
   pub holds : e ≡ true
-  pub last : f ≡ true
+  pub updated : f ≡ true
+  pub last : g ≡ true
 
 clash : {A : Type 0} → _≡_ {A = Bool} false true → A
 clash h = let z : _≡_ {A = ℕ} 0 1 = cc in absurd (omega arith)
 
-pub apart : (a b c d e f : Bool) → (a && (b && (c && (d && (e && f))))) ≡ true → AllKept a b c d e f
-apart true true true true true f h = record { instance = refl; host = refl; sent = refl; reply = refl; holds = refl; last = h }
-apart true true true true false f h = clash h
-apart true true true false e f h = clash h
-apart true true false d e f h = clash h
-apart true false c d e f h = clash h
-apart false b c d e f h = clash h
+pub apart : (a b c d e f g : Bool) → (a && (b && (c && (d && (e && (f && g)))))) ≡ true → AllKept a b c d e f g
+apart true true true true true true g h = record { instance = refl; host = refl; sent = refl; reply = refl; holds = refl; updated = refl; last = h }
+apart true true true true true false g h = clash h
+apart true true true true false f g h = clash h
+apart true true true false e f g h = clash h
+apart true true false d e f g h = clash h
+apart true false c d e f g h = clash h
+apart false b c d e f g h = clash h
 
-pub together : {a b c d e f : Bool} → AllKept a b c d e f → (a && (b && (c && (d && (e && f))))) ≡ true
-together k = simp (k .instance, k .host, k .sent, k .reply, k .holds, k .last)
+pub together : {a b c d e f g : Bool} → AllKept a b c d e f g → (a && (b && (c && (d && (e && (f && g)))))) ≡ true
+together k = simp (k .instance, k .host, k .sent, k .reply, k .holds, k .updated, k .last)
 
 module _ (most : ℕ) where
   -- the times that are kept, one by one
-  abbrev pub Parts : ClaimState → ClaimState → Multicasts → When → Holds → ℕ → Type 0
-  Parts instance host sent reply holds last =
-      AllKept (claimKept most instance) (claimKept most host) (multicastsKept most sent) (atMost most reply) (holdsKept most holds) (leb last most)
+  abbrev pub Parts : ClaimState → ClaimState → Multicasts → When → Holds → When → ℕ → Type 0
+  Parts instance host sent reply holds updated last =
+      AllKept (claimKept most instance) (claimKept most host) (multicastsKept most sent) (atMost most reply) (holdsKept most holds)
+      (atMost most updated) (leb last most)
 
   abbrev pub PartsOf : Progress → Type 0
-  PartsOf progress = Parts (progress .instance) (progress .host) (progress .sent) (progress .reply) (progress .holds) (progress .last)
+  PartsOf progress = Parts (progress .instance) (progress .host) (progress .sent) (progress .reply) (progress .holds) (progress .updated) (progress .last)
 
   pub parts : (progress : Progress) → kept most progress ≡ true → PartsOf progress
   unfolding kept
-  parts progress h = apart _ _ _ _ _ _ h
+  parts progress h = apart _ _ _ _ _ _ _ h
 
   pub whole : (progress : Progress) → PartsOf progress → kept most progress ≡ true
   unfolding kept

@@ -50,7 +50,7 @@ abbrev pub claimOf : Claim → Progress → ClaimState
 claimOf Instance progress = progress .instance
 claimOf Host progress = progress .host
 
--- "Waiting: first probe due at start plus draw." Nothing is multicast yet, no reply is set, and no query is held.
+-- "Waiting: first probe due at start plus draw." Nothing is multicast yet, no reply is set, no query is held, and nothing was updated.
 unfoldable pub begunAt : ℕ → ℕ → Progress
 begunAt now draw =
     record {
@@ -59,6 +59,7 @@ begunAt now draw =
       sent = neverSent;
       reply = Never;
       holds = noHolds;
+      updated = Never;
       draw = draw;
       last = now;
     }

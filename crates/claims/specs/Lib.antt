@@ -6,3 +6,4 @@ pub mod Refusals
 pub mod answers
 pub mod steps
 pub mod due
+pub mod changes

@@ -32,7 +32,8 @@ unfoldable pub kept : ℕ → Progress → Bool
 kept most progress =
     claimKept most (progress .instance)
     && (claimKept most (progress .host)
-    && (multicastsKept most (progress .sent) && (atMost most (progress .reply) && (holdsKept most (progress .holds) && leb (progress .last) most))))
+    && (multicastsKept most (progress .sent) && (atMost most (progress .reply)
+    && (holdsKept most (progress .holds) && (atMost most (progress .updated) && leb (progress .last) most)))))
 
 -- 1, of a start: "time above 2^62"
 abbrev pub lateStart : ℕ → Bool

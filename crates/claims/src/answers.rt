@@ -3,7 +3,7 @@
 ghost use mathlib.Core.Path.{_≡_};
 ghost use mathlib.Core.Bool.{cond, not, _&&_};
 ghost use Rattle.claims.specs.answers.Answers.{heardOf, asksOf, asksOfHold, gapOf, gapFor, isDue, isOmitted, isWanted, wantedOf, setReply, joined};
-ghost use Rattle.claims.specs.answers.Answers.{quarterTtl, isToAsker, askedBy, multicastAsks, unicastAsks, judgedOf, dueTo, plainOf};
+ghost use Rattle.claims.specs.answers.Answers.{isToAsker, askedBy, multicastAsks, unicastAsks, judgedOf, dueTo, plainOf};
 ghost use Rattle.claims.specs.answers.Held.{toHold, holdOf, heldBack, receiveOf};
 use crate::ClaimState;
 use crate::Progress;
@@ -297,6 +297,7 @@ fn judge(progress: Progress, c: Coming, f: Facts, aaaa: bool) -> Received
     let sent = progress.sent;
     let reply = progress.reply;
     let holds = progress.holds;
+    let updated = progress.updated;
     let told = f.instance;
     let toldhost = f.host;
     let now = c.now;
@@ -316,6 +317,7 @@ fn judge(progress: Progress, c: Coming, f: Facts, aaaa: bool) -> Received
                 crate::after(now, c.draw),
             ),
             holds: join(holds, c, f),
+            updated,
             draw: progress.draw,
             last: now,
         },
@@ -385,6 +387,7 @@ fn hold_back(progress: Progress, c: Coming, f: Facts) -> Received
     let sent = progress.sent;
     let reply = progress.reply;
     let holds = progress.holds;
+    let updated = progress.updated;
     Received {
         progress: Progress {
             instance,
@@ -392,6 +395,7 @@ fn hold_back(progress: Progress, c: Coming, f: Facts) -> Received
             sent,
             reply,
             holds: crate::holds::add(hold_of(c, f), holds),
+            updated,
             draw: progress.draw,
             last: c.now,
         },
@@ -434,6 +438,7 @@ pub fn plain(progress: Progress, now: u64, f: Facts, aaaa: bool) -> Received
     let sent = progress.sent;
     let reply = progress.reply;
     let holds = progress.holds;
+    let updated = progress.updated;
     Received {
         progress: Progress {
             instance,
@@ -441,6 +446,7 @@ pub fn plain(progress: Progress, now: u64, f: Facts, aaaa: bool) -> Received
             sent,
             reply,
             holds,
+            updated,
             draw: progress.draw,
             last: now,
         },

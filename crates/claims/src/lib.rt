@@ -1,7 +1,8 @@
 // The life of the two claims on numbers alone (specification, 'A claim's life'): start, and the claim after a conflict or a probe. The claims and the own
-// records are in `records`, a tick in `steps`, what a message received does in `answers`, and the refusals that are tests on times and draws in
-// `refusal_tests`.
+// records are in `records`, a tick in `steps`, what a message received does in `answers`, a stop and an update in `changes`, and the refusals that are tests on
+// times and draws in `refusal_tests`.
 pub mod answers;
+pub mod changes;
 pub mod due;
 pub mod holds;
 pub mod records;
@@ -52,14 +53,15 @@ pub struct Multicasts {
     pub of: [Multicast; RECORDS],
 }
 
-// All that changes in a responder: the states of its claims, the last multicasts, when the PTR reply that a query asked for is due, the held queries, the start
-// draw, and the time of the last call.
+// All that changes in a responder but for its data: the states of its claims, the last multicasts, when the PTR reply that a query asked for is due, the held
+// queries, the time of the last update, the start draw, and the time of the last call.
 pub struct Progress {
     pub instance: ClaimState,
     pub host: ClaimState,
     pub sent: Multicasts,
     pub reply: When,
     pub holds: Holds,
+    pub updated: When,
     pub draw: u64,
     pub last: u64,
 }
@@ -192,6 +194,7 @@ pub fn start(now: u64, draw: u64) -> Progress
         sent: never_sent(),
         reply: When::Never,
         holds: crate::holds::no_holds(),
+        updated: When::Never,
         draw,
         last: now,
     }

@@ -67,15 +67,17 @@ fn holds_kept(holds: Holds, most: u64) -> bool
     false
 }
 
-// Do all six hold?
-fn all_six(a: bool, b: bool, c: bool, d: bool, e: bool, f: bool) -> bool
-    ensures { λ r. ⌜ r ≡ a && (b && (c && (d && (e && f)))) ⌝ }
+// Do all seven hold?
+fn all_seven(a: bool, b: bool, c: bool, d: bool, e: bool, f: bool, g: bool) -> bool
+    ensures { λ r. ⌜ r ≡ a && (b && (c && (d && (e && (f && g))))) ⌝ }
 {
     if a {
         if b {
             if c {
                 if d {
-                    return e && f;
+                    if e {
+                        return f && g;
+                    }
                 }
             }
         }
@@ -92,13 +94,15 @@ fn is_kept(progress: Progress, most: u64) -> bool
     let sent = progress.sent;
     let reply = progress.reply;
     let holds = progress.holds;
+    let updated = progress.updated;
     let last = progress.last;
-    all_six(
+    all_seven(
         claim_kept(instance, most),
         claim_kept(host, most),
         multicasts_kept(sent, most),
         crate::is_within(reply, most),
         holds_kept(holds, most),
+        crate::is_within(updated, most),
         last <= most,
     )
 }

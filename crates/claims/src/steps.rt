@@ -18,7 +18,7 @@ use crate::records::Set;
 // The first probe is followed by two more, and each probe by the next step, after 250 ms; the first announcement by the second after 1,000 ms.
 const PROBE_GAP: u64 = 250;
 
-const ANNOUNCEMENT_GAP: u64 = 1000;
+pub const ANNOUNCEMENT_GAP: u64 = 1000;
 
 // The steps of a tick: of each claim, of the PTR reply, and of each held query.
 pub enum Step {
@@ -170,6 +170,7 @@ fn with_claim(claim: Claim, c: ClaimState, progress: Progress) -> Progress
     let sent = progress.sent;
     let reply = progress.reply;
     let holds = progress.holds;
+    let updated = progress.updated;
     match claim {
         Claim::Instance => Progress {
             instance: c,
@@ -177,6 +178,7 @@ fn with_claim(claim: Claim, c: ClaimState, progress: Progress) -> Progress
             sent,
             reply,
             holds,
+            updated,
             draw: progress.draw,
             last: progress.last,
         },
@@ -186,6 +188,7 @@ fn with_claim(claim: Claim, c: ClaimState, progress: Progress) -> Progress
             sent,
             reply,
             holds,
+            updated,
             draw: progress.draw,
             last: progress.last,
         },
@@ -199,12 +202,14 @@ fn with_sent(sent: Multicasts, progress: Progress) -> Progress
     let host = progress.host;
     let reply = progress.reply;
     let holds = progress.holds;
+    let updated = progress.updated;
     Progress {
         instance,
         host,
         sent,
         reply,
         holds,
+        updated,
         draw: progress.draw,
         last: progress.last,
     }
@@ -217,12 +222,14 @@ fn without_reply(progress: Progress) -> Progress
     let host = progress.host;
     let sent = progress.sent;
     let holds = progress.holds;
+    let updated = progress.updated;
     Progress {
         instance,
         host,
         sent,
         reply: When::Never,
         holds,
+        updated,
         draw: progress.draw,
         last: progress.last,
     }
@@ -315,12 +322,14 @@ fn without_hold(place: Place, progress: Progress) -> Progress
     let sent = progress.sent;
     let reply = progress.reply;
     let holds = progress.holds;
+    let updated = progress.updated;
     Progress {
         instance,
         host,
         sent,
         reply,
         holds: crate::holds::with_hold(place, crate::holds::no_hold(), holds),
+        updated,
         draw: progress.draw,
         last: progress.last,
     }
@@ -401,6 +410,7 @@ fn ended(t: Turn, now: u64) -> Ticked
     let sent = progress.sent;
     let reply = progress.reply;
     let holds = progress.holds;
+    let updated = progress.updated;
     Ticked {
         progress: Progress {
             instance,
@@ -408,6 +418,7 @@ fn ended(t: Turn, now: u64) -> Ticked
             sent,
             reply,
             holds,
+            updated,
             draw: progress.draw,
             last: now,
         },

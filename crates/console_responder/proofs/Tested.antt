@@ -5,14 +5,14 @@ use mathlib.Core.Bool.{Bool, true, false}
 use Prim.Native.Nat.{ℕ, _+_, _≤_, _<_}
 use native.Mathlib.Omega.{arith}
 use lib.ListN.{length}
-use lib.Dec.{ltb, eqb}
+use lib.Dec.{leb, ltb, eqb}
 use borrow.Author.Tests.{lt-ltb, le-ltb}
 use Rattle.wire.specs.expansion.Equal.{sameBytes}
 use Rattle.console_text.specs.hex.Bytes.{bytesOf, isBytes}
 use Rattle.console_text.specs.lines.Fields.{fieldsOf}
 use Rattle.console_text.specs.fields.Numbers.{fieldAt, isNumberAt, numberAt}
 use Rattle.console_text.specs.fields.Forms.{argumentsOf, hasArguments, areBytesAt}
-use Rattle.console_responder.specs.Forms.{startWord, recvWord, tickWord, claimsWord, holdsWord, outWord, unicastWord, isResponderCall, isBytesOf, isAaaa, isAddress, areNames, areNumbers, isStart, isNumberOrMissing, isRecv, isTick, lentBy}
+use Rattle.console_responder.specs.Forms.{startWord, recvWord, tickWord, stopWord, updateWord, txtWord, claimsWord, holdsWord, outWord, unicastWord, isResponderCall, isBytesOf, isAaaa, isAddress, areNames, areNumbers, isStart, isNumberOrMissing, isRecv, isTick, isPort, isData, isUpdate, lentBy}
 
 -- how many fields follow the first, against a bound
 module _ (line : List ℕ) (r n : ℕ) (e : r + 1 ≡ length (fieldsOf line)) where
@@ -87,23 +87,37 @@ module _ (word : List ℕ) where
   unfolding isResponderCall
   word-3 h0 h1 h = simp (h0, h1, h)
 
-  pub word-4 : sameBytes word startWord ≡ false → sameBytes word recvWord ≡ false → sameBytes word tickWord ≡ false → sameBytes word claimsWord ≡ true → true ≡ isResponderCall word
+  pub word-4 : sameBytes word startWord ≡ false → sameBytes word recvWord ≡ false → sameBytes word tickWord ≡ false → sameBytes word stopWord ≡ true
+      → true ≡ isResponderCall word
   unfolding isResponderCall
   word-4 h0 h1 h2 h = simp (h0, h1, h2, h)
 
-  pub word-5 : sameBytes word startWord ≡ false → sameBytes word recvWord ≡ false → sameBytes word tickWord ≡ false → sameBytes word claimsWord ≡ false → sameBytes word holdsWord ≡ true → true ≡ isResponderCall word
+  pub word-5 : sameBytes word startWord ≡ false → sameBytes word recvWord ≡ false → sameBytes word tickWord ≡ false → sameBytes word stopWord ≡ false
+      → sameBytes word updateWord ≡ true → true ≡ isResponderCall word
   unfolding isResponderCall
   word-5 h0 h1 h2 h3 h = simp (h0, h1, h2, h3, h)
 
-  pub word-6 : sameBytes word startWord ≡ false → sameBytes word recvWord ≡ false → sameBytes word tickWord ≡ false → sameBytes word claimsWord ≡ false
-      → sameBytes word holdsWord ≡ false → sameBytes word outWord ≡ true → true ≡ isResponderCall word
+  pub word-6 : sameBytes word startWord ≡ false → sameBytes word recvWord ≡ false → sameBytes word tickWord ≡ false → sameBytes word stopWord ≡ false
+      → sameBytes word updateWord ≡ false → sameBytes word claimsWord ≡ true → true ≡ isResponderCall word
   unfolding isResponderCall
   word-6 h0 h1 h2 h3 h4 h = simp (h0, h1, h2, h3, h4, h)
 
-  pub word-7 : sameBytes word startWord ≡ false → sameBytes word recvWord ≡ false → sameBytes word tickWord ≡ false → sameBytes word claimsWord ≡ false
-      → sameBytes word holdsWord ≡ false → sameBytes word outWord ≡ false → (r : Bool) → r ≡ sameBytes word unicastWord → r ≡ isResponderCall word
+  pub word-7 : sameBytes word startWord ≡ false → sameBytes word recvWord ≡ false → sameBytes word tickWord ≡ false → sameBytes word stopWord ≡ false
+      → sameBytes word updateWord ≡ false → sameBytes word claimsWord ≡ false → sameBytes word holdsWord ≡ true → true ≡ isResponderCall word
   unfolding isResponderCall
-  word-7 h0 h1 h2 h3 h4 h5 r e = e ∙ sym (simp (h0, h1, h2, h3, h4, h5))
+  word-7 h0 h1 h2 h3 h4 h5 h = simp (h0, h1, h2, h3, h4, h5, h)
+
+  pub word-8 : sameBytes word startWord ≡ false → sameBytes word recvWord ≡ false → sameBytes word tickWord ≡ false → sameBytes word stopWord ≡ false
+      → sameBytes word updateWord ≡ false → sameBytes word claimsWord ≡ false → sameBytes word holdsWord ≡ false → sameBytes word outWord ≡ true
+      → true ≡ isResponderCall word
+  unfolding isResponderCall
+  word-8 h0 h1 h2 h3 h4 h5 h6 h = simp (h0, h1, h2, h3, h4, h5, h6, h)
+
+  pub word-9 : sameBytes word startWord ≡ false → sameBytes word recvWord ≡ false → sameBytes word tickWord ≡ false → sameBytes word stopWord ≡ false
+      → sameBytes word updateWord ≡ false → sameBytes word claimsWord ≡ false → sameBytes word holdsWord ≡ false → sameBytes word outWord ≡ false
+      → (r : Bool) → r ≡ sameBytes word unicastWord → r ≡ isResponderCall word
+  unfolding isResponderCall
+  word-9 h0 h1 h2 h3 h4 h5 h6 h7 r e = e ∙ sym (simp (h0, h1, h2, h3, h4, h5, h6, h7))
 
 -- the fields of labels and strings
 module _ (line : List ℕ) where
@@ -233,3 +247,47 @@ module _ (line : List ℕ) where
   pub tick-4 : ltb (argumentsOf line) 1 ≡ false → ltb 2 (argumentsOf line) ≡ false → isNumberAt line 1 ≡ true → (r : Bool) → r ≡ isNumberOrMissing line 2 → r ≡ isTick line
   unfolding isTick
   tick-4 h0 h1 h2 r e = e ∙ sym (simp (h0, h1, h2))
+
+-- the new data of `update`
+module _ (line : List ℕ) where
+  module _ (p : isPort line ≡ true) where
+    pub data-1 : isNumberAt line 3 ≡ false → false ≡ isData line
+    unfolding isData
+    data-1 h = simp (p, h)
+
+    pub data-2 : isNumberAt line 3 ≡ true → (n : ℕ) → n ≡ numberAt line 3 → leb n 65535 ≡ isData line
+    unfolding isData
+    data-2 h n e = ap (λ (m : ℕ). leb m 65535) e ∙ sym (simp (p, h))
+
+  module _ (p : isPort line ≡ false) where
+    pub data-3 : sameBytes (fieldAt line 2) txtWord ≡ false → false ≡ isData line
+    unfolding isData
+    data-3 h = simp (p, h)
+
+    pub data-4 : sameBytes (fieldAt line 2) txtWord ≡ true → (r : Bool) → r ≡ areBytesAt line 3 → r ≡ isData line
+    unfolding isData
+    data-4 h r e = e ∙ sym (simp (p, h))
+
+-- the form of `update`
+module _ (line : List ℕ) where
+  pub update-1 : ltb (argumentsOf line) 3 ≡ true → false ≡ isUpdate line
+  unfolding isUpdate
+  update-1 h = simp h
+
+  module _ (h0 : ltb (argumentsOf line) 3 ≡ false) where
+    pub update-2 : ltb 4 (argumentsOf line) ≡ true → false ≡ isUpdate line
+    unfolding isUpdate
+    update-2 h = simp (h0, h)
+
+    module _ (h1 : ltb 4 (argumentsOf line) ≡ false) where
+      pub update-3 : isNumberAt line 1 ≡ false → false ≡ isUpdate line
+      unfolding isUpdate
+      update-3 h = simp (h0, h1, h)
+
+      pub update-4 : isNumberAt line 1 ≡ true → isData line ≡ false → false ≡ isUpdate line
+      unfolding isUpdate
+      update-4 h2 h = simp (h0, h1, h2, h)
+
+      pub update-5 : isNumberAt line 1 ≡ true → isData line ≡ true → (r : Bool) → r ≡ isNumberOrMissing line 4 → r ≡ isUpdate line
+      unfolding isUpdate
+      update-5 h2 h3 r e = e ∙ sym (simp (h0, h1, h2, h3))

@@ -6,7 +6,7 @@ use mathlib.Core.List.{List, [], _∷_}
 use mathlib.Core.Bool.{Bool, true, cond, not, _&&_, _||_}
 use lib.ListN.{length, replicate}
 use lib.Seq.{sets}
-use lib.Dec.{ltb, eqb}
+use lib.Dec.{ltb, leb, eqb}
 use Rattle.wire.specs.expansion.Equal.{sameBytes}
 use Rattle.own.specs.declared.records.Label.{Label}
 use Rattle.own.specs.declared.records.Service.{Service}
@@ -16,7 +16,7 @@ use Rattle.console_text.specs.hex.Bytes.{bytesOf, isBytes}
 use Rattle.console_text.specs.fields.Numbers.{fieldAt, isNumberAt, numberAt, number16At}
 use Rattle.console_text.specs.fields.Forms.{argumentsOf, hasArguments, areBytesAt}
 
--- the words `start`, `recv`, `tick`, `claims`, `holds`, `out` and `unicast`
+-- the words `start`, `recv`, `tick`, `stop`, `update`, `claims`, `holds`, `out` and `unicast`, and those of an update, `port` and `txt`
 abbrev pub startWord : List ℕ
 startWord = 115 ∷ (116 ∷ (97 ∷ (114 ∷ (116 ∷ []))))
 
@@ -25,6 +25,18 @@ recvWord = 114 ∷ (101 ∷ (99 ∷ (118 ∷ [])))
 
 abbrev pub tickWord : List ℕ
 tickWord = 116 ∷ (105 ∷ (99 ∷ (107 ∷ [])))
+
+abbrev pub stopWord : List ℕ
+stopWord = 115 ∷ (116 ∷ (111 ∷ (112 ∷ [])))
+
+abbrev pub updateWord : List ℕ
+updateWord = 117 ∷ (112 ∷ (100 ∷ (97 ∷ (116 ∷ (101 ∷ [])))))
+
+abbrev pub portWord : List ℕ
+portWord = 112 ∷ (111 ∷ (114 ∷ (116 ∷ [])))
+
+abbrev pub txtWord : List ℕ
+txtWord = 116 ∷ (120 ∷ (116 ∷ []))
 
 abbrev pub claimsWord : List ℕ
 claimsWord = 99 ∷ (108 ∷ (97 ∷ (105 ∷ (109 ∷ (115 ∷ [])))))
@@ -41,8 +53,8 @@ unicastWord = 117 ∷ (110 ∷ (105 ∷ (99 ∷ (97 ∷ (115 ∷ (116 ∷ []))))
 -- a word is one of these calls
 unfoldable pub isResponderCall : List ℕ → Bool
 isResponderCall word =
-    sameBytes word startWord || (sameBytes word recvWord || (sameBytes word tickWord || (sameBytes word claimsWord
-    || (sameBytes word holdsWord || (sameBytes word outWord || sameBytes word unicastWord)))))
+    sameBytes word startWord || (sameBytes word recvWord || (sameBytes word tickWord || (sameBytes word stopWord || (sameBytes word updateWord
+    || (sameBytes word claimsWord || (sameBytes word holdsWord || (sameBytes word outWord || sameBytes word unicastWord)))))))
 
 -- ---- a set-up
 
@@ -117,6 +129,17 @@ isRecv line =
 
 unfoldable pub isTick : List ℕ → Bool
 isTick line = not (ltb (argumentsOf line) 1) && (not (ltb 2 (argumentsOf line)) && (isNumberAt line 1 && isNumberOrMissing line 2))
+
+-- `update NOW port PORT` or `update NOW txt TXT`, each with OUT or without: the word says what is new
+unfoldable pub isPort : List ℕ → Bool
+isPort line = sameBytes (fieldAt line 2) portWord
+
+unfoldable pub isData : List ℕ → Bool
+isData line = cond (isPort line) (isNumberAt line 3 && leb (numberAt line 3) 65535) (sameBytes (fieldAt line 2) txtWord && areBytesAt line 3)
+
+unfoldable pub isUpdate : List ℕ → Bool
+isUpdate line =
+    not (ltb (argumentsOf line) 3) && (not (ltb 4 (argumentsOf line)) && (isNumberAt line 1 && (isData line && isNumberOrMissing line 4)))
 
 -- how many bytes of an out buffer a line lends: 1,452 where it does not say
 unfoldable pub lentBy : List ℕ → ℕ → ℕ

@@ -1,5 +1,5 @@
 -- What a line makes of the console's responder and of its out buffers: `start` puts another responder in its place, `recv` calls it over the first bytes of both
--- buffers, `tick` over those of the first, and every other line leaves all. Assumes nothing: these are definitions.
+-- buffers, `tick`, `stop` and `update` over those of the first, and every other line leaves all. Assumes nothing: these are definitions.
 use Prim.Native.Nat.{ℕ}
 use mathlib.Core.List.{List, [], _++_}
 use mathlib.Core.Bool.{cond, _&&_}
@@ -9,13 +9,15 @@ use Rattle.writer.specs.own_packets.Own.{laidOver}
 use Rattle.responder.specs.Handed.{Arrival, Tick}
 use Rattle.responder.specs.address.Address.{addressOf}
 use Rattle.responder.specs.Calls.{startOf, receiveOf, receivedPacket, unicastPacket, tickOf, tickedPacket}
+use Rattle.own.specs.changes.Changes.{NewData, newPort, newTxt}
+use Rattle.responder.specs.changes.Changes.{stopOf, stoppedPacket, Update, updateOf, updatedPacket}
 use Rattle.responder.specs.declared.State.{State}
 use Rattle.responder.specs.declared.Answer.{Answer}
 use Rattle.responder.specs.declared.Answer.the-variants.{Refused, Quiet, Sent, Unicast, Both}
 use Rattle.responder.specs.declared.Started.{Started}
 use Rattle.console_text.specs.fields.Numbers.{numberAt, number16At}
 use Rattle.console_text.specs.fields.Forms.{isWord, bytesIn}
-use Rattle.console_responder.specs.Forms.{startWord, recvWord, tickWord, setupTold, isStart, isRecv, isTick, lentBy}
+use Rattle.console_responder.specs.Forms.{startWord, recvWord, tickWord, stopWord, updateWord, setupTold, isStart, isRecv, isTick, isPort, isUpdate, lentBy}
 
 -- the responder's state and the out buffers, for what goes to all and for what goes to the asker
 pub record Responder : Type 0 where
@@ -80,6 +82,27 @@ ticked r time n = record {
   unicast = r .unicast;
 }
 
+abbrev pub stopped : Responder → ℕ → ℕ → Responder
+stopped r time n = record {
+  state = stopOf (r .state) (tickAt time n) .state;
+  out = lentOver n (stoppedPacket (r .state) (tickAt time n)) (r .out);
+  unicast = r .unicast;
+}
+
+-- what an update is handed, and the new data that a line tells: TXT has at most 20,000 bytes
+abbrev pub updateAt : ℕ → ℕ → NewData → Update
+updateAt time n new = record { time = time; room = n; new = new }
+
+unfoldable pub newTold : List ℕ → NewData
+newTold line = cond (isPort line) (newPort (number16At line 3)) (newTxt (bytesIn 20000 line 3))
+
+abbrev pub updated : Responder → ℕ → ℕ → NewData → Responder
+updated r time n new = record {
+  state = updateOf (r .state) (updateAt time n new) .state;
+  out = lentOver n (updatedPacket (r .state) (updateAt time n new)) (r .out);
+  unicast = r .unicast;
+}
+
 -- A line that would lend more than there is changes nothing.
 unfoldable pub afterRecv : List ℕ → Responder → Responder
 afterRecv line r =
@@ -88,8 +111,17 @@ afterRecv line r =
 unfoldable pub afterTick : List ℕ → Responder → Responder
 afterTick line r = cond (isTick line && leb (lentBy line 2) (length (r .out))) (ticked r (numberAt line 1) (lentBy line 2)) r
 
+unfoldable pub afterStop : List ℕ → Responder → Responder
+afterStop line r = cond (isTick line && leb (lentBy line 2) (length (r .out))) (stopped r (numberAt line 1) (lentBy line 2)) r
+
+unfoldable pub afterUpdate : List ℕ → Responder → Responder
+afterUpdate line r = cond (isUpdate line && leb (lentBy line 4) (length (r .out))) (updated r (numberAt line 1) (lentBy line 4) (newTold line)) r
+
 -- the responder after a line, by its first word
 unfoldable pub responderAfter : List ℕ → Responder → Responder
 responderAfter line r =
     cond (isWord startWord line) (having (afterStart line (r .state)) (r .out) (r .unicast))
-    (cond (isWord recvWord line) (afterRecv line r) (cond (isWord tickWord line) (afterTick line r) r))
+    (cond (isWord recvWord line) (afterRecv line r)
+    (cond (isWord tickWord line) (afterTick line r)
+    (cond (isWord stopWord line) (afterStop line r)
+    (cond (isWord updateWord line) (afterUpdate line r) r))))

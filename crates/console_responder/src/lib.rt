@@ -1,5 +1,7 @@
-// The console's calls on the responder: `start`, `recv`, `tick`, `claims`, `holds`, `out` and `unicast`. The responder's state goes by value, the out buffers are
-// lent: one for what goes to all, one for what goes to the asker. What they are after a line is promised; what is written no contract can say.
+// The console's calls on the responder: `start`, `recv`, `tick`, `stop`, `update`, `claims`, `holds`, `out` and `unicast`. The responder's state goes by
+// value, the out buffers are lent: one for what goes to all, one for what goes to the asker. What they are after a line is promised; what is written no
+// contract can say.
+mod changing;
 mod sending;
 mod setup;
 mod showing;
@@ -30,6 +32,12 @@ pub fn is_call(word: &[u8]) -> bool
     if wire::expansion::same_bytes(word, b"tick") {
         return true;
     }
+    if wire::expansion::same_bytes(word, b"stop") {
+        return true;
+    }
+    if wire::expansion::same_bytes(word, b"update") {
+        return true;
+    }
     if wire::expansion::same_bytes(word, b"claims") {
         return true;
     }
@@ -52,7 +60,8 @@ pub fn call(
 ) -> State
     ensures state { λ r. ⌜ r ≡ responderAfter (now (line .entry)) (having held (now (out .entry)) (now (unicast .entry))) .state ⌝ }
     ensures out { λ _. ⌜ now (out .exit) ≡ responderAfter (now (line .entry)) (having held (now (out .entry)) (now (unicast .entry))) .out ⌝ }
-    ensures unicast { λ _. ⌜ now (unicast .exit) ≡ responderAfter (now (line .entry)) (having held (now (out .entry)) (now (unicast .entry))) .unicast ⌝ }
+    ensures unicast { λ _. ⌜ now (unicast .exit)
+        ≡ responderAfter (now (line .entry)) (having held (now (out .entry)) (now (unicast .entry))) .unicast ⌝ }
 {
     let word = console_text::lines::field(line, 0);
     if wire::expansion::same_bytes(word, b"start") {
@@ -63,6 +72,12 @@ pub fn call(
     }
     if wire::expansion::same_bytes(word, b"tick") {
         return sending::tick(line, held, out, text);
+    }
+    if wire::expansion::same_bytes(word, b"stop") {
+        return changing::stop(line, held, out, text);
+    }
+    if wire::expansion::same_bytes(word, b"update") {
+        return changing::update(line, held, out, text);
     }
     if wire::expansion::same_bytes(word, b"claims") {
         showing::claims(line, held, text);

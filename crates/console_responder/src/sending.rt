@@ -1,18 +1,12 @@
 // The calls by which the responder goes on, each with the state after it: `recv NOW FROM PORT DRAW HOLD PACKET` and `tick NOW`, both with OUT, the length of
 // the part of the out buffer that is lent, or without; behind it `recv` may have UNICAST, that of the second out buffer. What they send is shown.
+use crate::showing::shown;
 use claims::holds::Address;
 use console_calls::output::bad_line;
-use console_calls::output::bytes;
-use console_calls::output::finish;
-use console_calls::output::first;
-use console_calls::output::only;
-use console_calls::output::refused;
-use console_calls::output::word;
 use console_text::fields::are_bytes;
 use console_text::fields::is_number;
 use console_text::fields::number;
 use console_text::fields::number_of_16;
-use responder::Answer;
 use responder::Received;
 use responder::State;
 use responder::Ticked;
@@ -30,7 +24,7 @@ ghost use Rattle.console_responder.specs.Lines.{Responder, having, recei
 const USUAL_OUT: usize = writer::own_packets::LEAST_OUT;
 
 // Whether the last field of a line, which may be missing, is a number.
-fn is_number_or_missing(line: &[u8], index: usize) -> bool
+pub fn is_number_or_missing(line: &[u8], index: usize) -> bool
     ensures { λ r. ⌜ r ≡ isNumberOrMissing (now (line .entry)) index ⌝ }
 {
     if console_text::lines::arguments(line) < index {
@@ -40,56 +34,13 @@ fn is_number_or_missing(line: &[u8], index: usize) -> bool
 }
 
 // How many bytes of an out buffer a line asks to lend.
-fn lent(line: &[u8], index: usize) -> usize
+pub fn lent(line: &[u8], index: usize) -> usize
     ensures { λ r. ⌜ r ≡ lentBy (now (line .entry)) index ⌝ }
 {
     if console_text::lines::arguments(line) < index {
         return USUAL_OUT;
     }
     number(line, index) as usize
-}
-
-// Shows the packet that goes to where the message came from.
-fn replied(packet: &[u8], text: &mut [u8; 4096]) {
-    let used = first(text, b"unicast");
-    let used = bytes(text, used, packet);
-    finish(text, used);
-}
-
-// Shows the packet that was sent, and whether more is due.
-fn sent(packet: &[u8], more: bool, text: &mut [u8; 4096]) {
-    let used = first(text, b"sent");
-    let used = bytes(text, used, packet);
-    if more {
-        let used = word(text, used, b"more");
-        finish(text, used);
-        return;
-    }
-    finish(text, used);
-}
-
-// Shows both packets: the one that goes to all, and the one that goes to where the message came from.
-fn sent_and_replied(to_all: &[u8], to_asker: &[u8], text: &mut [u8; 4096]) {
-    let used = first(text, b"sent");
-    let used = bytes(text, used, to_all);
-    let used = word(text, used, b"unicast");
-    let used = bytes(text, used, to_asker);
-    finish(text, used);
-}
-
-// The answer of a call that may send what stands at the start of the out buffers.
-fn shown(answer: Answer, more: bool, out: &[u8], unicast: &[u8], text: &mut [u8; 4096]) {
-    match answer {
-        Answer::Refused(n) => refused(text, n as u64),
-        Answer::Quiet => only(text, b"quiet"),
-        Answer::Sent(n) => sent(console_text::lines::front(out, n), more, text),
-        Answer::Unicast(m) => replied(console_text::lines::front(unicast, m), text),
-        Answer::Both(n, m) => sent_and_replied(
-            console_text::lines::front(out, n),
-            console_text::lines::front(unicast, m),
-            text,
-        ),
-    }
 }
 
 // Takes a packet over the first bytes of the out buffers, `n` of the one and `m` of the other.
@@ -246,7 +197,7 @@ pub fn recv(
 }
 
 // Whether a line is of the form of `tick`.
-fn is_tick(line: &[u8]) -> bool
+pub fn is_tick(line: &[u8]) -> bool
     ensures { λ r. ⌜ r ≡ isTick (now (line .entry)) ⌝ }
 {
     if console_text::lines::arguments(line) < 1 {

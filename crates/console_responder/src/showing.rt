@@ -1,5 +1,5 @@
-// The calls that only show what is held: `claims`, the times and states of the responder; `holds`, its held queries; and `out AT LEN` and `unicast AT LEN`, a
-// part of an out buffer.
+// What calls show: what they send; and the calls that only show what is held: `claims`, the times and states of the responder; `holds`, its held queries; and
+// `out AT LEN` and `unicast AT LEN`, a part of an out buffer.
 use claims::ClaimState;
 use claims::When;
 use claims::holds::Address;
@@ -10,10 +10,55 @@ use console_calls::output::bytes;
 use console_calls::output::finish;
 use console_calls::output::first;
 use console_calls::output::only;
+use console_calls::output::refused;
 use console_calls::output::word;
 use console_text::fields::is_number;
 use console_text::fields::number;
+use responder::Answer;
 use responder::State;
+
+// Shows the packet that goes to where the message came from.
+fn replied(packet: &[u8], text: &mut [u8; 4096]) {
+    let used = first(text, b"unicast");
+    let used = bytes(text, used, packet);
+    finish(text, used);
+}
+
+// Shows the packet that was sent, and whether more is due.
+fn sent(packet: &[u8], more: bool, text: &mut [u8; 4096]) {
+    let used = first(text, b"sent");
+    let used = bytes(text, used, packet);
+    if more {
+        let used = word(text, used, b"more");
+        finish(text, used);
+        return;
+    }
+    finish(text, used);
+}
+
+// Shows both packets: the one that goes to all, and the one that goes to where the message came from.
+fn sent_and_replied(to_all: &[u8], to_asker: &[u8], text: &mut [u8; 4096]) {
+    let used = first(text, b"sent");
+    let used = bytes(text, used, to_all);
+    let used = word(text, used, b"unicast");
+    let used = bytes(text, used, to_asker);
+    finish(text, used);
+}
+
+// The answer of a call that may send what stands at the start of the out buffers.
+pub fn shown(answer: Answer, more: bool, out: &[u8], unicast: &[u8], text: &mut [u8; 4096]) {
+    match answer {
+        Answer::Refused(n) => refused(text, n as u64),
+        Answer::Quiet => only(text, b"quiet"),
+        Answer::Sent(n) => sent(console_text::lines::front(out, n), more, text),
+        Answer::Unicast(m) => replied(console_text::lines::front(unicast, m), text),
+        Answer::Both(n, m) => sent_and_replied(
+            console_text::lines::front(out, n),
+            console_text::lines::front(unicast, m),
+            text,
+        ),
+    }
+}
 
 // Begins an answer with a number.
 fn first_number(text: &mut [u8; 4096], n: u64) -> usize {
@@ -48,15 +93,15 @@ fn claim(text: &mut [u8; 4096], used: usize, c: ClaimState) -> usize {
     }
 }
 
-// Adds the PTR reply: ` reply DUE`.
-fn reply(text: &mut [u8; 4096], used: usize, r: When) -> usize {
-    match r {
-        When::At(due) => timed(text, used, b"reply", due),
-        When::Never => untimed(text, used, b"reply"),
+// Adds a time that is set or not, behind its word: the PTR reply, ` reply DUE`, or the last update, ` updated TIME`.
+fn when(text: &mut [u8; 4096], used: usize, name: &[u8], w: When) -> usize {
+    match w {
+        When::At(time) => timed(text, used, name, time),
+        When::Never => untimed(text, used, name),
     }
 }
 
-// `claims`: `LAST instance STATE DUE host STATE DUE reply DUE`
+// `claims`: `LAST instance STATE DUE host STATE DUE reply DUE updated TIME`
 pub fn claims(line: &[u8], held: State, text: &mut [u8; 4096]) {
     if console_text::lines::arguments(line) != 0 {
         return bad_line(text);
@@ -65,12 +110,14 @@ pub fn claims(line: &[u8], held: State, text: &mut [u8; 4096]) {
     let instance = progress.instance;
     let host = progress.host;
     let due = progress.reply;
+    let updated = progress.updated;
     let used = first_number(text, progress.last);
     let used = word(text, used, b"instance");
     let used = claim(text, used, instance);
     let used = word(text, used, b"host");
     let used = claim(text, used, host);
-    let used = reply(text, used, due);
+    let used = when(text, used, b"reply", due);
+    let used = when(text, used, b"updated", updated);
     finish(text, used);
 }
 

@@ -15,7 +15,11 @@ use Rattle.responder.specs.Handed.{Arrival, Tick}
 use Rattle.responder.specs.Refusals.{startRefusal, receiveRefusal, tickRefusal}
 use Rattle.responder.specs.Calls as calls
 use Rattle.responder.specs.Calls.{refusalOf, lengthOf, unicastLengthOf, answerOf, startState, startOf, receivedPacket, unicastPacket, receiveOf, tickedPacket, tickOf}
-use Rattle.responder.specs.Runs.{Call, received, ticked, refusalOfCall, answerTo, stateAfter, packetOf, unicastOf}
+use Rattle.responder.specs.Runs.{Call, received, ticked, stopped, updated, answerTo, stateAfter, packetOf}
+use Rattle.responder.specs.changes.Changes as changes
+use Rattle.responder.specs.changes.Changes.{stoppedPacket, stopOf, Update, refusalTo, packetTo, updateTo, updateRefusal, updatedPacket, updateOf}
+use Rattle.responder.specs.declared.changes.Stopped.{Stopped}
+use Rattle.responder.specs.declared.changes.Updated.{Updated}
 use Rattle.responder.specs.declared.State.{State}
 use Rattle.responder.specs.declared.Started.{Started}
 use Rattle.responder.specs.declared.Received.{Received}
@@ -28,9 +32,9 @@ use Rattle.capi_responder.specs.Exported.{setupFor, started, startedState, Star
 use Rattle.link.specs.Responder as link
 use Rattle.link.specs.Responder.{Parcel, everyone}
 use Rattle.link.specs.Entries.{returned}
-use Rattle.uniqueness.specs.Responder.{sends, backTo, sentFor, begunBy, answeredBy, start, tick, receive, responder}
+use Rattle.uniqueness.specs.Responder.{sends, backTo, sentFor, begunBy, answeredBy, start, tick, receive, stop, update, responder}
 use Rattle.uniqueness.proofs.Calls.{accepted-with}
-use Rattle.demand3.specs.Seen.{begunAs, Answers, Ticks, Receives}
+use Rattle.demand3.specs.Seen.{begunAs, Answers, Calls, Receives}
 
 positive : (n : ℕ) → eqb (suc n) 0 ≡ false
 positive n = ne-eqb (suc n) 0 (λ e. absurd (omega arith))
@@ -61,22 +65,32 @@ shown x (suc n) p q y ps keeps =
     record { seen = e ∙ rw (positive n) refl; next = ap (returned responder x) e ∙ sym (keeps (positive n)) }
 
 -- the record's answer to a call, and what it sends
-abbrev answered : State → Call → link.Answer State
+abbrev pub answered : State → Call → link.Answer State
 answered x (received a) = responder .receive x a
 answered x (ticked t) = responder .tick x t
+answered x (stopped t) = responder .stop x t
+answered x (updated u) = responder .update x u
 
-abbrev sentBy : State → Call → List Parcel
+abbrev pub sentBy : State → Call → List Parcel
 sentBy x (received a) = sentFor x a
 sentBy x (ticked t) = sends everyone (tickedPacket x t)
+sentBy x (stopped t) = sends everyone (stoppedPacket x t)
+sentBy x (updated u) = sends everyone (updatedPacket x u)
 
 call-as : (x : State) (c : Call) → Answers (answered x c) x (refusalOf (answerTo x c)) (stateAfter x c) (sentBy x c)
-unfolding receive receiveOf tick tickOf
+unfolding receive receiveOf tick tickOf stop stopOf update updateOf updateTo updateRefusal updatedPacket
 call-as x (received a) =
     subst (λ (n : ℕ). Answers (receive x a) x n (receiveOf x a .state) (sentFor x a)) (sym (call-number x (received a)))
     (shown x (receiveRefusal x a) (receivedPacket x a) (unicastPacket x a) (receiveOf x a .state) (sentFor x a) (λ h. refused-keeps x (received a) h .0))
 call-as x (ticked t) =
     subst (λ (n : ℕ). Answers (tick x t) x n (tickOf x t .state) (sends everyone (tickedPacket x t))) (sym (call-number x (ticked t)))
     (shown x (tickRefusal x t) (tickedPacket x t) [] (tickOf x t .state) (sends everyone (tickedPacket x t)) (λ h. refused-keeps x (ticked t) h .0))
+call-as x (stopped t) =
+    subst (λ (n : ℕ). Answers (stop x t) x n (stopOf x t .state) (sends everyone (stoppedPacket x t))) (sym (call-number x (stopped t)))
+    (shown x (tickRefusal x t) (stoppedPacket x t) [] (stopOf x t .state) (sends everyone (stoppedPacket x t)) (λ h. refused-keeps x (stopped t) h .0))
+call-as x (updated u) =
+    subst (λ (n : ℕ). Answers (update x u) x n (updateOf x u .state) (sends everyone (updatedPacket x u))) (sym (call-number x (updated u)))
+    (shown x (updateRefusal x u) (updatedPacket x u) [] (updateOf x u .state) (sends everyone (updatedPacket x u)) (λ h. refused-keeps x (updated u) h .0))
 
 -- ---- a packet in a buffer
 
@@ -87,18 +101,18 @@ module _ (p out : List ℕ) (size : ℕ) (out′ : List ℕ) (e : size ≡ lengt
   rest-kept : drop size out′ ≡ drop size out
   rest-kept = ap (drop size) h ∙ drop-at p (drop (length p) out) size (sym e) ∙ ap (λ (n : ℕ). drop n out) (sym e)
 
--- ---- a tick, and a packet received
+-- ---- a call with one out buffer, and a packet received
 
-tick-shown :
-    (x : State) (t : Tick) (out : List ℕ) (n size : ℕ) (y : State) (out′ : List ℕ) → n ≡ refusalOf (tickOf x t .answer)
-    → size ≡ lengthOf (tickOf x t .answer) → y ≡ tickOf x t .state → out′ ≡ laidOver (tickedPacket x t) out → Ticks (tick x t) x out n size y out′
-tick-shown x t out n size y out′ e f g h =
-    let size-is : size ≡ length (tickedPacket x t) = f ∙ call-length x (ticked t) in
+call-shown :
+    (x : State) (c : Call) (out : List ℕ) (n size : ℕ) (y : State) (out′ : List ℕ) → sentBy x c ≡ sends everyone (packetOf x c) → n ≡ refusalOf (answerTo x c)
+    → size ≡ lengthOf (answerTo x c) → y ≡ stateAfter x c → out′ ≡ laidOver (packetOf x c) out → Calls (answered x c) x out n size y out′
+call-shown x c out n size y out′ one e f g h =
+    let size-is : size ≡ length (packetOf x c) = f ∙ call-length x c in
     record {
       answers =
-          subst (λ (p : List ℕ). Answers (tick x t) x n y (sends everyone p)) (sym (first-bytes (tickedPacket x t) out size out′ size-is h))
-          (rw (e, g) (call-as x (ticked t)));
-      kept = rest-kept (tickedPacket x t) out size out′ size-is h;
+          subst (λ (p : List ℕ). Answers (answered x c) x n y (sends everyone p)) (sym (first-bytes (packetOf x c) out size out′ size-is h))
+          (subst (λ (ps : List Parcel). Answers (answered x c) x n y ps) one (rw (e, g) (call-as x c)));
+      kept = rest-kept (packetOf x c) out size out′ size-is h;
     }
 
 receive-shown :
@@ -129,10 +143,24 @@ receive-seen x a out back r out′ back′ h =
 
 pub tick-seen :
     (x : State) (t : Tick) (out : List ℕ) (r : Ticked) (out′ : List ℕ) → calls.Ticks x t out r out′
-    → Ticks (tick x t) x out (refusalOf (r .answer)) (lengthOf (r .answer)) (r .state) out′
+    → Calls (tick x t) x out (refusalOf (r .answer)) (lengthOf (r .answer)) (r .state) out′
 tick-seen x t out r out′ h =
-    tick-shown x t out (refusalOf (r .answer)) (lengthOf (r .answer)) (r .state) out′ (ap (λ (v : Ticked). refusalOf (v .answer)) (h .answers))
+    call-shown x (ticked t) out (refusalOf (r .answer)) (lengthOf (r .answer)) (r .state) out′ refl (ap (λ (v : Ticked). refusalOf (v .answer)) (h .answers))
     (ap (λ (v : Ticked). lengthOf (v .answer)) (h .answers)) (ap (λ (v : Ticked). v .state) (h .answers)) (h .writes)
+
+pub stop-seen :
+    (x : State) (t : Tick) (out : List ℕ) (r : Stopped) (out′ : List ℕ) → changes.Stops x t out r out′
+    → Calls (stop x t) x out (refusalOf (r .answer)) (lengthOf (r .answer)) (r .state) out′
+stop-seen x t out r out′ h =
+    call-shown x (stopped t) out (refusalOf (r .answer)) (lengthOf (r .answer)) (r .state) out′ refl (ap (λ (v : Stopped). refusalOf (v .answer)) (h .answers))
+    (ap (λ (v : Stopped). lengthOf (v .answer)) (h .answers)) (ap (λ (v : Stopped). v .state) (h .answers)) (h .writes)
+
+pub update-seen :
+    (x : State) (u : Update) (out : List ℕ) (r : Updated) (out′ : List ℕ) → changes.Updates x u out r out′
+    → Calls (update x u) x out (refusalOf (r .answer)) (lengthOf (r .answer)) (r .state) out′
+update-seen x u out r out′ h =
+    call-shown x (updated u) out (refusalOf (r .answer)) (lengthOf (r .answer)) (r .state) out′ refl (ap (λ (v : Updated). refusalOf (v .answer)) (h .answers))
+    (ap (λ (v : Updated). lengthOf (v .answer)) (h .answers)) (ap (λ (v : Updated). v .state) (h .answers)) (h .writes)
 
 -- ---- on bytes
 
@@ -154,11 +182,11 @@ start-exported b setup time draw a b′ h =
     start-as (setupFor setup (length b)) time draw ∙ begun-bytes n (started b setup time draw .state) (decode b)
     ∙ ap (begunAs n) (sym (h .says)) ∙ ap (λ (v : ℕ). begunAs v (decode b′)) (sym e)
 
-pub tick-exported :
-    (b : List ℕ) (t : Tick) (out : List ℕ) (a : Called) (b′ out′ : List ℕ) → exported.Calls b (ticked t) out a b′ out′
-    → Ticks (tick (decode b) t) (decode b) out (a .refusal) (a .length) (decode b′) out′
-tick-exported b t out a b′ out′ h =
-    tick-shown (decode b) t out (a .refusal) (a .length) (decode b′) out′ (ap (λ (v : Called). v .refusal) (h .answers))
+pub call-exported :
+    (b : List ℕ) (c : Call) (out : List ℕ) (a : Called) (b′ out′ : List ℕ) → sentBy (decode b) c ≡ sends everyone (packetOf (decode b) c)
+    → exported.Calls b c out a b′ out′ → Calls (answered (decode b) c) (decode b) out (a .refusal) (a .length) (decode b′) out′
+call-exported b c out a b′ out′ one h =
+    call-shown (decode b) c out (a .refusal) (a .length) (decode b′) out′ one (ap (λ (v : Called). v .refusal) (h .answers))
     (ap (λ (v : Called). v .length) (h .answers)) (h .says) (h .writes)
 
 pub receive-exported :

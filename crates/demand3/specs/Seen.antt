@@ -25,8 +25,8 @@ pub record Answers (answer : link.Answer State) (x : State) (refusal : ℕ) (y :
   -- what the responder's next call is given, also after a refusal
   pub next : returned responder x answer ≡ y
 
--- A tick: it makes `out` into out′, of which the first `length` bytes are its packet, which goes to all.
-pub record Ticks (answer : link.Answer State) (x : State) (out : List ℕ) (refusal length : ℕ) (y : State) (out′ : List ℕ) : Type 0 where
+-- A tick, a stop or an update: it makes `out` into out′, of which the first `length` bytes are its packet, which goes to all.
+pub record Calls (answer : link.Answer State) (x : State) (out : List ℕ) (refusal length : ℕ) (y : State) (out′ : List ℕ) : Type 0 where
   pub answers : Answers answer x refusal y (sends everyone (take length out′))
   -- "Out bytes beyond a written packet are also kept."
   pub kept : drop length out′ ≡ drop length out

@@ -1,6 +1,7 @@
 // The functions that demand 3 is about. Each calls the responder's own, or, in `exported`, the exported one, and does nothing else; its contract cites
 // `responder`, the record of the theorem (crates/uniqueness/specs/Responder.antt): what a caller sees of the call is the record's answer. Were a call to
 // promise another definition than the record has, this crate would not be proved.
+pub mod changes;
 pub mod exported;
 
 ghost use mathlib.Core.Path.{_≡_};
@@ -10,7 +11,7 @@ ghost use lib.ListN.{length};
 ghost use Rattle.responder.specs.Handed.{Arrival, Tick};
 ghost use Rattle.responder.specs.Calls.{refusalOf, lengthOf, unicastLengthOf};
 ghost use Rattle.uniqueness.specs.Responder.{responder};
-ghost use Rattle.demand3.specs.Seen.{begunAs, Ticks, Receives};
+ghost use Rattle.demand3.specs.Seen.{begunAs, Calls, Receives};
 use claims::holds::Address;
 use own::records::Setup;
 use responder::Received;
@@ -47,7 +48,7 @@ pub fn receive(
 
 pub fn tick(state: State, time: u64, out: &mut [u8]) -> Ticked
     ensures { λ r. ⌜ (let t : Tick = record { time = time; room = length (now (out .entry)) } in
-        Ticks (responder .tick state t) state (now (out .entry)) (refusalOf (r .answer)) (lengthOf (r .answer)) (r .state) (now (out .exit))) ⌝ }
+        Calls (responder .tick state t) state (now (out .entry)) (refusalOf (r .answer)) (lengthOf (r .answer)) (r .state) (now (out .exit))) ⌝ }
 {
     responder::tick(state, time, out)
 }

@@ -12,7 +12,7 @@ use Rattle.link.specs.Entries.{Entry, timeAt, clockAt, ownerAt, after, r
 use Rattle.link.specs.Premises.{Among, deliveryTime, lateness, Reaches, Delivered, dueIn, Premises}
 
 module _ (D : Responder) where
-  -- entry n is a call of responder d that is not refused: its start, a tick or a packet received
+  -- entry n is a call of responder d that is not refused: its start, a tick, a packet received or an update
   pub record CallOf (es : List (Entry D)) (d n : ℕ) : Type 0 where
     pub whose : ownerAt D es n ≡ d
     pub notRefused : (acceptedAt D es n ≡ true) ⊎ ((n ≡ d) × (runs D es d (suc d) ≡ true))

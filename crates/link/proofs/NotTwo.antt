@@ -1,19 +1,19 @@
 -- No two parties come to hold by their probes with different data. Say X came to hold first. If Y did so at most 100 ms later, each heard the other's third
 -- probe while probing, and one of them would have deferred (`near`). Otherwise Y, while probing, heard X's announcement, or X's answer to its second
 -- probe (`far`): Y would have lost. Assumes nothing.
-use mathlib.Core.Path.{_≡_, subst}
+use mathlib.Core.Path.{_≡_, subst, _∙_}
 use mathlib.Core.Logic.{⊎-elim}
-use Prim.Native.Nat.{ℕ, suc, _+_, _≤_, _<_}
+use Prim.Native.Nat.{ℕ, zero, suc, _+_, _≤_, _<_}
 use native.Mathlib.Omega.{arith}
 use native.Mathlib.Decide.{decLe, decLt}
 use Rattle.link.specs.Premises.{deliveryTime}
 use Rattle.link.specs.Laws.{Stage, held, Unclaimed}
-use Rattle.link.proofs.Course.{Link, Course}
+use Rattle.link.proofs.Course.{Link}
 use Rattle.link.proofs.Contest.{Contest, Taken}
 use Rattle.link.proofs.Probes.{Life, probing-active, held-active}
 
 module _ (L : Contest) where
-  open Contest L using (link, Party, course, Tells, Later, HearsProbe, HearsRecord, Differ, differ-sym, one-actor)
+  open Contest L using (link, Party, course, Tells, records, Later, HearsProbe, HearsRecord, Differ, differ-sym, one-actor)
   open Link (L .link) using (count, base, time, in-order)
 
   abbrev stage : Party → ℕ → Stage
@@ -33,17 +33,28 @@ module _ (L : Contest) where
       go (yes k) = k
       go (no k) = let o : time j ≤ time i = in-order j i b (omega arith) h in absurd (omega arith)
 
-  -- w's probe, taken by z after z's first probe and 100 ms before z holds, is not later: z would have deferred
+  -- while a claim is probing its records stay the same
+  unchanged : (d : Party) (m n : ℕ) (D : Lived d m n) (k : ℕ) → k ≤ D .hold → (j : ℕ) → D .p1 < j → j ≤ k → records d k ≡ records d j
+  unchanged d m n D zero h j a b = absurd (omega arith)
+  unchanged d m n D (suc k) h j a b = go (decLe j k) (unchanged d m n D k (omega arith) j a)
+    where
+      go : Dec (j ≤ k) → (j ≤ k → records d k ≡ records d j) → records d (suc k) ≡ records d j
+      go (yes l) f = L .steady d k (D .during k (omega arith) (omega arith)) (D .during (suc k) (omega arith) h) ∙ f l
+      go (no l) f = let e : suc k ≡ j = omega arith in λ i. records d (e i)
+
+  -- w's probe, taken by z after z's first probe and 100 ms before z holds, is not later than what z has when it comes to hold
   not-later :
       (m n : ℕ) → base ≤ m → n ≤ count → (w z : Party) → Differ w z → (Z : Lived z m n) → (i : ℕ) → Z .p1 < i → i < Z .hold → course w .Probes i
-      → time i + deliveryTime < time (Z .hold) → Later w z → ⊥
+      → time i + deliveryTime < time (Z .hold) → Later (records w i) (records z (Z .hold)) → ⊥
   not-later m n bm h w z differ Z i a b p t l =
-      let k : Taken time (HearsProbe z w) i (Z .hold) =
+      let k : Taken time (HearsProbe z w (records w i)) i (Z .hold) =
       L .probe-heard w z i (Z .hold) (omega arith) (omega arith) differ (omega arith) p (probing-active (stage z i) (Z .during i a (omega arith)))
       (probing-active (stage z (Z .hold)) (Z .during (Z .hold) (omega arith) (omega arith))) t
       in
+      let same : records z (Z .hold) ≡ records z (k .at) = unchanged z m n Z (Z .hold) (omega arith) (k .at) (omega arith) (omega arith) in
       probing-active (stage z (suc (k .at))) (Z .during (suc (k .at)) (omega arith) (omega arith))
-      (L .defers z w (k .at) (differ-sym w z differ) (k .takes) l (Z .during (k .at) (omega arith) (omega arith)))
+      (L .defers z w (records w i) (k .at) (differ-sym w z differ) (k .takes) (subst (λ r. Later (records w i) r) same l)
+      (Z .during (k .at) (omega arith) (omega arith)))
 
   -- y came to hold by three probes
   module _ (m n : ℕ) (bm : base ≤ m) (in-list : n ≤ count) (x y : Party) (differ : Differ x y) (Y : Lived y m n) where
@@ -61,13 +72,13 @@ module _ (L : Contest) where
     -- x is held from y's first probe on: it answers y's second probe
     pub answered : ((j : ℕ) → Y .p1 ≤ j → j ≤ Y .hold → stage x j ≡ held) → ⊥
     answered holds =
-        let k : Taken time (HearsProbe x y) (Y .p2) (Y .hold) =
+        let k : Taken time (HearsProbe x y (records y (Y .p2))) (Y .p2) (Y .hold) =
         L .probe-heard y x (Y .p2) (Y .hold) (omega arith) (omega arith) (differ-sym x y differ) (omega arith) (Y .probes2)
         (held-active (stage x (Y .p2)) (holds (Y .p2) (omega arith) (omega arith)))
         (held-active (stage x (Y .hold)) (holds (Y .hold) (omega arith) (omega arith))) (omega arith)
         in
         silent (k .at) (omega arith) (k .before)
-        (L .defends x y (k .at) differ (k .takes) (holds (k .at) (omega arith) (omega arith))) (omega arith)
+        (L .defends x y (records y (Y .p2)) (k .at) differ (k .takes) (holds (k .at) (omega arith) (omega arith))) (omega arith)
 
     -- y is probing or held since its first probe
     pub active : (j : ℕ) → suc (Y .p1) ≤ j → j ≤ n → Unclaimed (stage y j) → ⊥
@@ -89,10 +100,14 @@ module _ (L : Contest) where
           let x1 : X .p1 < Y .p3 = earlier (X .p1) (Y .p3) (omega arith) (omega arith) (omega arith) in
           let x4 : Y .p3 < X .hold = earlier (Y .p3) (X .hold) (omega arith) (omega arith) (omega arith) in
           let y1 : Y .p1 < X .p3 = earlier (Y .p1) (X .p3) (omega arith) (omega arith) (omega arith) in
+          let sx : records x (X .hold) ≡ records x (X .p3) = unchanged x a n X (X .hold) (omega arith) (X .p3) (omega arith) (omega arith) in
+          let sy : records y (Y .hold) ≡ records y (Y .p3) = unchanged y b n Y (Y .hold) (omega arith) (Y .p3) (omega arith) (omega arith) in
           ⊎-elim
-          (λ l. not-later b n bb in-list x y differ Y (X .p3) y1 (omega arith) (X .probes3) (omega arith) l)
-          (λ l. not-later a n ba in-list y x (differ-sym x y differ) X (Y .p3) x1 x4 (Y .probes3) (omega arith) l)
-          (L .tie x y differ)
+          (λ l. not-later b n bb in-list x y differ Y (X .p3) y1 (omega arith) (X .probes3) (omega arith)
+          (subst (λ r. Later r (records y (Y .hold))) sx l))
+          (λ l. not-later a n ba in-list y x (differ-sym x y differ) X (Y .p3) x1 x4 (Y .probes3) (omega arith)
+          (subst (λ r. Later r (records x (X .hold))) sy l))
+          (L .tie x y (X .hold) (Y .hold) differ (X .during (X .hold) (omega arith) (omega arith)) (Y .during (Y .hold) (omega arith) (omega arith)))
 
       -- y holds later than that: it heard x's announcement, or x's answer
       far : time (X .hold) + deliveryTime < time (Y .hold) → ⊥

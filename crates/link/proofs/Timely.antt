@@ -1,128 +1,125 @@
--- Conclusion 2: a responder that hears no conflicting response and no later probe holds its name 1,200 ms after its start (InTime.antt), by its packets too.
--- Assumes nothing.
-use mathlib.Core.Path.{_≡_, refl, sym, _∙_, ap, subst}
-use mathlib.Core.Logic.{inr}
-use mathlib.Core.Bool.{Bool, true, false, not, _&&_, _||_}
+-- Conclusion 2: a responder that hears no conflicting response and no later probe holds its name 1,200 ms after its start, or after the last update that finds
+-- it not holding (InTime.antt). Assumes nothing.
+use mathlib.Core.Path.{_≡_, sym, _∙_, ap}
+use mathlib.Core.Logic.{inl, inr, ⊎-elim}
+use mathlib.Core.Bool.{true, false}
 use mathlib.Core.Option.{Option, none, some}
 use mathlib.Core.List.{List}
-use Prim.Native.Nat.{ℕ, zero, suc, _+_, _-_, _≤_, _<_}
+use Prim.Native.Nat.{ℕ, suc, _+_, _≤_, _<_}
 use native.Mathlib.Omega.{arith}
-use native.Mathlib.Decide.{decLt}
-use lib.Dec.{eqb}
-use borrow.Author.Tests.{eq-eqb}
-use Rattle.link.specs.Responder.{Responder, everyone, Parcel, Claim}
-use Rattle.link.specs.Entries.{Entry, Call, clockOf, timeAt, clockAt, ownerAt, after, runs, isSome, sentAt}
+use Rattle.link.specs.Responder.{Responder, Claim, instance}
+use Rattle.link.specs.Entries.{Entry, Call, clockOf, clockAt, after, isSome, updateAt}
 use Rattle.link.specs.Premises.{Premises}
-use Rattle.link.specs.Holding.{anyOf, isAnd, respondsFor, conflictsWith, writes, hears, holds}
+use Rattle.link.specs.Holding.{holds}
 use Rattle.link.specs.Demand3.{Unopposed}
-use Rattle.link.specs.Laws.{mostDraw, Stage, waiting, held, apart, Rules, Lawful}
-use Rattle.link.proofs.Course.{Link, Course}
-use Rattle.link.proofs.InTime.{Gained, Unhindered, in-time}
-use Rattle.link.proofs.Lists.{clash, and-both, or-right, any-of, is-of}
-use Rattle.link.proofs.States.{Calls, Event, idle, ends, begins, moves, event, start-owner, after-start, not-before, stopped, running, ran-before}
-use Rattle.link.proofs.From.{from-first}
-use Rattle.link.proofs.Steps.{Sends}
-use Rattle.link.proofs.Stages.{stage-of}
-use Rattle.link.proofs.Claims.{list, course, Whole, Upsets, begun, ended, contradicted, defeated}
+use Rattle.link.specs.Laws.{mostDraw, Stage, waiting, held, Step, updates, timeOf, next, Rules, Lawful}
+use Rattle.link.proofs.InTime.{Gained, in-time}
+use Rattle.link.proofs.Lists.{clash}
+use Rattle.link.proofs.States.{Calls, Event, idle, ends, begins, moves, event, after-start, not-before, ran-before, updater, calls-as, called-accepted}
+use Rattle.link.proofs.From.{CallOf, from-first}
+use Rattle.link.proofs.Steps.{act, update-step}
+use Rattle.link.proofs.Stages.{stage-of, ready-as, stage-before, stage-after}
+use Rattle.link.proofs.Held.{holds-held}
+use Rattle.link.proofs.Claims.{list, course, held-holds, Upsets, begun, ended, contradicted, defeated, restarted}
 
 module _
-    (D : Responder) (R : Rules D) (L : Lawful D R) (es : List (Entry D)) (P : Premises D es) (d : ℕ) (s : D .Setup) (k : Claim) (n : ℕ)
-    (U : Unopposed D es d s k n)
+    (D : Responder) (R : Rules D) (L : Lawful D R) (es : List (Entry D)) (P : Premises D es) (d : ℕ) (k : Claim) (b n : ℕ)
+    (U : Unopposed D es d k b n)
   where
-    open Responder D using (State, Message)
+    open Responder D using (State, Update)
 
-    abbrev claim : Course (list D es 0 0 (from-first D es P))
-    claim = course D R L es 0 0 (from-first D es P) d s (U .started) k
+    abbrev stage : ℕ → Stage
+    stage m = stage-of D R (after D es d m) k
 
-    d<n : d < n
-    d<n = go (decLt d n)
-      where
-        go : Dec (d < n) → d < n
-        go (yes l) = l
-        go (no l) = clash (let z : false ≡ true = ap isSome (sym (not-before D es d n (omega arith))) ∙ U .running in cc)
-
-    -- the start of the responder sets its claims waiting
-    record Started : Type 0 where
+    -- the call at b sets the claim waiting
+    record Set : Type 0 where
+      acts : CallOf D es d b
       due : ℕ
-      waits : stage-of D R (after D es d (suc d)) k ≡ waiting due
-      soon : due ≤ clockAt D es d + mostDraw
-      whose : ownerAt D es d ≡ d
+      waits : stage (suc b) ≡ waiting due
+      soon : due ≤ clockAt D es b + mostDraw
+      started : d ≤ b
 
-    at-start : Started
+    at-start : b ≡ d → Set
     unfolding clockOf
-    at-start = go (event D es d d)
+    at-start s = go (event D es d b)
       where
-        none-after : after D es d (suc d) ≡ none → Started
+        none-after : after D es d (suc b) ≡ none → Set
         none-after p =
-            clash (let z : false ≡ true = ap isSome (sym p) ∙ ran-before D es d (suc d) n (omega arith) (omega (arith, d<n)) (U .running) in cc)
+            clash (let z : false ≡ true = ap isSome (sym p) ∙ ran-before D es d (suc b) n (omega arith) (omega (arith, U .before)) (U .running) in cc)
 
-        go : Event D es d d → Started
-        go (idle p) = none-after (p ∙ not-before D es d d (omega arith))
-        go (ends o w p) = none-after p
+        go : Event D es d b → Set
+        go (idle p g) = none-after (p ∙ not-before D es d b (omega arith))
+        go (ends p) = none-after p
         go (begins t w draw x o f q p) =
-            let b = L .begun t w draw x q in
-            let clock : clockAt D es d ≡ w = ap (λ (v : Call D). clockOf D v) f in
+            let v = L .begun t w draw x q in
+            let clock : clockAt D es b ≡ w = ap (λ (c : Call D). clockOf D c) f in
             record {
-              due = b .due k;
-              waits = ap (λ (a : Option State). stage-of D R a k) p ∙ b .waits k;
-              soon = omega (arith, b .soon k);
-              whose = start-owner D es d w draw t f;
+              acts = record { whose = U .whose; notRefused = inr (s, ran-before D es d (suc d) n (omega arith) (omega (arith, U .before)) (U .running)) };
+              due = v .due k;
+              waits = ap (λ (a : Option State). stage-of D R a k) p ∙ v .waits k;
+              soon = omega (arith, v .soon k);
+              started = omega arith;
             }
-        go (moves c p) = absurd (omega (arith, after-start D es d d c))
+        go (moves c p) = absurd (omega (arith, after-start D es d b c))
 
-    calm : (m : ℕ) → d < m → m < n → Upsets D es d s k m → ⊥
-    calm m a h (begun e) = omega arith
+    at-update : (new : Update) → updateAt D es b ≡ some new → instance ≡ k → holds D es d k b ≡ false → Set
+    at-update new e a h =
+        let c : Calls D es d b = calls-as D es d b (U .whose) (updater D es b new e) in
+        set c (update-step D R L es d b c new e)
+      where
+        set : (c : Calls D es d b) → act D R L es d b c .step ≡ updates new → Set
+        set c f =
+            ⊎-elim
+            (λ (w : (u : ℕ) × (R .stage (next D R (c .state) (updates new)) instance ≡ waiting u) × (u ≤ D .updateTime new + mostDraw)).
+            let r : Set =
+            record {
+              acts = record { whose = U .whose; notRefused = inl (called-accepted D es d b c) };
+              due = w .0;
+              waits =
+                  stage-after D R L es d b (act D R L es d b c .setup) (act D R L es d b c .has) c k
+                  ∙ ap (λ (t : Step D). R .stage (next D R (c .state) t) k) f
+                  ∙ ap (λ (l : Claim). R .stage (next D R (c .state) (updates new)) l) (sym a)
+                  ∙ w .1;
+              soon = omega (arith, w .2, ap (λ (t : Step D). timeOf D t) (sym f) ∙ act D R L es d b c .clock);
+              started = omega (arith, after-start D es d b c);
+            }
+            in
+            r)
+            (λ w.
+            let was : stage b ≡ held =
+            stage-before D R L es d b (act D R L es d b c .setup) (act D R L es d b c .has) c k ∙ ap (λ (l : Claim). R .stage (c .state) l) (sym a) ∙ w .0
+            in
+            clash (let z : false ≡ true = sym h ∙ held-holds D R L es 0 0 (from-first D es P) d k b was in cc))
+            (L .renewed (act D R L es d b c .setup) (c .state) new
+            (ready-as D R L es d b (act D R L es d b c .setup) (act D R L es d b c .has) c (updates new) f))
+
+    begins-there : Set
+    begins-there = ⊎-elim at-start (λ w. at-update (w .1 .0) (w .1 .1) (sym (w .0)) (w .1 .2)) (U .from)
+
+    calm : (m : ℕ) → b < m → m < n → Upsets D R es d k m → ⊥
+    calm m a h (begun e) = omega (arith, begins-there .started)
     calm m a h (ended e) =
-        clash (let z : false ≡ true = ap isSome (sym e) ∙ ran-before D es d (suc m) n (omega arith) h (U .running) in cc)
-    calm m a h (contradicted e) = clash (let z : true ≡ false = sym e ∙ U .noConflict m h in cc)
-    calm m a h (defeated e) = clash (let z : true ≡ false = sym e ∙ U .noLater m h in cc)
+        clash
+        (let z : false ≡ true = ap isSome (sym e) ∙ ran-before D es d (suc m) n (omega (arith, begins-there .started)) h (U .running) in cc)
+    calm m a h (contradicted e) = clash (let z : true ≡ false = sym e ∙ U .noConflict m a h in cc)
+    calm m a h (defeated e) = clash (let z : true ≡ false = sym e ∙ U .noLater m a h in cc)
+    calm m a h (restarted new o e w f) = f (holds-held D R L es d k m (U .last m new (sym w) a h o e))
 
-    gained : Gained (list D es 0 0 (from-first D es P)) claim d n
+    pub timely : holds D es d k n ≡ true
     unfolding list course
-    gained =
-        in-time (list D es 0 0 (from-first D es P)) claim d n
+    timely =
+        let g : Gained (list D es 0 0 (from-first D es P)) (course D R L es 0 0 (from-first D es P) d k) b n =
+        in-time (list D es 0 0 (from-first D es P)) (course D R L es 0 0 (from-first D es P) d k) b n
         (record {
           from-base = omega arith;
-          b<n = d<n;
+          b<n = U .before;
           inList = U .inList;
           beyond = U .beyond;
-          acts = record { whose = at-start .whose; notRefused = inr (refl, ran-before D es d (suc d) n (omega arith) (omega (arith, d<n)) (U .running)) };
-          due = at-start .due;
-          waits = at-start .waits;
-          soon = at-start .soon;
+          acts = begins-there .acts;
+          due = begins-there .due;
+          waits = begins-there .waits;
+          soon = begins-there .soon;
           calm = calm;
         })
-
-    -- the announcement begins the holding, and who holds goes on to hold
-    holding : (w : ℕ) → d < w → Sends D es d w everyone (Whole D R s k) → (i : ℕ) → suc (w + i) ≤ n → holds D es d s k (suc (w + i)) ≡ true
-    unfolding holds writes respondsFor
-    holding w a v zero h =
-        let hit : isAnd (λ (b : Message). D .responds b (D .name s k)) (D .read (v .parcel .bytes)) ≡ true =
-        is-of (λ (b : Message). D .responds b (D .name s k)) (D .read (v .parcel .bytes)) (v .message) (v .reads) (v .says .under)
         in
-        let wrote : writes D es d s k w ≡ true =
-        and-both (eqb (ownerAt D es w) d) (anyOf (λ (q : Parcel). respondsFor D s k (q .bytes)) (sentAt D es w)) (eq-eqb (ownerAt D es w) d (v .whose))
-        (any-of (λ (q : Parcel). respondsFor D s k (q .bytes)) (v .parcel) (sentAt D es w) (v .sent) hit)
-        in
-        let e : w ≡ w + 0 = omega arith in
-        subst (λ (j : ℕ). holds D es d s k (suc j) ≡ true) e
-        (and-both (runs D es d (suc w)) (writes D es d s k w || (not (hears D es d (conflictsWith D s k) w) && holds D es d s k w))
-        (ran-before D es d (suc w) n (omega arith) (omega arith) (U .running))
-        (ap (λ (b : Bool). b || (not (hears D es d (conflictsWith D s k) w) && holds D es d s k w)) wrote))
-    holding w a v (suc i) h =
-        let j : ℕ = suc (w + i) in
-        let e : suc (w + i) ≡ w + suc i = omega arith in
-        let q : not (hears D es d (conflictsWith D s k) (suc (w + i))) ≡ true = ap not (U .noConflict (suc (w + i)) (omega arith)) in
-        subst (λ (x : ℕ). holds D es d s k (suc x) ≡ true) e
-        (and-both (runs D es d (suc (suc (w + i))))
-        (writes D es d s k (suc (w + i)) || (not (hears D es d (conflictsWith D s k) (suc (w + i))) && holds D es d s k (suc (w + i))))
-        (ran-before D es d (suc (suc (w + i))) n (omega arith) (omega arith) (U .running))
-        (or-right (writes D es d s k (suc (w + i))) (not (hears D es d (conflictsWith D s k) (suc (w + i))) && holds D es d s k (suc (w + i)))
-        (and-both (not (hears D es d (conflictsWith D s k) (suc (w + i)))) (holds D es d s k (suc (w + i))) q (holding w a v i (omega arith)))))
-
-    pub timely : holds D es d s k n ≡ true
-    unfolding course
-    timely =
-        let g : Gained (list D es 0 0 (from-first D es P)) claim d n = gained in
-        let e : suc (g .at + (n - suc (g .at))) ≡ n = omega arith in
-        subst (λ (j : ℕ). holds D es d s k j ≡ true) e (holding (g .at) (g .b<at) (g .announces) (n - suc (g .at)) (omega arith))
+        held-holds D R L es 0 0 (from-first D es P) d k n (g .after n (g .at<n) (omega arith))

@@ -1,2 +1,3 @@
 pub mod records
 pub mod utf8
+pub mod changes

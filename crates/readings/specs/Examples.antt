@@ -55,6 +55,7 @@ holding = record {
   sent = neverSent;
   reply = Never;
   holds = noHolds;
+  updated = Never;
   draw = 0;
   last = 0;
 }

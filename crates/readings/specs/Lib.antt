@@ -4,3 +4,4 @@ pub mod States
 pub mod Unicast
 pub mod Subsets
 pub mod Labels
+pub mod Changes

@@ -50,6 +50,7 @@ livedWith host a reply holds draw last = record {
   sent = lastA a;
   reply = reply;
   holds = holds;
+  updated = Never;
   draw = draw;
   last = last;
 }
@@ -96,7 +97,8 @@ abbrev pub tickAt : ℕ → ℕ → Tick
 tickAt time room = record { time = time; room = room }
 
 abbrev pub fromWith : ℕ → ℕ → ℕ → List ℕ → ℕ → Arrival
-fromWith port draw hold packet room = record { time = 0; from = somewhere; port = port; draw = draw; hold = hold; packet = packet; room = room; unicastroom = 1452 }
+fromWith port draw hold packet room =
+    record { time = 0; from = somewhere; port = port; draw = draw; hold = hold; packet = packet; room = room; unicastroom = 1452 }
 
 abbrev pub from : ℕ → ℕ → List ℕ → ℕ → Arrival
 from port draw packet room = fromWith port draw 400 packet room

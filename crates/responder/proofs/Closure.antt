@@ -1,7 +1,7 @@
 -- Closure: the state that an accepted call returns is never refused for what it keeps, whatever state the call was given: not as 1 for a kept time, and
 -- not as 7. And from a start on, through any list of calls, no kept time is above 2^62 + 1,000. Assumes nothing.
 use Prim.Native.Nat.{ℕ, _≤_}
-use mathlib.Core.Path.{_≡_, refl}
+use mathlib.Core.Path.{_≡_, refl, ap}
 use mathlib.Core.Bool.{Bool, true, false, cond, not, _||_}
 use mathlib.Core.List.{List, [], _∷_}
 use native.Mathlib.Omega.{arith}
@@ -14,7 +14,10 @@ use Rattle.own.specs.declared.records.Setup.{Setup}
 use Rattle.own.specs.records.Setups.{validSetup, labelHeld}
 use Rattle.own.specs.utf8.Grammar.{Octets, NoControl}
 use Rattle.own.proofs.records.Valid.{valid, shown-label}
+use Rattle.own.specs.changes.Changes.{revised, changeOf, validData}
+use Rattle.own.proofs.changes.Revised.{revised-valid}
 use Rattle.claims.specs.Claims as claims
+use Rattle.claims.specs.changes.Changes.{lostToUpdate, tooSoon}
 use Rattle.claims.specs.Refusals.{lateStart, wrongTime, wrongStartDraw, wrongReplyDraw, wrongHoldDraw, wrongDraws, kept}
 use Rattle.claims.specs.declared.Progress.{Progress}
 use Rattle.claims.specs.declared.answers.Facts.{Facts}
@@ -22,14 +25,18 @@ use Rattle.claims.specs.answers.Answers as answers
 use Rattle.claims.specs.answers.Held as held
 use Rattle.claims.proofs.Keeping.{start-kept}
 use Rattle.claims.proofs.steps.Ticks.{tick-kept, tick-draw}
+use Rattle.claims.proofs.changes.Stops.{stop-kept, stop-same}
+use Rattle.claims.proofs.changes.Updates.{update-kept, update-draw}
 use Rattle.claims.proofs.answers.Receives.{receive-kept, receive-draw, plain-kept, plain-draw}
 use Rattle.facts.specs.Facts.{factsOf}
 use Rattle.responder.specs.Handed.{Arrival, comingOf, Tick}
 use Rattle.responder.specs.Refusals.{smallBuffer, smallBuffers, wrongState, startRefusal, receiveRefusal, tickRefusal}
 use Rattle.responder.specs.Calls.{startOf, fromMdns, heardOf, receiveOf, tickOf}
-use Rattle.responder.specs.Runs.{Call, received, ticked, refusalOfCall, stateAfter, run}
+use Rattle.responder.specs.changes.Changes.{endedOf, stopOf, Update, refusalTo, renewedOf, updateTo, updateRefusal, updateOf}
+use Rattle.responder.specs.Runs.{Call, received, ticked, stopped, updated, refusalOfCall, stateAfter, run}
 use Rattle.responder.specs.declared.State.{State}
 use Rattle.responder.proofs.Refusals.{StartAccepted, ReceiveAccepted, TickAccepted, start-accepted, receive-accepted, tick-accepted, refused-keeps}
+use Rattle.responder.proofs.changes.Accepted.{UpdateAccepted, update-accepted}
 
 clash : {A : Type 0} → _≡_ {A = ℕ} 0 1 → A
 clash z = absurd (omega arith)
@@ -67,12 +74,34 @@ never-7 false false false false true m e = omega (arith, e)
 never-7 false false false false false true e = omega (arith, e)
 never-7 false false false false false false e = omega (arith, e)
 
-pub sound-never-7 : (s : State) (c : Call) → Sound s → refusalOfCall s c ≡ 7 → ⊥
-unfolding receiveRefusal tickRefusal
-sound-never-7 s (received a) h e =
+-- of an update 7 is then for its new data alone
+abbrev pub FitData : Call → Type 0
+FitData (received a) = Unit {0}
+FitData (ticked t) = Unit {0}
+FitData (stopped t) = Unit {0}
+FitData (updated u) = validData (u .new) ≡ true
+
+never-7-updated : (t b l k : Bool) → _≡_ {A = ℕ} (cond t 1 (cond b 3 (cond l 10 (cond k 11 0)))) 7 → ⊥
+never-7-updated true b l k e = omega (arith, e)
+never-7-updated false true l k e = omega (arith, e)
+never-7-updated false false true k e = omega (arith, e)
+never-7-updated false false false true e = omega (arith, e)
+never-7-updated false false false false e = omega (arith, e)
+
+right-valid : (s : State) → wrongState s ≡ false → validSetup (s .setup) ≡ true
+unfolding wrongState
+right-valid s h = not-in _ (neither (not (validSetup (s .setup))) (wrongStartDraw (s .progress .draw)) .0 h .0)
+
+pub sound-never-7 : (s : State) (c : Call) → Sound s → FitData c → refusalOfCall s c ≡ 7 → ⊥
+unfolding receiveRefusal tickRefusal updateRefusal refusalTo
+sound-never-7 s (received a) h k e =
     never-7 (wrongTime (s .progress) (a .time)) (wrongDraws (a .draw) (a .hold)) (smallBuffers a) (wrongLength (a .packet))
     (wrongHeader (a .packet) || wrongPort (a .port) (a .packet)) (isMalformed (a .packet)) (rw (h .right) at e)
-sound-never-7 s (ticked t) h e = never-7 (wrongTime (s .progress) (t .time)) false (smallBuffer (t .room)) false false false (rw (h .right) at e)
+sound-never-7 s (ticked t) h k e = never-7 (wrongTime (s .progress) (t .time)) false (smallBuffer (t .room)) false false false (rw (h .right) at e)
+sound-never-7 s (stopped t) h k e = never-7 (wrongTime (s .progress) (t .time)) false (smallBuffer (t .room)) false false false (rw (h .right) at e)
+sound-never-7 s (updated u) h k e =
+    never-7-updated (wrongTime (s .progress) (u .time)) (smallBuffer (u .room)) (lostToUpdate (s .progress)) (tooSoon (s .progress) (u .time))
+    (rw (h .right, revised-valid (s .setup) (u .new) (right-valid s (h .right)), k) at e)
 
 -- the instance label of a state that keeps the rules, as that of every accepted call does before and after it, is one that a screen can show
 pub right-shown : (s : State) → wrongState s ≡ false → Octets (labelHeld (s .setup .instance)) × NoControl (labelHeld (s .setup .instance))
@@ -178,6 +207,29 @@ module _ (most : ℕ) (l : 4611686018427388904 ≤ most) where
         right = same-right s _ (tick-draw (t .time) (s .setup .hasaaaa) (s .progress)) (p .right);
       })
 
+  pub stop-within : (s : State) (t : Tick) → tickRefusal s t ≡ 0 → kept most (s .progress) ≡ true → Within most (stopOf s t .state)
+  unfolding stopOf
+  stop-within s t h k =
+      let p : TickAccepted s t = tick-accepted s t h in
+      rw h (record {
+        times = stop-kept (s .progress) (t .time) (s .setup .hasaaaa) most (in-time (s .progress) (t .time) (p .time) .0) l k;
+        right = same-right s _ (ap (λ (x : Progress). x .draw) (stop-same (s .progress) (t .time) (s .setup .hasaaaa))) (p .right);
+      })
+
+  new-right : (s : State) (new : Setup) (progress : Progress) → progress .draw ≡ s .progress .draw → validSetup new ≡ true → wrongState s ≡ false
+      → wrongState (record { setup = new; progress = progress }) ≡ false
+  unfolding wrongState
+  new-right s new progress e v h = rw (e, v) (neither (not (validSetup (s .setup))) (wrongStartDraw (s .progress .draw)) .0 h .1)
+
+  pub update-within : (s : State) (u : Update) → updateRefusal s u ≡ 0 → kept most (s .progress) ≡ true → Within most (updateOf s u .state)
+  unfolding updateOf updateTo updateRefusal
+  update-within s u h k =
+      let p : UpdateAccepted s (u .time) (u .room) (revised (s .setup) (u .new)) = update-accepted s (u .time) (u .room) (revised (s .setup) (u .new)) h in
+      rw h (record {
+        times = update-kept (s .progress) (u .time) (changeOf (u .new)) most (in-time (s .progress) (u .time) (p .time) .0) (small-draw s (p .right)) l k;
+        right = new-right s (revised (s .setup) (u .new)) _ (update-draw (s .progress) (u .time) (changeOf (u .new))) (p .valid) (p .right);
+      })
+
   -- accepted or refused
   pub keeps-within : (s : State) (c : Call) → Within most s → Within most (stateAfter s c)
   keeps-within s c w = go (eqb (refusalOfCall s c) 0) refl
@@ -185,6 +237,8 @@ module _ (most : ℕ) (l : 4611686018427388904 ≤ most) where
       accepted : (c : Call) → refusalOfCall s c ≡ 0 → Within most (stateAfter s c)
       accepted (received a) h = receive-within s a h (w .times)
       accepted (ticked t) h = tick-within s t h (w .times)
+      accepted (stopped t) h = stop-within s t h (w .times)
+      accepted (updated u) h = update-within s u h (w .times)
 
       go : (b : Bool) → eqb (refusalOfCall s c) 0 ≡ b → Within most (stateAfter s c)
       go true e = accepted c (eqb-true _ _ e)
@@ -196,10 +250,16 @@ module _ (most : ℕ) (l : 4611686018427388904 ≤ most) where
 
 -- from any state, an accepted call's result is sound
 pub accepted-sound : (s : State) (c : Call) → refusalOfCall s c ≡ 0 → Sound (stateAfter s c)
+unfolding updateRefusal
 accepted-sound s (received a) h =
     receive-within 4611686018427389904 (omega arith) s a h (in-time (s .progress) (a .time) (receive-accepted s a h .time) .1)
 accepted-sound s (ticked t) h =
     tick-within 4611686018427389904 (omega arith) s t h (in-time (s .progress) (t .time) (tick-accepted s t h .time) .1)
+accepted-sound s (stopped t) h =
+    stop-within 4611686018427389904 (omega arith) s t h (in-time (s .progress) (t .time) (tick-accepted s t h .time) .1)
+accepted-sound s (updated u) h =
+    update-within 4611686018427389904 (omega arith) s u h
+    (in-time (s .progress) (u .time) (update-accepted s (u .time) (u .room) (revised (s .setup) (u .new)) h .time) .1)
 
 -- from a start on, no kept time is above 2^62 + 1,000
 pub from-a-start :

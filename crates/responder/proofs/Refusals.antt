@@ -13,14 +13,17 @@ use Rattle.wire.specs.message.Layout.{wrongLength, wrongHeader}
 use Rattle.wire.specs.message.Refusals.{wrongPort, isMalformed, messageRefusal}
 use Rattle.own.specs.declared.records.Setup.{Setup}
 use Rattle.own.specs.records.Setups.{validSetup, labelFits, instanceFits}
+use Rattle.own.specs.changes.Changes.{revised, changeOf}
 use Rattle.claims.specs.Refusals.{lateStart, wrongTime, wrongStartDraw, wrongDraws}
 use Rattle.writer.specs.own_packets.Own.{unlessRefused}
 use Rattle.responder.specs.Handed.{Arrival, Tick}
 use Rattle.responder.specs.Refusals.{smallBuffer, smallBuffers, wrongState, startRefusal, receiveRefusal, tickRefusal}
 use Rattle.responder.specs.Calls.{refusalOf, lengthOf, unicastLengthOf, Destination, multicast, unicast, answerWith, answerOf, parcels, blank, startOf}
 use Rattle.responder.specs.Calls.{receivedPacket, unicastPacket, receiveOf, tickedPacket, tickOf}
-use Rattle.responder.specs.Runs.{Call, received, ticked, refusalOfCall, answerTo, stateAfter, packetOf, unicastOf, sentBy}
+use Rattle.responder.specs.changes.Changes.{stoppedPacket, stopOf, Update, refusalTo, packetTo, updateTo, updateRefusal, updatedPacket, updateOf}
+use Rattle.responder.specs.Runs.{Call, received, ticked, stopped, updated, refusalOfCall, answerTo, stateAfter, packetOf, unicastOf, sentBy}
 use Rattle.responder.specs.declared.State.{State}
+use Rattle.responder.proofs.changes.Accepted.{update-accepted}
 use Rattle.responder.specs.declared.Answer.the-variants.{Quiet, Sent, Unicast, Both}
 
 clash : {A : Type 0} → _≡_ {A = ℕ} 0 1 → A
@@ -164,26 +167,34 @@ unfolding startOf
 start-number setup time draw = number-of (startRefusal setup time draw) [] []
 
 pub call-number : (s : State) (c : Call) → refusalOf (answerTo s c) ≡ refusalOfCall s c
-unfolding receiveOf tickOf
+unfolding receiveOf tickOf stopOf updateOf updateTo updateRefusal
 call-number s (received a) = number-of (receiveRefusal s a) (receivedPacket s a) (unicastPacket s a)
 call-number s (ticked t) = number-of (tickRefusal s t) (tickedPacket s t) []
+call-number s (stopped t) = number-of (tickRefusal s t) (stoppedPacket s t) []
+call-number s (updated u) = number-of (refusalTo s (u .time) (u .room) (revised (s .setup) (u .new))) (packetTo s (u .time) (u .room) (changeOf (u .new)) (revised (s .setup) (u .new))) []
 
 pub call-length : (s : State) (c : Call) → lengthOf (answerTo s c) ≡ length (packetOf s c)
-unfolding receiveOf receivedPacket unicastPacket tickOf tickedPacket
+unfolding receiveOf receivedPacket unicastPacket tickOf tickedPacket stopOf stoppedPacket updateOf updatedPacket updateTo packetTo
 call-length s (received a) = length-of (receiveRefusal s a) _ _
 call-length s (ticked t) = alone-length (tickRefusal s t) _
+call-length s (stopped t) = alone-length (tickRefusal s t) _
+call-length s (updated u) = alone-length (refusalTo s (u .time) (u .room) (revised (s .setup) (u .new))) _
 
 pub call-reply : (s : State) (c : Call) → unicastLengthOf (answerTo s c) ≡ length (unicastOf s c)
-unfolding receiveOf receivedPacket unicastPacket tickOf tickedPacket
+unfolding receiveOf receivedPacket unicastPacket tickOf tickedPacket stopOf updateOf updateTo
 call-reply s (received a) = reply-of (receiveRefusal s a) _ _
 call-reply s (ticked t) = alone-reply (tickRefusal s t) (tickedPacket s t)
+call-reply s (stopped t) = alone-reply (tickRefusal s t) (stoppedPacket s t)
+call-reply s (updated u) = alone-reply (refusalTo s (u .time) (u .room) (revised (s .setup) (u .new))) (packetTo s (u .time) (u .room) (changeOf (u .new)) (revised (s .setup) (u .new)))
 
 -- ---- "state, table, store and out buffer keep every byte": an empty packet is laid over nothing
 
 pub refused-keeps : (s : State) (c : Call) → eqb (refusalOfCall s c) 0 ≡ false → (stateAfter s c ≡ s) × (packetOf s c ≡ []) × (unicastOf s c ≡ [])
-unfolding receiveOf receivedPacket unicastPacket tickOf tickedPacket
+unfolding receiveOf receivedPacket unicastPacket tickOf tickedPacket stopOf stoppedPacket updateOf updatedPacket updateTo packetTo updateRefusal
 refused-keeps s (received a) h = (simp h, simp h, simp h)
 refused-keeps s (ticked t) h = (simp h, simp h, refl)
+refused-keeps s (stopped t) h = (simp h, simp h, refl)
+refused-keeps s (updated u) h = (simp h, simp h, refl)
 
 -- ---- at most one packet to all, and one to the asker
 
@@ -209,8 +220,11 @@ blank-wrong = refl
 
 -- a call that is accepted has a state that keeps the rules
 pub accepted-right : (s : State) (c : Call) → refusalOfCall s c ≡ 0 → wrongState s ≡ false
+unfolding updateRefusal
 accepted-right s (received a) h = receive-accepted s a h .right
 accepted-right s (ticked t) h = tick-accepted s t h .right
+accepted-right s (stopped t) h = tick-accepted s t h .right
+accepted-right s (updated u) h = update-accepted s (u .time) (u .room) (revised (s .setup) (u .new)) h .right
 
 -- every call refuses the blank state
 pub blank-refused : (c : Call) → refusalOfCall blank c ≡ 0 → ⊥

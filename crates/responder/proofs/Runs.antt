@@ -1,4 +1,5 @@
--- Of every run of calls: a lost claim stays lost, two probes of one claim are at least 250 ms apart, and no two held queries are of one address. Assumes nothing.
+-- Of every run of calls: a lost claim stays lost, two probes of one claim are at least 250 ms apart unless an update lets it begin anew, and no two held queries
+-- are of one address. Assumes nothing.
 use Prim.Native.Nat.{ℕ, _+_, _≤_}
 use mathlib.Core.Path.{_≡_, refl, sym, ap, _∙_}
 use mathlib.Core.Bool.{Bool, true, false, cond, not, _&&_, _||_}
@@ -11,11 +12,12 @@ use mathlib.Mathlib.Data.Bool.Basic.{or-eq-false-eq-eq-false-and-eq-false as nei
 use Rattle.wire.specs.message.Layout.{Reads, read, refused, messageAt}
 use Rattle.own.specs.declared.records.Setup.{Setup}
 use Rattle.own.specs.records.Setups.{validSetup}
+use Rattle.own.specs.changes.Changes.{revised, changeOf}
 use Rattle.claims.specs.Time.{lastTime, afterMs}
 use Rattle.claims.specs.Claims as claims
 use Rattle.claims.specs.Claims.{claimOf}
 use Rattle.claims.specs.Refusals.{kept, lateStart, wrongTime, wrongStartDraw}
-use Rattle.claims.specs.declared.ClaimState.the-variants.{Lost}
+use Rattle.claims.specs.declared.ClaimState.the-variants.{Waiting, Probing1, Probing2, Probing3, Deferred, Announced, Held, Lost}
 use Rattle.claims.specs.declared.records.Claim.{Claim}
 use Rattle.claims.specs.declared.records.Claim.the-variants.{Instance, Host}
 use Rattle.claims.specs.declared.Progress.{Progress}
@@ -29,14 +31,21 @@ use Rattle.claims.specs.holds.Holds.{heldOf, oncePerAddress}
 use Rattle.claims.proofs.holds.Lists.{at-most-four, once-none}
 use Rattle.claims.proofs.steps.Ticks.{tick-last, tick-lost, tick-once}
 use Rattle.claims.proofs.steps.Spacing.{tick-paced, clearFrom, Paced}
+use Rattle.claims.specs.declared.ClaimState.{ClaimState}
+use Rattle.claims.specs.changes.Changes.{afterUpdate, stopOf as stopping}
+use Rattle.claims.proofs.changes.Stops as stops
+use Rattle.claims.proofs.changes.Updates as updates
 use Rattle.claims.proofs.answers.Receives.{receive-last, receive-lost, receive-clear, receive-once, plain-claim, plain-last, plain-holds, begun-holds}
 use Rattle.facts.specs.Facts.{factsOf}
 use Rattle.responder.specs.Handed.{Arrival, comingOf, Tick}
 use Rattle.responder.specs.Refusals.{wrongState, startRefusal, receiveRefusal, tickRefusal}
 use Rattle.responder.specs.Calls.{startOf, fromMdns, heardOf, receiveOf, walkedOf, tickOf}
-use Rattle.responder.specs.Runs.{Call, received, ticked, refusalOfCall, stateAfter, run, timeOf, sendsProbe, probeTimes, Spaced, none, next}
+use Rattle.responder.specs.changes.Changes.{endedOf, stopOf, Update, refusalTo, renewedOf, updateTo, updateRefusal, updateOf}
+use Rattle.responder.specs.Runs.{Call, received, ticked, stopped, updated, refusalOfCall, stateAfter, run, timeOf, sendsProbe, renews, marked, probeMarks}
+use Rattle.responder.specs.Runs.{Spaced, none, next, anew}
 use Rattle.responder.specs.declared.State.{State}
 use Rattle.responder.proofs.Refusals.{StartAccepted, ReceiveAccepted, TickAccepted, start-accepted, receive-accepted, tick-accepted, refused-keeps}
+use Rattle.responder.proofs.changes.Accepted.{UpdateAccepted, update-accepted}
 
 -- what an accepted call says of the numbers
 timely : (progress : Progress) (time : ℕ) → wrongTime progress time ≡ false → (time ≤ lastTime) × (progress .last ≤ time)
@@ -58,6 +67,18 @@ received-progress s a h = simp h
 ticked-progress : (s : State) (t : Tick) → tickRefusal s t ≡ 0 → tickOf s t .state .progress ≡ walkedOf s (t .time) .progress
 unfolding tickOf
 ticked-progress s t h = simp h
+
+stopped-progress : (s : State) (t : Tick) → tickRefusal s t ≡ 0 → stopOf s t .state .progress ≡ endedOf s (t .time) .progress
+unfolding stopOf
+stopped-progress s t h = simp h
+
+updated-progress : (s : State) (u : Update) → updateRefusal s u ≡ 0 → updateOf s u .state .progress ≡ renewedOf s (u .time) (changeOf (u .new)) .progress
+unfolding updateOf updateTo updateRefusal
+updated-progress s u h = simp h
+
+update-tests : (s : State) (u : Update) → updateRefusal s u ≡ 0 → UpdateAccepted s (u .time) (u .room) (revised (s .setup) (u .new))
+unfolding updateRefusal
+update-tests s u h = update-accepted s (u .time) (u .room) (revised (s .setup) (u .new)) h
 
 started-progress : (setup : Setup) (time draw : ℕ) → startRefusal setup time draw ≡ 0 → startOf setup time draw .state .progress ≡ claims.begunAt time draw
 unfolding startOf
@@ -100,12 +121,19 @@ run-lost k s cs q = run-keeps (λ x. claimOf k (x .progress) ≡ Lost) keep s cs
     keep : (x : State) (c : Call) → refusalOfCall x c ≡ 0 → claimOf k (x .progress) ≡ Lost → claimOf k (stateAfter x c .progress) ≡ Lost
     keep x (received a) h e = rw (received-progress x a h) (heard x a (messageAt (a .packet)) e)
     keep x (ticked t) h e = rw (ticked-progress x t h) (tick-lost (t .time) (x .setup .hasaaaa) k (x .progress) e)
+    keep x (stopped t) h e = rw (stopped-progress x t h) (stops.stop-lost (x .progress) (t .time) (x .setup .hasaaaa) k)
+    keep x (updated u) h e = rw (updated-progress x u h) (updates.update-lost (x .progress) (u .time) (changeOf (u .new)) k e)
 
 -- ---- the held queries
 
 -- "by source address": no two are of one address
 abbrev pub OncePerAddress : State → Type 0
 OncePerAddress s = oncePerAddress (heldOf (s .progress .holds)) ≡ true
+
+stopped-once : (progress : Progress) (now : ℕ) (aaaa : Bool) → oncePerAddress (heldOf (progress .holds)) ≡ true
+    → oncePerAddress (heldOf (stopping progress now aaaa .progress .holds)) ≡ true
+unfolding stopping
+stopped-once progress now aaaa e = e
 
 pub run-once : (s : State) (cs : List Call) → OncePerAddress s → OncePerAddress (run s cs)
 run-once s cs q = run-keeps OncePerAddress keep s cs q
@@ -129,6 +157,8 @@ run-once s cs q = run-keeps OncePerAddress keep s cs q
     keep : (x : State) (c : Call) → refusalOfCall x c ≡ 0 → OncePerAddress x → OncePerAddress (stateAfter x c)
     keep x (received a) h e = rw (received-progress x a h) (heard x a (messageAt (a .packet)) e)
     keep x (ticked t) h e = rw (ticked-progress x t h) (tick-once (t .time) (x .setup .hasaaaa) (x .progress) e)
+    keep x (stopped t) h e = rw (stopped-progress x t h) (stopped-once (x .progress) (t .time) (x .setup .hasaaaa) e)
+    keep x (updated u) h e = rw (updated-progress x u h) (updates.update-once (x .progress) (u .time) (changeOf (u .new)) e)
 
 -- Whatever calls follow a start, at most four queries are held, and no two of one address.
 pub few-held :
@@ -153,9 +183,9 @@ module _ (k : Claim) where
   abbrev Ready : ℕ → Progress → Type 0
   Ready from progress = Clear from (progress .last) (claimOf k progress) × (from ≤ progress .last + 250)
 
-  -- what a call leaves: a probe was not too soon, and the next is at least 250 ms later
-  abbrev Leaves : ℕ → ℕ → Bool → Progress → Type 0
-  Leaves from time probed progress = (probed ≡ true → from ≤ time) × Ready (clearFrom probed from time) progress
+  -- what a call leaves: a probe was not too soon, and the next is at least 250 ms later; where the claim begins anew, not before that
+  abbrev Leaves : ℕ → ℕ → Bool → Bool → Progress → Type 0
+  Leaves from time probed new progress = (probed ≡ true → from ≤ time) × Ready (clearFrom probed (cond new time from) time) progress
 
   heard-ready : (from : ℕ) (s : State) (a : Arrival) (x : Reads) → ReceiveAccepted s a → Ready from (s .progress) → Ready from (heardOf s a x .progress)
   heard-ready from s a (refused n) p q = q
@@ -190,7 +220,7 @@ module _ (k : Claim) where
   within false from time e = e
 
   walked-ready : (from : ℕ) (s : State) (t : Tick) → TickAccepted s t → Ready from (s .progress)
-      → Leaves from (t .time) (probesFor k (walkedOf s (t .time) .output)) (walkedOf s (t .time) .progress)
+      → Leaves from (t .time) (probesFor k (walkedOf s (t .time) .output)) false (walkedOf s (t .time) .progress)
   walked-ready from s t p q =
       let d = timely (s .progress) (t .time) (p .time) in
       let c : Paced from (t .time) (probesFor k (walkedOf s (t .time) .output)) (claimOf k (walkedOf s (t .time) .progress)) =
@@ -198,31 +228,86 @@ module _ (k : Claim) where
       let e = tick-last (t .time) (s .setup .hasaaaa) (s .progress) in
       (c .0, (rw e (c .1), rw e (within (probesFor k (walkedOf s (t .time) .output)) from (t .time) (omega (arith, q .1, d .1)))))
 
-  leaves : (from : ℕ) (s : State) (c : Call) → Ready from (s .progress) → Leaves from (timeOf c) (sendsProbe k s c) (stateAfter s c .progress)
+  -- a stop leaves the claim lost
+  lost-ready : (from : ℕ) (progress : Progress) (time : ℕ) → claimOf k progress ≡ Lost → progress .last ≡ time → from ≤ time + 250 → Ready from progress
+  lost-ready from progress time e f b = (rw e tt, rw f b)
+
+-- an update: the instance claim waits from then on, or is held then; the host's is as it was
+updated-clear : (c : ClaimState) (time again second : ℕ) → time ≤ again → Clear time time (afterUpdate c again second)
+updated-clear (Waiting was) time again second h = h
+updated-clear (Probing1 was) time again second h = h
+updated-clear (Probing2 was) time again second h = h
+updated-clear (Probing3 was) time again second h = h
+updated-clear (Deferred was) time again second h = h
+updated-clear (Announced was) time again second h = omega arith
+updated-clear Held time again second h = omega arith
+updated-clear Lost time again second h = tt
+
+updated-leaves : (k : Claim) (from : ℕ) (s : State) (u : Update) (b : Bool) → eqb (updateRefusal s u) 0 ≡ b → Ready k from (s .progress)
+    → Leaves k from (u .time) false (renews k s (updated u)) (updateOf s u .state .progress)
+updated-leaves Instance from s u true e q =
+    let h : updateRefusal s u ≡ 0 = eqb-true _ _ e in
+    let d = timely (s .progress) (u .time) (update-tests s u h .time) in
+    let change = changeOf (u .new) in
+    let again : u .time ≤ afterMs (u .time) (s .progress .draw) =
+    rw (after-exact (u .time) (s .progress .draw) (d .0) (omega (arith, small-draw s (update-tests s u h .right)))) (omega arith) in
+    rw e (
+      λ z. never z,
+      rw (updated-progress s u h) (rw (updates.update-instance (s .progress) (u .time) change, updates.update-last (s .progress) (u .time) change)
+          (updated-clear (s .progress .instance) (u .time) (afterMs (u .time) (s .progress .draw)) (afterMs (u .time) 1000) again, omega arith)),
+    )
+updated-leaves Host from s u true e q =
+    let h : updateRefusal s u ≡ 0 = eqb-true _ _ e in
+    let d = timely (s .progress) (u .time) (update-tests s u h .time) in
+    let change = changeOf (u .new) in (
+      λ z. never z,
+      rw (updated-progress s u h)
+          (rw (updates.update-host (s .progress) (u .time) change, updates.update-last (s .progress) (u .time) change)
+          (clear-later from (u .time) (s .progress .last) (d .1) (s .progress .host) (q .0), omega (arith, q .1, d .1))),
+    )
+updated-leaves Instance from s u false e q = rw e (λ z. never z, rw (refused-keeps s (updated u) e .0) q)
+updated-leaves Host from s u false e q = (λ z. never z, rw (refused-keeps s (updated u) e .0) q)
+
+module _ (k : Claim) where
+  leaves : (from : ℕ) (s : State) (c : Call) → Ready k from (s .progress) → Leaves k from (timeOf c) (sendsProbe k s c) (renews k s c) (stateAfter s c .progress)
   leaves from s (received a) q = go (eqb (receiveRefusal s a) 0) refl
     where
-      go : (b : Bool) → eqb (receiveRefusal s a) 0 ≡ b → Leaves from (a .time) false (receiveOf s a .state .progress)
+      go : (b : Bool) → eqb (receiveRefusal s a) 0 ≡ b → Leaves k from (a .time) false false (receiveOf s a .state .progress)
       go true e =
           let h : receiveRefusal s a ≡ 0 = eqb-true _ _ e in
-          (λ z. never z, rw (received-progress s a h) (heard-ready from s a (messageAt (a .packet)) (receive-accepted s a h) q))
+          (λ z. never z, rw (received-progress s a h) (heard-ready k from s a (messageAt (a .packet)) (receive-accepted s a h) q))
       go false e = (λ z. never z, rw (refused-keeps s (received a) e .0) q)
   leaves from s (ticked t) q = go (eqb (tickRefusal s t) 0) refl
     where
-      go : (b : Bool) → eqb (tickRefusal s t) 0 ≡ b → Leaves from (t .time) (b && probesFor k (walkedOf s (t .time) .output)) (tickOf s t .state .progress)
-      go true e = let h : tickRefusal s t ≡ 0 = eqb-true _ _ e in rw (ticked-progress s t h) (walked-ready from s t (tick-accepted s t h) q)
+      go : (b : Bool) → eqb (tickRefusal s t) 0 ≡ b → Leaves k from (t .time) (b && probesFor k (walkedOf s (t .time) .output)) false (tickOf s t .state .progress)
+      go true e = let h : tickRefusal s t ≡ 0 = eqb-true _ _ e in rw (ticked-progress s t h) (walked-ready k from s t (tick-accepted s t h) q)
       go false e = (λ z. never z, rw (refused-keeps s (ticked t) e .0) q)
-
-  spaced : (from : ℕ) (s : State) (cs : List Call) → Ready from (s .progress) → Spaced from (probeTimes k s cs)
-  spaced from s [] q = none
-  spaced from s (c ∷ cs) q = go (sendsProbe k s c) (leaves from s c q) (λ b x r. spaced b x cs r)
+  leaves from s (stopped t) q = go (eqb (tickRefusal s t) 0) refl
     where
-      go : (b : Bool) → Leaves from (timeOf c) b (stateAfter s c .progress)
-          → ((b : ℕ) (x : State) → Ready b (x .progress) → Spaced b (probeTimes k x cs))
-          → Spaced from (cond b (timeOf c ∷ probeTimes k (stateAfter s c) cs) (probeTimes k (stateAfter s c) cs))
-      go true r more = next (r .0 refl) (more (timeOf c + 250) (stateAfter s c) (r .1))
-      go false r more = more from (stateAfter s c) (r .1)
+      go : (b : Bool) → eqb (tickRefusal s t) 0 ≡ b → Leaves k from (t .time) false false (stopOf s t .state .progress)
+      go true e =
+          let h : tickRefusal s t ≡ 0 = eqb-true _ _ e in
+          let d = timely (s .progress) (t .time) (tick-accepted s t h .time) in (
+            λ z. never z,
+            rw (stopped-progress s t h)
+                (lost-ready k from (endedOf s (t .time) .progress) (t .time) (stops.stop-lost (s .progress) (t .time) (s .setup .hasaaaa) k)
+                (ap (λ (x : Progress). x .last) (stops.stop-same (s .progress) (t .time) (s .setup .hasaaaa))) (omega (arith, q .1, d .1))),
+          )
+      go false e = (λ z. never z, rw (refused-keeps s (stopped t) e .0) q)
+  leaves from s (updated u) q = updated-leaves k from s u (eqb (updateRefusal s u) 0) refl q
 
-  begun : (time draw : ℕ) → time ≤ lastTime → draw ≤ 250 → Ready (time + draw) (claims.begunAt time draw)
+  spaced : (from : ℕ) (s : State) (cs : List Call) → Ready k from (s .progress) → Spaced from (probeMarks k s cs)
+  spaced from s [] q = none
+  spaced from s (c ∷ cs) q = go (sendsProbe k s c) (renews k s c) (leaves from s c q) (λ b x r. spaced b x cs r)
+    where
+      go : (b n : Bool) → Leaves k from (timeOf c) b n (stateAfter s c .progress)
+          → ((b : ℕ) (x : State) → Ready k b (x .progress) → Spaced b (probeMarks k x cs))
+          → Spaced from (marked b n (timeOf c) (probeMarks k (stateAfter s c) cs))
+      go true n r more = next (r .0 refl) (more (timeOf c + 250) (stateAfter s c) (r .1))
+      go false true r more = anew (more (timeOf c) (stateAfter s c) (r .1))
+      go false false r more = more from (stateAfter s c) (r .1)
+
+  begun : (time draw : ℕ) → time ≤ lastTime → draw ≤ 250 → Ready k (time + draw) (claims.begunAt time draw)
   unfolding claims.begunAt
   begun time draw t d = at k
     where
@@ -233,9 +318,9 @@ module _ (k : Claim) where
       at Instance = (first, omega (arith, d))
       at Host = (first, omega (arith, d))
 
-  -- Whatever calls follow a start, no probe of a claim is sent before start plus draw, and no two are closer than 250 ms.
+  -- Whatever calls follow a start, no probe of a claim is sent before start plus draw, and no two are closer than 250 ms but where an update came between.
   pub probes-spaced : (setup : Setup) (time draw : ℕ) (cs : List Call) → startRefusal setup time draw ≡ 0
-      → Spaced (time + draw) (probeTimes k (startOf setup time draw .state) cs)
+      → Spaced (time + draw) (probeMarks k (startOf setup time draw .state) cs)
   probes-spaced setup time draw cs h =
       let p : StartAccepted setup time draw = start-accepted setup time draw h in
       spaced (time + draw) (startOf setup time draw .state) cs

@@ -79,7 +79,8 @@ stateOf refusal s progress = cond (eqb refusal 0) (record { setup = s .setup; pr
 
 -- ---- a start
 
--- The state of a refused start, which the specification leaves free: every label and string is empty, both claims are lost, nothing was multicast, no query is held.
+-- The state of a refused start, which the specification leaves free: every label and string is empty, both claims are lost, nothing was multicast, no query is
+-- held, nothing was updated.
 unfoldable pub blank : State
 blank = record {
   setup = record {
@@ -100,6 +101,7 @@ blank = record {
     sent = neverSent;
     reply = Never;
     holds = noHolds;
+    updated = Never;
     draw = 0;
     last = 0;
   };

@@ -20,7 +20,7 @@ pub record Arrival : Type 0 where
 abbrev pub comingOf : Arrival → Coming
 comingOf a = record { now = a .time; from = a .from; draw = a .draw; hold = a .hold }
 
--- a tick: the time, and the length of the out buffer
+-- a tick, and a stop: the time, and the length of the out buffer
 pub record Tick : Type 0 where
   pub time : ℕ
   pub room : ℕ

@@ -1,6 +1,8 @@
-// The responder (specification, 'Refusal numbers', 'A claim's life', 'Which answers go out'): start, packet received and tick, each on a state by value.
+// The responder (specification, 'Refusal numbers', 'A claim's life', 'Which answers go out'): start, packet received and tick, each on a state by value; stops
+// and updates are in `changes`.
 // A call tests its refusals in the specification's order, has the parts below read, judge and write, and answers with the state after it.
 pub mod address;
+pub mod changes;
 
 ghost use mathlib.Core.Path.{_≡_};
 ghost use mathlib.Core.List.{List};
@@ -101,6 +103,7 @@ pub fn blank_state() -> State
             sent: claims::never_sent(),
             reply: When::Never,
             holds: claims::holds::no_holds(),
+            updated: When::Never,
             draw: 0,
             last: 0,
         },

@@ -1,4 +1,4 @@
--- Theorems: Whole, Puts (with PutCase, calls to which it applies), Composed, OwnPackets, Cases. What they are made of: Names, Sound, Records, Questions, Lists.
+-- Theorems: Whole, Puts (with PutCase, calls to which it applies), Composed, OwnPackets, Goodbye, Cases. What they are made of: Names, Sound, Records, Questions, Lists.
 mod Names
 mod Sound
 mod Records
@@ -8,5 +8,6 @@ pub mod Whole
 pub mod Puts
 pub mod Composed
 pub mod OwnPackets
+pub mod Goodbye
 pub mod Cases
 pub mod PutCase

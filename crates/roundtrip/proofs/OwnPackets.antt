@@ -47,7 +47,7 @@ module _ (s : Setup) (ok : Valid s) (style : Style) where
       )
 
   module _ (name : List ℕ) (named : style .asks ≡ true → isName name ≡ true) (os : List Own) where
-    style-long : length (packetIn s style name os) ≤ 12 + askedSize style name + sizes s os
+    pub style-long : length (packetIn s style name os) ≤ 12 + askedSize style name + sizes s os
     unfolding packetOf
     style-long =
         let h : Writing = header (styledMessage s style name os) in
@@ -57,7 +57,7 @@ module _ (s : Setup) (ok : Valid s) (style : Style) where
         (arith, ap (λ (x : Writing). length (x .bytes)) (one-section (style .authority) (style .whole) w rs), all-size w os, asked-size style name named h .1)
 
     -- a packet in a style can be written
-    style-writable : TtlSmall (style .ttl) → plainHeader (style .flags) ≡ true → Writable (styledMessage s style name os)
+    pub style-writable : TtlSmall (style .ttl) → plainHeader (style .flags) ≡ true → Writable (styledMessage s style name os)
     unfolding ownRecord
     style-writable ttls plain = record {
       plain = plain;
@@ -85,7 +85,7 @@ module _ (s : Setup) (ok : Valid s) (style : Style) where
         authorities false = none
 
 -- a response has no question
-unasked : false ≡ true → isName [] ≡ true
+pub unasked : false ≡ true → isName [] ≡ true
 unasked e = let z : _≡_ {A = ℕ} 0 1 = cc in absurd (omega arith)
 
 response-long : (s : Setup) → Valid s → (id : ℕ) (chosen : Set) → length (packetIn s (responseStyle id) [] (responseRecords s chosen)) ≤ 1370
@@ -100,7 +100,7 @@ probe-long s ok claim =
       probe-size s ok claim,
     )
 
-some : (os : List Own) (packet : List ℕ) → (os ≡ [] → ⊥) → noneIfEmpty os packet ≡ packet
+pub some : (os : List Own) (packet : List ℕ) → (os ≡ [] → ⊥) → noneIfEmpty os packet ≡ packet
 some [] packet h = absurd (h refl)
 some (o ∷ os) packet h = refl
 

@@ -4,3 +4,4 @@ pub mod PutCase
 pub mod Composed
 pub mod Statements
 pub mod Cases
+pub mod Goodbye

@@ -1,4 +1,4 @@
--- The accepted calls in messages: a start, a tick and a packet received that are not refused. Assumes nothing.
+-- The accepted calls in messages: a start, a tick, a packet received and an update that are not refused. Assumes nothing.
 use mathlib.Core.Path.{_≡_, refl, sym, ap, subst, _∙_}
 use mathlib.Core.Bool.{Bool, true, false, cond, not, _||_}
 use mathlib.Core.Logic.{_≢_, _⊎_, inl, inr}
@@ -30,17 +30,20 @@ use Rattle.claims.specs.records.Sets as sets
 use Rattle.claims.specs.records.Sets.{noRecord}
 use Rattle.responder.specs.Refusals.{wrongState, startRefusal, receiveRefusal, tickRefusal}
 use Rattle.responder.specs.Calls.{answerWith, answerOf, packetFor, plainFor, replyTo, broughtBack, fromMdns, startState, startOf, heardOf, receivedPacket, unicastPacket, receiveOf, walkedOf, tickedPacket, tickOf}
+use Rattle.responder.specs.changes.Changes.{Update, refusalTo, packetTo, updateTo, updateRefusal, updatedPacket, updateOf}
 use Rattle.responder.specs.declared.State.{State}
 use Rattle.writer.specs.own_packets.Own.{responseRecords, responsePacket}
 use Rattle.responder.specs.declared.Answer.the-variants.{Refused, Quiet, Sent, Unicast, Both}
 use Rattle.responder.proofs.Replying.{first-named}
+use Rattle.responder.proofs.changes.Accepted.{UpdateAccepted}
+use Rattle.responder.proofs.changes.Updates as changed
 use Rattle.responder.proofs.Refusals.{StartAccepted, ReceiveAccepted, TickAccepted, start-accepted, receive-accepted, tick-accepted}
 use Rattle.link.specs.Responder as link
 use Rattle.link.specs.Responder.{Claim, instance, host, Parcel, everyone}
 use Rattle.link.specs.Laws as law
 use Rattle.responder.specs.Handed.{Arrival, Tick}
-use Rattle.uniqueness.specs.Responder.{sends, backTo, sentFor, ownClaim, begunBy, answeredBy, start, tick, receive, messageOf, readAs, responder}
-use Rattle.uniqueness.specs.Rules.{responseFor, messagesFor, repliesFor, toAsker, with, told, served, stageOf, Of, Ready, rules}
+use Rattle.uniqueness.specs.Responder.{sends, backTo, sentFor, ownClaim, begunBy, answeredBy, start, tick, receive, update, revise, messageOf, readAs, responder}
+use Rattle.uniqueness.specs.Rules.{responseFor, messagesFor, repliesFor, toAsker, with, told, served, renewed, stageOf, Of, Ready, rules}
 use Rattle.uniqueness.proofs.Lists.{clash}
 use Rattle.uniqueness.proofs.Messages.{both-read, response-reads, output-reads, reply-reads}
 
@@ -54,6 +57,10 @@ not-false false h = clash (cc)
 in-time : (progress : Progress) (now : ℕ) → wrongTime progress now ≡ false → now ≤ lastTime
 unfolding wrongTime
 in-time progress now h = ltb-false lastTime now (neither (lateStart now) (ltb now (progress .last) || not (kept lastKept progress)) .0 h .0)
+
+right-draw : (x : State) → wrongState x ≡ false → x .progress .draw ≤ 250
+unfolding wrongState
+right-draw x h = ltb-false 250 (x .progress .draw) (neither (not (validSetup (x .setup))) (wrongStartDraw (x .progress .draw)) .0 h .1)
 
 pub right-setup : (x : State) → wrongState x ≡ false → validSetup (x .setup) ≡ true
 unfolding wrongState
@@ -142,7 +149,7 @@ ticked s x t y ps of e =
     let a : TickAccepted x t = tick-accepted x t (w .none-refused) in
     let o : Output = walkedOf x (t .time) .output in
     let p : ps ≡ sends everyone (packetFor (x .setup) o) = w .sent ∙ ap (sends everyone) (ticked-packet x t (w .none-refused)) in (
-      record { of = of; time = in-time (x .progress) (t .time) (a .time); port = tt },
+      record { of = of; time = in-time (x .progress) (t .time) (a .time); fits = tt },
       record {
         state = w .state ∙ ticked-state x t (w .none-refused);
         reads = subst (λ (l : List Parcel). law.ReadAs readAs l (map law.toAll (messagesFor (x .setup) o))) (sym p) (output-reads (x .setup) (of .valid) o);
@@ -242,7 +249,7 @@ received s x a y ps of e =
         let port : a .port ≡ 5353 = eqb-true (a .port) 5353 t in
         inl (
           port,
-          record { of = of; time = in-time (x .progress) (a .time) (g .time); port = port },
+          record { of = of; time = in-time (x .progress) (a .time) (g .time); fits = port },
           record {
             state = w .state ∙ f .0;
             reads =
@@ -263,7 +270,7 @@ received s x a y ps of e =
         f .1 ∙ ap (λ (qs : List Parcel). qs ++ sends (backTo a) (plainFor (x .setup) (served x a m .unicast) (m .id) (m .questions))) (none-to-all (x .setup)) in
         inr (
           eqb-false (a .port) 5353 t,
-          record { of = of; time = in-time (x .progress) (a .time) (g .time); port = tt },
+          record { of = of; time = in-time (x .progress) (a .time) (g .time); fits = tt },
           record {
             state = w .state ∙ f .0;
             reads =
@@ -271,3 +278,33 @@ received s x a y ps of e =
                 (reply-reads (x .setup) (of .valid) (backTo a) set (m .id) (m .questions) (λ z rest h. first-named (a .packet) l m was z rest h));
           },
         )
+
+-- ---- an update
+
+pub update-is :
+    (x : State) (u : Update) (y : State) (ps : List Parcel) → update x u ≡ link.accepted y ps
+    → Accepted (updateRefusal x u) (updateOf x u .state) (sends everyone (updatedPacket x u)) y ps
+unfolding update updateOf updateTo updateRefusal updatedPacket
+update-is x u y ps e =
+    accepted-by (updateRefusal x u) (updateOf x u .state) (updatedPacket x u) [] (sends everyone (updatedPacket x u)) y ps e
+
+pub updated :
+    (s : Setup) (x : State) (u : Update) (y : State) (ps : List Parcel) → Of x s → update x u ≡ link.accepted y ps
+    → Ready x s (law.updates u) × law.Does responder rules x y ps (law.updates u)
+updated s x u y ps of e =
+    let w = update-is x u y ps e in
+    let a = changed.accepted x u (w .none-refused) in
+    let o : Output = Response (renewed x u .announced) in
+    let p : ps ≡ sends everyone (packetFor (revise u (x .setup)) o) = w .sent ∙ ap (sends everyone) (changed.updated-sent x u (w .none-refused)) in (
+      record {
+        of = of;
+        time = in-time (x .progress) (u .time) (a .time);
+        fits = (a .valid, a .claims, right-draw x (a .right));
+      },
+      record {
+        state = w .state ∙ changed.updated-state x u (w .none-refused);
+        reads =
+            subst (λ (l : List Parcel). law.ReadAs readAs l (map law.toAll (messagesFor (revise u (x .setup)) o))) (sym p)
+            (output-reads (revise u (x .setup)) (a .valid) o);
+      },
+    )

@@ -148,11 +148,11 @@ module _ (x : State) (ok : validSetup (x .setup) ≡ true) (arrival : Arrival) (
       go true g =
           inr
           (subst (λ (p : ℕ). Told (unicast (halves (arrival .from)) p)) port
-          (told-asker x ok k type (w .own) (w .is) (w .there) arrival m
+          (told-asker x ok k type (w .own) (w .is) arrival m (w .there)
           (ap (λ (r : received.Received). has (w .own) (r .unicast)) judged ∙ (in-reply (w .own) ∙ unicast-exactly x now m (w .own) ∙ goes-to-asker g))))
       go false g =
           inl
-          (told-all x ok k type (w .own) (w .is) (w .there) (law.hears arrival m) (told x arrival m .answers) refl
+          (told-all x ok k type (w .own) (w .is) (law.hears arrival m) (w .there) (told x arrival m .answers) refl
           (ap (λ (r : received.Received). has (w .own) (r .answers)) judged
           ∙ (at-once (x .progress) (comingOf arrival) f (x .setup .hasaaaa) (w .own) (own-at-once k type (w .own) o)
           ∙ wanted-exactly x now m (w .own)

@@ -2,10 +2,12 @@
 -- 1,200 ms are asked; of two that want one name with different data, one holds it and the other has lost it; one that gives its name up to a stranger comes
 -- to hold it again. Assumes nothing.
 use mathlib.Core.Path.{_≡_, refl, sym, ap, _∙_}
-use mathlib.Core.Bool.{Bool, true, false, not}
-use mathlib.Core.Option.{some}
+use mathlib.Core.Logic.{_⊎_, inl}
+use mathlib.Core.Bool.{Bool, true, false, not, _||_}
+use mathlib.Core.Option.{Option, some}
 use mathlib.Core.List.{List, [], _∷_, _++_}
-use Prim.Native.Nat.{ℕ, _+_}
+use Prim.Native.Nat.{ℕ, _+_, _<_}
+use native.Mathlib.Omega.{arith}
 use lib.ListN.{length}
 use lib.Dec.{leb, ltb}
 use borrow.Author.Tests.{leb-true, ltb-true}
@@ -17,7 +19,6 @@ use Rattle.wire.specs.expansion.Equal.{sameBytes}
 use Rattle.wire.specs.message.Layout.{questionRead, recordRead, questionAt, recordAt, listFrom, andThen, messageAt}
 use Rattle.writer.specs.compression.Compression.{standsAt, placeOf, cutFrom, nameBytes, namePlaces}
 use Rattle.wire.specs.labels.Counted.{starts}
-use Rattle.own.specs.declared.records.Setup.{Setup}
 use Rattle.own.specs.utf8.Utf8 as utf8
 use Rattle.own.specs.records.Setups.{labelFits, instanceFits, isLetter, isNameByte, allNameBytes, someLetter, hyphensApart, serviceRule, serviceFits, protocolFits, domainFits, txtFits, validSetup, serviceLabels, instanceLabels, hostLabels}
 use Rattle.own.specs.records.Records.{hasRecord, ownLabels, ownName, srvRdata, ownRdata}
@@ -46,15 +47,17 @@ use Rattle.writer.specs.own_packets.Styles.{ownRecord}
 use Rattle.writer.specs.own_packets.Own.{responseRecords, probeRecords, responseOf, probeOf, responsePacket, probePacket, plainRecords, plainPacket}
 use Rattle.responder.specs.Refusals.{wrongState, startRefusal, receiveRefusal, tickRefusal}
 use Rattle.responder.specs.Calls.{blank, startOf, packetFor, receivedPacket, unicastPacket, receiveOf, tickedPacket, tickOf}
+use Rattle.responder.specs.changes.Changes.{Update}
 use Rattle.responder.specs.declared.State.{State}
 use Rattle.link.specs.Responder.{Claim, instance, host, everyone, unicast}
-use Rattle.link.specs.Entries.{entry, clockOf, ownerOf, setupIn, setupOf as startedWith, timeAt, reply, returned, called, after, runs, isAccepted, acceptedAt, parcelsOf, sentAt, heardIn, sourceIn, Entry}
+use Rattle.link.specs.Entries.{entry, clockOf, ownerOf, ownerAt, setupIn, timeAt, reply, returned, unlessStopped, called, after, isSome, runs, isAccepted, acceptedAt, parcelsOf, sentAt, heardIn, sourceIn, revised, dataAt, updateIn, updateAt, Entry}
 use Rattle.link.specs.Premises.{Premises}
 use Rattle.link.specs.Holding.{isAnd, anyOf, respondsFor, conflictsWith, defeatsOf, writes, hears, holds}
 use Rattle.link.specs.Demand3.{Unopposed, holdingTime}
 use Rattle.link.specs.Witness.{every, someBelow, allOf, sameBytes as samePackets, reaches, addressIn, ordered, atOneRate, owed, takes, taken, deliveredTo, allDelivered, allOnTime, meets}
 use Rattle.link.proofs.Witness.{met, below}
 use Rattle.uniqueness.specs.Responder.{sends, halves, backTo, start, tick, receive, dueTimes, due, responds, conflicts, defeats, responder}
+use Rattle.uniqueness.proofs.Lists.{never}
 use Rattle.uniqueness.specs.Example as example
 use Rattle.uniqueness.specs.Example.{setupOf, one, other, srvAndTxt, somewhere, aloneAt, contestAt, rivalsAt, threeAt, dividedAt, alone, contest, rivals, ptrQuery, truncatedQuery, plainQuery, three, divided}
 
@@ -72,43 +75,45 @@ isLost Lost = true
 abbrev pub lostBy : State → Bool
 lostBy x = isLost (x .progress .instance)
 
--- of responder d with the set-up s, for a claim: among the first n entries it hears nothing that contradicts it, and it holds the name after them
-abbrev Holds : List (Entry responder) → ℕ → Setup → Claim → ℕ → Type 0
-Holds es d s k n =
-    (every n (λ j. not (hears responder es d (conflictsWith responder s k) j)) ≡ true)
-    × (every n (λ j. not (hears responder es d (defeatsOf responder s k) j)) ≡ true)
-    × (holds responder es d s k n ≡ true)
+-- of responder d, for a claim: among the first n entries it hears nothing that contradicts it, and it holds the name after them
+abbrev pub Holds : List (Entry responder) → ℕ → Claim → ℕ → Type 0
+Holds es d k n =
+    (every n (λ j. not (hears responder es d (λ s. conflictsWith responder s k) j)) ≡ true)
+    × (every n (λ j. not (hears responder es d (λ s. defeatsOf responder s k) j)) ≡ true)
+    × (holds responder es d k n ≡ true)
 
--- it was started with s, the first n entries are those at most 1,200 ms after its start, one comes later, and it runs
-abbrev Asked : List (Entry responder) → ℕ → Setup → ℕ → Type 0
-Asked es d s n =
-    (startedWith responder es d ≡ some s)
-    × (every n (λ j. leb (timeAt responder es j) (timeAt responder es d + holdingTime)) ≡ true)
+-- entry b is a call of it, the first n entries are those at most 1,200 ms after that, one comes later, and it runs
+abbrev pub Asked : List (Entry responder) → ℕ → ℕ → ℕ → Type 0
+Asked es d b n =
+    (ownerAt responder es b ≡ d)
+    × (every n (λ j. leb (timeAt responder es j) (timeAt responder es b + holdingTime)) ≡ true)
     × (ltb n (length es) ≡ true)
-    × (ltb (timeAt responder es d + holdingTime) (timeAt responder es n) ≡ true)
+    × (ltb (timeAt responder es b + holdingTime) (timeAt responder es n) ≡ true)
     × (runs responder es d n ≡ true)
+    × (ltb b n ≡ true)
+    × (every n (λ j. leb j b || not (isSome (updateAt responder es j))) ≡ true)
 
 -- everything that the checker computes of the lists: of the first two, of the third, and of the last
 abbrev Seen : Type 0
 Seen =
     (meets responder alone aloneAt ≡ true)
-    × Asked alone 0 one 9
-    × Holds alone 0 one instance 9
-    × Holds alone 0 one host 9
+    × Asked alone 0 0 9
+    × Holds alone 0 instance 9
+    × Holds alone 0 host 9
     × (meets responder contest contestAt ≡ true)
-    × (holds responder contest 0 one instance (length contest) ≡ true)
-    × (holds responder contest 9 other instance (length contest) ≡ false)
+    × (holds responder contest 0 instance (length contest) ≡ true)
+    × (holds responder contest 9 instance (length contest) ≡ false)
     × (isAnd lostBy (after responder contest 9 (length contest)) ≡ true)
-    × (holds responder contest 9 other host (length contest) ≡ true)
+    × (holds responder contest 9 host (length contest) ≡ true)
 
 abbrev SeenRivals : Type 0
 SeenRivals =
     (meets responder rivals rivalsAt ≡ true)
-    × Asked rivals 1 other 38
-    × Holds rivals 1 other instance 38
-    × Holds rivals 1 other host 38
-    × (holds responder rivals 0 one host 29 ≡ true)
-    × (holds responder rivals 0 one host 30 ≡ false)
+    × Asked rivals 1 1 38
+    × Holds rivals 1 instance 38
+    × Holds rivals 1 host 38
+    × (holds responder rivals 0 host 29 ≡ true)
+    × (holds responder rivals 0 host 30 ≡ false)
     × (isAnd lostBy (after responder rivals 0 29) ≡ true)
     × (isAnd lostBy (after responder rivals 30 (length rivals)) ≡ true)
     × (acceptedAt responder rivals 10 ≡ false)
@@ -117,9 +122,9 @@ SeenRivals =
 abbrev SeenThree : Type 0
 SeenThree =
     (meets responder three threeAt ≡ true)
-    × (holds responder three 0 other instance 17 ≡ true)
-    × (holds responder three 0 other instance 18 ≡ false)
-    × (holds responder three 0 other instance (length three) ≡ true)
+    × (holds responder three 0 instance 17 ≡ true)
+    × (holds responder three 0 instance 18 ≡ false)
+    × (holds responder three 0 instance (length three) ≡ true)
     × (acceptedAt responder three 3 ≡ true)
     × (acceptedAt responder three 10 ≡ true)
     × (acceptedAt responder three 15 ≡ true)
@@ -129,31 +134,47 @@ SeenThree =
     × (runs responder three 30 (length three) ≡ true)
 
 seen : Seen
-unfolding setupOf alone contest rivals three ptrQuery plainQuery plainPacket plainRecords answers.plainOf answers.dueTo sets.withData labelsFill holds writes hears anyOf respondsFor conflictsWith defeatsOf responds conflicts defeats meets ordered atOneRate reaches addressIn owed takes taken deliveredTo allDelivered allOnTime every someBelow allOf samePackets entry clockOf ownerOf setupIn reply returned called after isAccepted parcelsOf heardIn sourceIn start tick receive dueTimes due blank startOf packetFor receivedPacket unicastPacket receiveOf tickedPacket tickOf wrongState startRefusal receiveRefusal tickRefusal ownRecord responseRecords probeRecords responseOf probeOf responsePacket probePacket putName dataBytes dataPlaces putFields packetOf isAsked isAskedAs isKnown conflicted theirsLater responseFacts queryFacts factsOf answers.heardOf answers.asksOf answers.wantedOf answers.askedBy answers.multicastAsks answers.unicastAsks answers.joined answers.judgedOf held.toHold held.heldBack held.receiveOf queries.someFrom queries.someFree queries.union queries.knowing queries.knowingAll queries.queued listUnder someOf isProbe compareNumbers inTurn compareRecords insertBy sortBy tie steps.sends steps.actionTurn steps.claimTurn steps.ptrReply steps.replyTurn steps.holdAnswers steps.holdTurn steps.stepTurn steps.walked steps.endedOf steps.tickOf moreDue actionOf unsentOf sets.someOf sets.everyOf sets.picked sets.only sets.anyOf sets.atOnce sets.recordsOf multicastsKept holdsKept kept wrongTime claims.begunAt afterMs markedAll hasRecord ownLabels ownName srvRdata ownRdata labelFits instanceFits utf8.isShown utf8.shownFrom utf8.mayStand utf8.behind utf8.starts utf8.following utf8.within isLetter isNameByte allNameBytes someLetter hyphensApart serviceRule serviceFits protocolFits domainFits txtFits validSetup serviceLabels instanceLabels hostLabels standsAt placeOf cutFrom nameBytes starts namePlaces questionRead recordRead questionAt recordAt listFrom messageAt andThen sameBytes stringsFill nameAt fromRun readFrom pieceAt sameName rdataAt rdataIn formFor formIn
-seen = (refl, (refl, refl, refl, refl, refl), (refl, refl, refl), (refl, refl, refl), refl, refl, refl, refl, refl)
+unfolding setupOf alone contest rivals three ptrQuery plainQuery plainPacket plainRecords answers.plainOf answers.dueTo sets.withData labelsFill holds writes hears anyOf respondsFor conflictsWith defeatsOf responds conflicts defeats meets ordered atOneRate reaches addressIn owed takes taken deliveredTo allDelivered allOnTime every someBelow allOf samePackets entry clockOf ownerOf setupIn reply returned unlessStopped called after isAccepted parcelsOf heardIn sourceIn revised dataAt updateIn start tick receive dueTimes due blank startOf packetFor receivedPacket unicastPacket receiveOf tickedPacket tickOf wrongState startRefusal receiveRefusal tickRefusal ownRecord responseRecords probeRecords responseOf probeOf responsePacket probePacket putName dataBytes dataPlaces putFields packetOf isAsked isAskedAs isKnown conflicted theirsLater responseFacts queryFacts factsOf answers.heardOf answers.asksOf answers.wantedOf answers.askedBy answers.multicastAsks answers.unicastAsks answers.joined answers.judgedOf held.toHold held.heldBack held.receiveOf queries.someFrom queries.someFree queries.union queries.knowing queries.knowingAll queries.queued listUnder someOf isProbe compareNumbers inTurn compareRecords insertBy sortBy tie steps.sends steps.actionTurn steps.claimTurn steps.ptrReply steps.replyTurn steps.holdAnswers steps.holdTurn steps.stepTurn steps.walked steps.endedOf steps.tickOf moreDue actionOf unsentOf sets.someOf sets.everyOf sets.picked sets.only sets.anyOf sets.atOnce sets.recordsOf multicastsKept holdsKept kept wrongTime claims.begunAt afterMs markedAll hasRecord ownLabels ownName srvRdata ownRdata labelFits instanceFits utf8.isShown utf8.shownFrom utf8.mayStand utf8.behind utf8.starts utf8.following utf8.within isLetter isNameByte allNameBytes someLetter hyphensApart serviceRule serviceFits protocolFits domainFits txtFits validSetup serviceLabels instanceLabels hostLabels standsAt placeOf cutFrom nameBytes starts namePlaces questionRead recordRead questionAt recordAt listFrom messageAt andThen sameBytes stringsFill nameAt fromRun readFrom pieceAt sameName rdataAt rdataIn formFor formIn
+seen = (refl, (refl, refl, refl, refl, refl, refl, refl), (refl, refl, refl), (refl, refl, refl), refl, refl, refl, refl, refl)
 
 seen-rivals : SeenRivals
-unfolding setupOf alone contest rivals three ptrQuery plainQuery plainPacket plainRecords answers.plainOf answers.dueTo sets.withData labelsFill holds writes hears anyOf respondsFor conflictsWith defeatsOf responds conflicts defeats meets ordered atOneRate reaches addressIn owed takes taken deliveredTo allDelivered allOnTime every someBelow allOf samePackets entry clockOf ownerOf setupIn reply returned called after isAccepted parcelsOf heardIn sourceIn start tick receive dueTimes due blank startOf packetFor receivedPacket unicastPacket receiveOf tickedPacket tickOf wrongState startRefusal receiveRefusal tickRefusal ownRecord responseRecords probeRecords responseOf probeOf responsePacket probePacket putName dataBytes dataPlaces putFields packetOf isAsked isAskedAs isKnown conflicted theirsLater responseFacts queryFacts factsOf answers.heardOf answers.asksOf answers.wantedOf answers.askedBy answers.multicastAsks answers.unicastAsks answers.joined answers.judgedOf held.toHold held.heldBack held.receiveOf queries.someFrom queries.someFree queries.union queries.knowing queries.knowingAll queries.queued listUnder someOf isProbe compareNumbers inTurn compareRecords insertBy sortBy tie steps.sends steps.actionTurn steps.claimTurn steps.ptrReply steps.replyTurn steps.holdAnswers steps.holdTurn steps.stepTurn steps.walked steps.endedOf steps.tickOf moreDue actionOf unsentOf sets.someOf sets.everyOf sets.picked sets.only sets.anyOf sets.atOnce sets.recordsOf multicastsKept holdsKept kept wrongTime claims.begunAt afterMs markedAll hasRecord ownLabels ownName srvRdata ownRdata labelFits instanceFits utf8.isShown utf8.shownFrom utf8.mayStand utf8.behind utf8.starts utf8.following utf8.within isLetter isNameByte allNameBytes someLetter hyphensApart serviceRule serviceFits protocolFits domainFits txtFits validSetup serviceLabels instanceLabels hostLabels standsAt placeOf cutFrom nameBytes starts namePlaces questionRead recordRead questionAt recordAt listFrom messageAt andThen sameBytes stringsFill nameAt fromRun readFrom pieceAt sameName rdataAt rdataIn formFor formIn
-seen-rivals = (refl, (refl, refl, refl, refl, refl), (refl, refl, refl), (refl, refl, refl), refl, refl, refl, refl, refl, refl)
+unfolding setupOf alone contest rivals three ptrQuery plainQuery plainPacket plainRecords answers.plainOf answers.dueTo sets.withData labelsFill holds writes hears anyOf respondsFor conflictsWith defeatsOf responds conflicts defeats meets ordered atOneRate reaches addressIn owed takes taken deliveredTo allDelivered allOnTime every someBelow allOf samePackets entry clockOf ownerOf setupIn reply returned unlessStopped called after isAccepted parcelsOf heardIn sourceIn revised dataAt updateIn start tick receive dueTimes due blank startOf packetFor receivedPacket unicastPacket receiveOf tickedPacket tickOf wrongState startRefusal receiveRefusal tickRefusal ownRecord responseRecords probeRecords responseOf probeOf responsePacket probePacket putName dataBytes dataPlaces putFields packetOf isAsked isAskedAs isKnown conflicted theirsLater responseFacts queryFacts factsOf answers.heardOf answers.asksOf answers.wantedOf answers.askedBy answers.multicastAsks answers.unicastAsks answers.joined answers.judgedOf held.toHold held.heldBack held.receiveOf queries.someFrom queries.someFree queries.union queries.knowing queries.knowingAll queries.queued listUnder someOf isProbe compareNumbers inTurn compareRecords insertBy sortBy tie steps.sends steps.actionTurn steps.claimTurn steps.ptrReply steps.replyTurn steps.holdAnswers steps.holdTurn steps.stepTurn steps.walked steps.endedOf steps.tickOf moreDue actionOf unsentOf sets.someOf sets.everyOf sets.picked sets.only sets.anyOf sets.atOnce sets.recordsOf multicastsKept holdsKept kept wrongTime claims.begunAt afterMs markedAll hasRecord ownLabels ownName srvRdata ownRdata labelFits instanceFits utf8.isShown utf8.shownFrom utf8.mayStand utf8.behind utf8.starts utf8.following utf8.within isLetter isNameByte allNameBytes someLetter hyphensApart serviceRule serviceFits protocolFits domainFits txtFits validSetup serviceLabels instanceLabels hostLabels standsAt placeOf cutFrom nameBytes starts namePlaces questionRead recordRead questionAt recordAt listFrom messageAt andThen sameBytes stringsFill nameAt fromRun readFrom pieceAt sameName rdataAt rdataIn formFor formIn
+seen-rivals = (refl, (refl, refl, refl, refl, refl, refl, refl), (refl, refl, refl), (refl, refl, refl), refl, refl, refl, refl, refl, refl)
 
 seen-three : SeenThree
-unfolding setupOf alone contest rivals three ptrQuery plainQuery plainPacket plainRecords answers.plainOf answers.dueTo sets.withData labelsFill holds writes hears anyOf respondsFor conflictsWith defeatsOf responds conflicts defeats meets ordered atOneRate reaches addressIn owed takes taken deliveredTo allDelivered allOnTime every someBelow allOf samePackets entry clockOf ownerOf setupIn reply returned called after isAccepted parcelsOf heardIn sourceIn start tick receive dueTimes due blank startOf packetFor receivedPacket unicastPacket receiveOf tickedPacket tickOf wrongState startRefusal receiveRefusal tickRefusal ownRecord responseRecords probeRecords responseOf probeOf responsePacket probePacket putName dataBytes dataPlaces putFields packetOf isAsked isAskedAs isKnown conflicted theirsLater responseFacts queryFacts factsOf answers.heardOf answers.asksOf answers.wantedOf answers.askedBy answers.multicastAsks answers.unicastAsks answers.joined answers.judgedOf held.toHold held.heldBack held.receiveOf queries.someFrom queries.someFree queries.union queries.knowing queries.knowingAll queries.queued listUnder someOf isProbe compareNumbers inTurn compareRecords insertBy sortBy tie steps.sends steps.actionTurn steps.claimTurn steps.ptrReply steps.replyTurn steps.holdAnswers steps.holdTurn steps.stepTurn steps.walked steps.endedOf steps.tickOf moreDue actionOf unsentOf sets.someOf sets.everyOf sets.picked sets.only sets.anyOf sets.atOnce sets.recordsOf multicastsKept holdsKept kept wrongTime claims.begunAt afterMs markedAll hasRecord ownLabels ownName srvRdata ownRdata labelFits instanceFits utf8.isShown utf8.shownFrom utf8.mayStand utf8.behind utf8.starts utf8.following utf8.within isLetter isNameByte allNameBytes someLetter hyphensApart serviceRule serviceFits protocolFits domainFits txtFits validSetup serviceLabels instanceLabels hostLabels standsAt placeOf cutFrom nameBytes starts namePlaces questionRead recordRead questionAt recordAt listFrom messageAt andThen sameBytes stringsFill nameAt fromRun readFrom pieceAt sameName rdataAt rdataIn formFor formIn
+unfolding setupOf alone contest rivals three ptrQuery plainQuery plainPacket plainRecords answers.plainOf answers.dueTo sets.withData labelsFill holds writes hears anyOf respondsFor conflictsWith defeatsOf responds conflicts defeats meets ordered atOneRate reaches addressIn owed takes taken deliveredTo allDelivered allOnTime every someBelow allOf samePackets entry clockOf ownerOf setupIn reply returned unlessStopped called after isAccepted parcelsOf heardIn sourceIn revised dataAt updateIn start tick receive dueTimes due blank startOf packetFor receivedPacket unicastPacket receiveOf tickedPacket tickOf wrongState startRefusal receiveRefusal tickRefusal ownRecord responseRecords probeRecords responseOf probeOf responsePacket probePacket putName dataBytes dataPlaces putFields packetOf isAsked isAskedAs isKnown conflicted theirsLater responseFacts queryFacts factsOf answers.heardOf answers.asksOf answers.wantedOf answers.askedBy answers.multicastAsks answers.unicastAsks answers.joined answers.judgedOf held.toHold held.heldBack held.receiveOf queries.someFrom queries.someFree queries.union queries.knowing queries.knowingAll queries.queued listUnder someOf isProbe compareNumbers inTurn compareRecords insertBy sortBy tie steps.sends steps.actionTurn steps.claimTurn steps.ptrReply steps.replyTurn steps.holdAnswers steps.holdTurn steps.stepTurn steps.walked steps.endedOf steps.tickOf moreDue actionOf unsentOf sets.someOf sets.everyOf sets.picked sets.only sets.anyOf sets.atOnce sets.recordsOf multicastsKept holdsKept kept wrongTime claims.begunAt afterMs markedAll hasRecord ownLabels ownName srvRdata ownRdata labelFits instanceFits utf8.isShown utf8.shownFrom utf8.mayStand utf8.behind utf8.starts utf8.following utf8.within isLetter isNameByte allNameBytes someLetter hyphensApart serviceRule serviceFits protocolFits domainFits txtFits validSetup serviceLabels instanceLabels hostLabels standsAt placeOf cutFrom nameBytes starts namePlaces questionRead recordRead questionAt recordAt listFrom messageAt andThen sameBytes stringsFill nameAt fromRun readFrom pieceAt sameName rdataAt rdataIn formFor formIn
 seen-three = (refl, refl, refl, refl, refl, refl, refl, refl, refl, refl, refl)
 
 not-true : (b : Bool) → not b ≡ true → b ≡ false
 not-true false e = refl
 not-true true e = sym e
 
-unopposed : (es : List (Entry responder)) (d : ℕ) (s : Setup) (k : Claim) (n : ℕ) → Asked es d s n → Holds es d s k n → Unopposed responder es d s k n
-unopposed es d s k n a h = record {
-  started = a .0;
-  within = λ j l. leb-true (timeAt responder es j) (timeAt responder es d + holdingTime) (below n (λ i. leb (timeAt responder es i) (timeAt responder es d + holdingTime)) (a .1) j l);
+pub unopposed :
+    (es : List (Entry responder)) (d : ℕ) (k : Claim) (b n : ℕ) → Asked es d b n → Holds es d k n
+    → (b ≡ d) ⊎ ((k ≡ instance) × ((u : Update) × (updateAt responder es b ≡ some u) × (holds responder es d k b ≡ false)))
+    → Unopposed responder es d k b n
+unopposed es d k b n a h from = record {
+  whose = a .0;
+  before = ltb-true b n (a .5);
+  from = from;
+  last = λ j u e l m o t. absurd (no-update j l m u t);
+  within = λ j l. leb-true (timeAt responder es j) (timeAt responder es b + holdingTime) (below n (λ i. leb (timeAt responder es i) (timeAt responder es b + holdingTime)) (a .1) j l);
   inList = ltb-true n (length es) (a .2);
-  beyond = ltb-true (timeAt responder es d + holdingTime) (timeAt responder es n) (a .3);
+  beyond = ltb-true (timeAt responder es b + holdingTime) (timeAt responder es n) (a .3);
   running = a .4;
-  noConflict = λ j l. not-true (hears responder es d (conflictsWith responder s k) j) (below n (λ i. not (hears responder es d (conflictsWith responder s k) i)) (h .0) j l);
-  noLater = λ j l. not-true (hears responder es d (defeatsOf responder s k) j) (below n (λ i. not (hears responder es d (defeatsOf responder s k) i)) (h .1) j l);
+  noConflict = λ j g l.
+      not-true (hears responder es d (λ s. conflictsWith responder s k) j) (below n (λ i. not (hears responder es d (λ s. conflictsWith responder s k) i)) (h .0) j l);
+  noLater = λ j g l.
+      not-true (hears responder es d (λ s. defeatsOf responder s k) j) (below n (λ i. not (hears responder es d (λ s. defeatsOf responder s k) i)) (h .1) j l);
 }
+  where
+    no-update : (j : ℕ) → b < j → j < n → (u : Update) → updateAt responder es j ≡ some u → ⊥
+    no-update j l m u t = go (leb j b) (isSome (updateAt responder es j)) refl refl (below n (λ i. leb i b || not (isSome (updateAt responder es i))) (a .6) j m)
+      where
+        go : (x y : Bool) → leb j b ≡ x → isSome (updateAt responder es j) ≡ y → (x || not y) ≡ true → ⊥
+        go true y e f g = omega (arith, leb-true j b e)
+        go false true e f g = never g
+        go false false e f g = never (sym f ∙ ap (λ (o : Option Update). isSome o) t)
 
 -- ---- a responder alone
 
@@ -161,11 +182,11 @@ pub alone-premises : Premises responder alone
 alone-premises = met responder alone aloneAt (seen .0)
 
 -- the 1,200 ms are asked of it, for both names, and it holds them then
-pub alone-unopposed : (k : Claim) → Unopposed responder alone 0 one k 9
-alone-unopposed instance = unopposed alone 0 one instance 9 (seen .1) (seen .2)
-alone-unopposed host = unopposed alone 0 one host 9 (seen .1) (seen .3)
+pub alone-unopposed : (k : Claim) → Unopposed responder alone 0 k 0 9
+alone-unopposed instance = unopposed alone 0 instance 0 9 (seen .1) (seen .2) (inl refl)
+alone-unopposed host = unopposed alone 0 host 0 9 (seen .1) (seen .3) (inl refl)
 
-pub alone-holds : (k : Claim) → holds responder alone 0 one k 9 ≡ true
+pub alone-holds : (k : Claim) → holds responder alone 0 k 9 ≡ true
 alone-holds instance = seen .2 .2
 alone-holds host = seen .3 .2
 
@@ -174,16 +195,16 @@ alone-holds host = seen .3 .2
 pub contest-premises : Premises responder contest
 contest-premises = met responder contest contestAt (seen .4)
 
-pub first-holds : holds responder contest 0 one instance (length contest) ≡ true
+pub first-holds : holds responder contest 0 instance (length contest) ≡ true
 first-holds = seen .5
 
-pub second-does-not : holds responder contest 9 other instance (length contest) ≡ false
+pub second-does-not : holds responder contest 9 instance (length contest) ≡ false
 second-does-not = seen .6
 
 pub second-lost : isAnd lostBy (after responder contest 9 (length contest)) ≡ true
 second-lost = seen .7
 
-pub second-holds-host : holds responder contest 9 other host (length contest) ≡ true
+pub second-holds-host : holds responder contest 9 host (length contest) ≡ true
 second-holds-host = seen .8
 
 -- ---- two at once, refused calls, a power cut and a new start
@@ -192,16 +213,16 @@ pub rivals-premises : Premises responder rivals
 rivals-premises = met responder rivals rivalsAt (seen-rivals .0)
 
 -- the 1,200 ms are asked of the second, which is never contradicted, and it holds both names then
-pub winner-unopposed : (k : Claim) → Unopposed responder rivals 1 other k 38
-winner-unopposed instance = unopposed rivals 1 other instance 38 (seen-rivals .1) (seen-rivals .2)
-winner-unopposed host = unopposed rivals 1 other host 38 (seen-rivals .1) (seen-rivals .3)
+pub winner-unopposed : (k : Claim) → Unopposed responder rivals 1 k 1 38
+winner-unopposed instance = unopposed rivals 1 instance 1 38 (seen-rivals .1) (seen-rivals .2) (inl refl)
+winner-unopposed host = unopposed rivals 1 host 1 38 (seen-rivals .1) (seen-rivals .3) (inl refl)
 
-pub winner-holds : (k : Claim) → holds responder rivals 1 other k 38 ≡ true
+pub winner-holds : (k : Claim) → holds responder rivals 1 k 38 ≡ true
 winner-holds instance = seen-rivals .2 .2
 winner-holds host = seen-rivals .3 .2
 
 -- the first holds its host name up to its cut, and has lost the instance name; started anew, it has lost it again
-pub cut-ends : (holds responder rivals 0 one host 29 ≡ true) × (holds responder rivals 0 one host 30 ≡ false)
+pub cut-ends : (holds responder rivals 0 host 29 ≡ true) × (holds responder rivals 0 host 30 ≡ false)
 cut-ends = (seen-rivals .4, seen-rivals .5)
 
 pub loser-lost : (isAnd lostBy (after responder rivals 0 29) ≡ true) × (isAnd lostBy (after responder rivals 30 (length rivals)) ≡ true)
@@ -217,10 +238,10 @@ pub three-premises : Premises responder three
 three-premises = met responder three threeAt (seen-three .0)
 
 -- the first holds its instance name until it hears the stranger's response, then no more, and at the end again
-pub gives-up : (holds responder three 0 other instance 17 ≡ true) × (holds responder three 0 other instance 18 ≡ false)
+pub gives-up : (holds responder three 0 instance 17 ≡ true) × (holds responder three 0 instance 18 ≡ false)
 gives-up = (seen-three .1, seen-three .2)
 
-pub holds-again : holds responder three 0 other instance (length three) ≡ true
+pub holds-again : holds responder three 0 instance (length three) ≡ true
 holds-again = seen-three .3
 
 -- it takes its own probe, its own announcement and its own answer, and goes on
@@ -235,11 +256,11 @@ ptrPacket =
     ∷ 0x00 ∷ 0x0c ∷ 0x00 ∷ 0x01 ∷ 0x00 ∷ 0x00 ∷ 0x11 ∷ 0x94 ∷ 0x00 ∷ 0x04 ∷ 0x01 ∷ 0x41 ∷ 0xc0 ∷ 0x0c ∷ []
 
 ptr-sent : sentAt responder three 14 ≡ sends everyone ptrPacket
-unfolding setupOf alone contest rivals three ptrQuery plainQuery plainPacket plainRecords answers.plainOf answers.dueTo sets.withData labelsFill holds writes hears anyOf respondsFor conflictsWith defeatsOf responds conflicts defeats meets ordered atOneRate reaches addressIn owed takes taken deliveredTo allDelivered allOnTime every someBelow allOf samePackets entry clockOf ownerOf setupIn reply returned called after isAccepted parcelsOf heardIn sourceIn start tick receive dueTimes due blank startOf packetFor receivedPacket unicastPacket receiveOf tickedPacket tickOf wrongState startRefusal receiveRefusal tickRefusal ownRecord responseRecords probeRecords responseOf probeOf responsePacket probePacket putName dataBytes dataPlaces putFields packetOf isAsked isAskedAs isKnown conflicted theirsLater responseFacts queryFacts factsOf answers.heardOf answers.asksOf answers.wantedOf answers.askedBy answers.multicastAsks answers.unicastAsks answers.joined answers.judgedOf held.toHold held.heldBack held.receiveOf queries.someFrom queries.someFree queries.union queries.knowing queries.knowingAll queries.queued listUnder someOf isProbe compareNumbers inTurn compareRecords insertBy sortBy tie steps.sends steps.actionTurn steps.claimTurn steps.ptrReply steps.replyTurn steps.holdAnswers steps.holdTurn steps.stepTurn steps.walked steps.endedOf steps.tickOf moreDue actionOf unsentOf sets.someOf sets.everyOf sets.picked sets.only sets.anyOf sets.atOnce sets.recordsOf multicastsKept holdsKept kept wrongTime claims.begunAt afterMs markedAll hasRecord ownLabels ownName srvRdata ownRdata labelFits instanceFits utf8.isShown utf8.shownFrom utf8.mayStand utf8.behind utf8.starts utf8.following utf8.within isLetter isNameByte allNameBytes someLetter hyphensApart serviceRule serviceFits protocolFits domainFits txtFits validSetup serviceLabels instanceLabels hostLabels standsAt placeOf cutFrom nameBytes starts namePlaces questionRead recordRead questionAt recordAt listFrom messageAt andThen sameBytes stringsFill nameAt fromRun readFrom pieceAt sameName rdataAt rdataIn formFor formIn
+unfolding setupOf alone contest rivals three ptrQuery plainQuery plainPacket plainRecords answers.plainOf answers.dueTo sets.withData labelsFill holds writes hears anyOf respondsFor conflictsWith defeatsOf responds conflicts defeats meets ordered atOneRate reaches addressIn owed takes taken deliveredTo allDelivered allOnTime every someBelow allOf samePackets entry clockOf ownerOf setupIn reply returned unlessStopped called after isAccepted parcelsOf heardIn sourceIn revised dataAt updateIn start tick receive dueTimes due blank startOf packetFor receivedPacket unicastPacket receiveOf tickedPacket tickOf wrongState startRefusal receiveRefusal tickRefusal ownRecord responseRecords probeRecords responseOf probeOf responsePacket probePacket putName dataBytes dataPlaces putFields packetOf isAsked isAskedAs isKnown conflicted theirsLater responseFacts queryFacts factsOf answers.heardOf answers.asksOf answers.wantedOf answers.askedBy answers.multicastAsks answers.unicastAsks answers.joined answers.judgedOf held.toHold held.heldBack held.receiveOf queries.someFrom queries.someFree queries.union queries.knowing queries.knowingAll queries.queued listUnder someOf isProbe compareNumbers inTurn compareRecords insertBy sortBy tie steps.sends steps.actionTurn steps.claimTurn steps.ptrReply steps.replyTurn steps.holdAnswers steps.holdTurn steps.stepTurn steps.walked steps.endedOf steps.tickOf moreDue actionOf unsentOf sets.someOf sets.everyOf sets.picked sets.only sets.anyOf sets.atOnce sets.recordsOf multicastsKept holdsKept kept wrongTime claims.begunAt afterMs markedAll hasRecord ownLabels ownName srvRdata ownRdata labelFits instanceFits utf8.isShown utf8.shownFrom utf8.mayStand utf8.behind utf8.starts utf8.following utf8.within isLetter isNameByte allNameBytes someLetter hyphensApart serviceRule serviceFits protocolFits domainFits txtFits validSetup serviceLabels instanceLabels hostLabels standsAt placeOf cutFrom nameBytes starts namePlaces questionRead recordRead questionAt recordAt listFrom messageAt andThen sameBytes stringsFill nameAt fromRun readFrom pieceAt sameName rdataAt rdataIn formFor formIn
 ptr-sent = refl
 
 ptr-written : responsePacket other 0 (only Ptr) ≡ ptrPacket
-unfolding setupOf alone contest rivals three ptrQuery plainQuery plainPacket plainRecords answers.plainOf answers.dueTo sets.withData labelsFill holds writes hears anyOf respondsFor conflictsWith defeatsOf responds conflicts defeats meets ordered atOneRate reaches addressIn owed takes taken deliveredTo allDelivered allOnTime every someBelow allOf samePackets entry clockOf ownerOf setupIn reply returned called after isAccepted parcelsOf heardIn sourceIn start tick receive dueTimes due blank startOf packetFor receivedPacket unicastPacket receiveOf tickedPacket tickOf wrongState startRefusal receiveRefusal tickRefusal ownRecord responseRecords probeRecords responseOf probeOf responsePacket probePacket putName dataBytes dataPlaces putFields packetOf isAsked isAskedAs isKnown conflicted theirsLater responseFacts queryFacts factsOf answers.heardOf answers.asksOf answers.wantedOf answers.askedBy answers.multicastAsks answers.unicastAsks answers.joined answers.judgedOf held.toHold held.heldBack held.receiveOf queries.someFrom queries.someFree queries.union queries.knowing queries.knowingAll queries.queued listUnder someOf isProbe compareNumbers inTurn compareRecords insertBy sortBy tie steps.sends steps.actionTurn steps.claimTurn steps.ptrReply steps.replyTurn steps.holdAnswers steps.holdTurn steps.stepTurn steps.walked steps.endedOf steps.tickOf moreDue actionOf unsentOf sets.someOf sets.everyOf sets.picked sets.only sets.anyOf sets.atOnce sets.recordsOf multicastsKept holdsKept kept wrongTime claims.begunAt afterMs markedAll hasRecord ownLabels ownName srvRdata ownRdata labelFits instanceFits utf8.isShown utf8.shownFrom utf8.mayStand utf8.behind utf8.starts utf8.following utf8.within isLetter isNameByte allNameBytes someLetter hyphensApart serviceRule serviceFits protocolFits domainFits txtFits validSetup serviceLabels instanceLabels hostLabels standsAt placeOf cutFrom nameBytes starts namePlaces questionRead recordRead questionAt recordAt listFrom messageAt andThen sameBytes stringsFill nameAt fromRun readFrom pieceAt sameName rdataAt rdataIn formFor formIn
+unfolding setupOf alone contest rivals three ptrQuery plainQuery plainPacket plainRecords answers.plainOf answers.dueTo sets.withData labelsFill holds writes hears anyOf respondsFor conflictsWith defeatsOf responds conflicts defeats meets ordered atOneRate reaches addressIn owed takes taken deliveredTo allDelivered allOnTime every someBelow allOf samePackets entry clockOf ownerOf setupIn reply returned unlessStopped called after isAccepted parcelsOf heardIn sourceIn revised dataAt updateIn start tick receive dueTimes due blank startOf packetFor receivedPacket unicastPacket receiveOf tickedPacket tickOf wrongState startRefusal receiveRefusal tickRefusal ownRecord responseRecords probeRecords responseOf probeOf responsePacket probePacket putName dataBytes dataPlaces putFields packetOf isAsked isAskedAs isKnown conflicted theirsLater responseFacts queryFacts factsOf answers.heardOf answers.asksOf answers.wantedOf answers.askedBy answers.multicastAsks answers.unicastAsks answers.joined answers.judgedOf held.toHold held.heldBack held.receiveOf queries.someFrom queries.someFree queries.union queries.knowing queries.knowingAll queries.queued listUnder someOf isProbe compareNumbers inTurn compareRecords insertBy sortBy tie steps.sends steps.actionTurn steps.claimTurn steps.ptrReply steps.replyTurn steps.holdAnswers steps.holdTurn steps.stepTurn steps.walked steps.endedOf steps.tickOf moreDue actionOf unsentOf sets.someOf sets.everyOf sets.picked sets.only sets.anyOf sets.atOnce sets.recordsOf multicastsKept holdsKept kept wrongTime claims.begunAt afterMs markedAll hasRecord ownLabels ownName srvRdata ownRdata labelFits instanceFits utf8.isShown utf8.shownFrom utf8.mayStand utf8.behind utf8.starts utf8.following utf8.within isLetter isNameByte allNameBytes someLetter hyphensApart serviceRule serviceFits protocolFits domainFits txtFits validSetup serviceLabels instanceLabels hostLabels standsAt placeOf cutFrom nameBytes starts namePlaces questionRead recordRead questionAt recordAt listFrom messageAt andThen sameBytes stringsFill nameAt fromRun readFrom pieceAt sameName rdataAt rdataIn formFor formIn
 ptr-written = refl
 
 pub answers-question : sentAt responder three 14 ≡ sends everyone (responsePacket other 0 (only Ptr))
@@ -253,7 +274,7 @@ plainReply =
     ∷ 0xc0 ∷ 0x0c ∷ 0x00 ∷ 0x01 ∷ 0x00 ∷ 0x01 ∷ 0x00 ∷ 0x00 ∷ 0x00 ∷ 0x0a ∷ 0x00 ∷ 0x04 ∷ 0x0a ∷ 0x00 ∷ 0x00 ∷ 0x07 ∷ []
 
 pub serves-resolver : sentAt responder contest 25 ≡ sends (unicast (halves (somewhere 9)) 1024) plainReply
-unfolding setupOf alone contest rivals three ptrQuery plainQuery plainPacket plainRecords answers.plainOf answers.dueTo sets.withData labelsFill holds writes hears anyOf respondsFor conflictsWith defeatsOf responds conflicts defeats meets ordered atOneRate reaches addressIn owed takes taken deliveredTo allDelivered allOnTime every someBelow allOf samePackets entry clockOf ownerOf setupIn reply returned called after isAccepted parcelsOf heardIn sourceIn start tick receive dueTimes due blank startOf packetFor receivedPacket unicastPacket receiveOf tickedPacket tickOf wrongState startRefusal receiveRefusal tickRefusal ownRecord responseRecords probeRecords responseOf probeOf responsePacket probePacket putName dataBytes dataPlaces putFields packetOf isAsked isAskedAs isKnown conflicted theirsLater responseFacts queryFacts factsOf answers.heardOf answers.asksOf answers.wantedOf answers.askedBy answers.multicastAsks answers.unicastAsks answers.joined answers.judgedOf held.toHold held.heldBack held.receiveOf queries.someFrom queries.someFree queries.union queries.knowing queries.knowingAll queries.queued listUnder someOf isProbe compareNumbers inTurn compareRecords insertBy sortBy tie steps.sends steps.actionTurn steps.claimTurn steps.ptrReply steps.replyTurn steps.holdAnswers steps.holdTurn steps.stepTurn steps.walked steps.endedOf steps.tickOf moreDue actionOf unsentOf sets.someOf sets.everyOf sets.picked sets.only sets.anyOf sets.atOnce sets.recordsOf multicastsKept holdsKept kept wrongTime claims.begunAt afterMs markedAll hasRecord ownLabels ownName srvRdata ownRdata labelFits instanceFits utf8.isShown utf8.shownFrom utf8.mayStand utf8.behind utf8.starts utf8.following utf8.within isLetter isNameByte allNameBytes someLetter hyphensApart serviceRule serviceFits protocolFits domainFits txtFits validSetup serviceLabels instanceLabels hostLabels standsAt placeOf cutFrom nameBytes starts namePlaces questionRead recordRead questionAt recordAt listFrom messageAt andThen sameBytes stringsFill nameAt fromRun readFrom pieceAt sameName rdataAt rdataIn formFor formIn
+unfolding setupOf alone contest rivals three ptrQuery plainQuery plainPacket plainRecords answers.plainOf answers.dueTo sets.withData labelsFill holds writes hears anyOf respondsFor conflictsWith defeatsOf responds conflicts defeats meets ordered atOneRate reaches addressIn owed takes taken deliveredTo allDelivered allOnTime every someBelow allOf samePackets entry clockOf ownerOf setupIn reply returned unlessStopped called after isAccepted parcelsOf heardIn sourceIn revised dataAt updateIn start tick receive dueTimes due blank startOf packetFor receivedPacket unicastPacket receiveOf tickedPacket tickOf wrongState startRefusal receiveRefusal tickRefusal ownRecord responseRecords probeRecords responseOf probeOf responsePacket probePacket putName dataBytes dataPlaces putFields packetOf isAsked isAskedAs isKnown conflicted theirsLater responseFacts queryFacts factsOf answers.heardOf answers.asksOf answers.wantedOf answers.askedBy answers.multicastAsks answers.unicastAsks answers.joined answers.judgedOf held.toHold held.heldBack held.receiveOf queries.someFrom queries.someFree queries.union queries.knowing queries.knowingAll queries.queued listUnder someOf isProbe compareNumbers inTurn compareRecords insertBy sortBy tie steps.sends steps.actionTurn steps.claimTurn steps.ptrReply steps.replyTurn steps.holdAnswers steps.holdTurn steps.stepTurn steps.walked steps.endedOf steps.tickOf moreDue actionOf unsentOf sets.someOf sets.everyOf sets.picked sets.only sets.anyOf sets.atOnce sets.recordsOf multicastsKept holdsKept kept wrongTime claims.begunAt afterMs markedAll hasRecord ownLabels ownName srvRdata ownRdata labelFits instanceFits utf8.isShown utf8.shownFrom utf8.mayStand utf8.behind utf8.starts utf8.following utf8.within isLetter isNameByte allNameBytes someLetter hyphensApart serviceRule serviceFits protocolFits domainFits txtFits validSetup serviceLabels instanceLabels hostLabels standsAt placeOf cutFrom nameBytes starts namePlaces questionRead recordRead questionAt recordAt listFrom messageAt andThen sameBytes stringsFill nameAt fromRun readFrom pieceAt sameName rdataAt rdataIn formFor formIn
 serves-resolver = refl
 
 -- a truncated query is held, and answered when it is due; the premises are met, the step of a held query among them
@@ -265,7 +286,7 @@ SeenHeld =
     × (acceptedAt responder example.held 11 ≡ true)
 
 seen-held : SeenHeld
-unfolding setupOf alone contest rivals three ptrQuery truncatedQuery example.held plainQuery plainPacket plainRecords answers.plainOf answers.dueTo sets.withData labelsFill holds writes hears anyOf respondsFor conflictsWith defeatsOf responds conflicts defeats meets ordered atOneRate reaches addressIn owed takes taken deliveredTo allDelivered allOnTime every someBelow allOf samePackets entry clockOf ownerOf setupIn reply returned called after isAccepted parcelsOf heardIn sourceIn start tick receive dueTimes due blank startOf packetFor receivedPacket unicastPacket receiveOf tickedPacket tickOf wrongState startRefusal receiveRefusal tickRefusal ownRecord responseRecords probeRecords responseOf probeOf responsePacket probePacket putName dataBytes dataPlaces putFields packetOf isAsked isAskedAs isKnown conflicted theirsLater responseFacts queryFacts factsOf answers.heardOf answers.asksOf answers.wantedOf answers.askedBy answers.multicastAsks answers.unicastAsks answers.joined answers.judgedOf held.toHold held.heldBack held.receiveOf queries.someFrom queries.someFree queries.union queries.knowing queries.knowingAll queries.queued listUnder someOf isProbe compareNumbers inTurn compareRecords insertBy sortBy tie steps.sends steps.actionTurn steps.claimTurn steps.ptrReply steps.replyTurn steps.holdAnswers steps.holdTurn steps.stepTurn steps.walked steps.endedOf steps.tickOf moreDue actionOf unsentOf sets.someOf sets.everyOf sets.picked sets.only sets.anyOf sets.atOnce sets.recordsOf multicastsKept holdsKept kept wrongTime claims.begunAt afterMs markedAll hasRecord ownLabels ownName srvRdata ownRdata labelFits instanceFits utf8.isShown utf8.shownFrom utf8.mayStand utf8.behind utf8.starts utf8.following utf8.within isLetter isNameByte allNameBytes someLetter hyphensApart serviceRule serviceFits protocolFits domainFits txtFits validSetup serviceLabels instanceLabels hostLabels standsAt placeOf cutFrom nameBytes starts namePlaces questionRead recordRead questionAt recordAt listFrom messageAt andThen sameBytes stringsFill nameAt fromRun readFrom pieceAt sameName rdataAt rdataIn formFor formIn
+unfolding setupOf alone contest rivals three ptrQuery truncatedQuery example.held plainQuery plainPacket plainRecords answers.plainOf answers.dueTo sets.withData labelsFill holds writes hears anyOf respondsFor conflictsWith defeatsOf responds conflicts defeats meets ordered atOneRate reaches addressIn owed takes taken deliveredTo allDelivered allOnTime every someBelow allOf samePackets entry clockOf ownerOf setupIn reply returned unlessStopped called after isAccepted parcelsOf heardIn sourceIn revised dataAt updateIn start tick receive dueTimes due blank startOf packetFor receivedPacket unicastPacket receiveOf tickedPacket tickOf wrongState startRefusal receiveRefusal tickRefusal ownRecord responseRecords probeRecords responseOf probeOf responsePacket probePacket putName dataBytes dataPlaces putFields packetOf isAsked isAskedAs isKnown conflicted theirsLater responseFacts queryFacts factsOf answers.heardOf answers.asksOf answers.wantedOf answers.askedBy answers.multicastAsks answers.unicastAsks answers.joined answers.judgedOf held.toHold held.heldBack held.receiveOf queries.someFrom queries.someFree queries.union queries.knowing queries.knowingAll queries.queued listUnder someOf isProbe compareNumbers inTurn compareRecords insertBy sortBy tie steps.sends steps.actionTurn steps.claimTurn steps.ptrReply steps.replyTurn steps.holdAnswers steps.holdTurn steps.stepTurn steps.walked steps.endedOf steps.tickOf moreDue actionOf unsentOf sets.someOf sets.everyOf sets.picked sets.only sets.anyOf sets.atOnce sets.recordsOf multicastsKept holdsKept kept wrongTime claims.begunAt afterMs markedAll hasRecord ownLabels ownName srvRdata ownRdata labelFits instanceFits utf8.isShown utf8.shownFrom utf8.mayStand utf8.behind utf8.starts utf8.following utf8.within isLetter isNameByte allNameBytes someLetter hyphensApart serviceRule serviceFits protocolFits domainFits txtFits validSetup serviceLabels instanceLabels hostLabels standsAt placeOf cutFrom nameBytes starts namePlaces questionRead recordRead questionAt recordAt listFrom messageAt andThen sameBytes stringsFill nameAt fromRun readFrom pieceAt sameName rdataAt rdataIn formFor formIn
 seen-held = (refl, refl, refl, refl)
 
 pub held-premises : Premises responder example.held
@@ -285,7 +306,7 @@ SeenDefence =
     × (isAnd lostBy (after responder contest 9 15) ≡ true)
 
 seen-defence : SeenDefence
-unfolding setupOf alone contest rivals three ptrQuery truncatedQuery plainQuery plainPacket plainRecords answers.plainOf answers.dueTo sets.withData labelsFill holds writes hears anyOf respondsFor conflictsWith defeatsOf responds conflicts defeats meets ordered atOneRate reaches addressIn owed takes taken deliveredTo allDelivered allOnTime every someBelow allOf samePackets entry clockOf ownerOf setupIn reply returned called after isAccepted parcelsOf heardIn sourceIn start tick receive dueTimes due blank startOf packetFor receivedPacket unicastPacket receiveOf tickedPacket tickOf wrongState startRefusal receiveRefusal tickRefusal ownRecord responseRecords probeRecords responseOf probeOf responsePacket probePacket putName dataBytes dataPlaces putFields packetOf isAsked isAskedAs isKnown conflicted theirsLater responseFacts queryFacts factsOf answers.heardOf answers.asksOf answers.wantedOf answers.askedBy answers.multicastAsks answers.unicastAsks answers.joined answers.judgedOf held.toHold held.heldBack held.receiveOf queries.someFrom queries.someFree queries.union queries.knowing queries.knowingAll queries.queued listUnder someOf isProbe compareNumbers inTurn compareRecords insertBy sortBy tie steps.sends steps.actionTurn steps.claimTurn steps.ptrReply steps.replyTurn steps.holdAnswers steps.holdTurn steps.stepTurn steps.walked steps.endedOf steps.tickOf moreDue actionOf unsentOf sets.someOf sets.everyOf sets.picked sets.only sets.anyOf sets.atOnce sets.recordsOf multicastsKept holdsKept kept wrongTime claims.begunAt afterMs markedAll hasRecord ownLabels ownName srvRdata ownRdata labelFits instanceFits utf8.isShown utf8.shownFrom utf8.mayStand utf8.behind utf8.starts utf8.following utf8.within isLetter isNameByte allNameBytes someLetter hyphensApart serviceRule serviceFits protocolFits domainFits txtFits validSetup serviceLabels instanceLabels hostLabels standsAt placeOf cutFrom nameBytes starts namePlaces questionRead recordRead questionAt recordAt listFrom messageAt andThen sameBytes stringsFill nameAt fromRun readFrom pieceAt sameName rdataAt rdataIn formFor formIn
+unfolding setupOf alone contest rivals three ptrQuery truncatedQuery plainQuery plainPacket plainRecords answers.plainOf answers.dueTo sets.withData labelsFill holds writes hears anyOf respondsFor conflictsWith defeatsOf responds conflicts defeats meets ordered atOneRate reaches addressIn owed takes taken deliveredTo allDelivered allOnTime every someBelow allOf samePackets entry clockOf ownerOf setupIn reply returned unlessStopped called after isAccepted parcelsOf heardIn sourceIn revised dataAt updateIn start tick receive dueTimes due blank startOf packetFor receivedPacket unicastPacket receiveOf tickedPacket tickOf wrongState startRefusal receiveRefusal tickRefusal ownRecord responseRecords probeRecords responseOf probeOf responsePacket probePacket putName dataBytes dataPlaces putFields packetOf isAsked isAskedAs isKnown conflicted theirsLater responseFacts queryFacts factsOf answers.heardOf answers.asksOf answers.wantedOf answers.askedBy answers.multicastAsks answers.unicastAsks answers.joined answers.judgedOf held.toHold held.heldBack held.receiveOf queries.someFrom queries.someFree queries.union queries.knowing queries.knowingAll queries.queued listUnder someOf isProbe compareNumbers inTurn compareRecords insertBy sortBy tie steps.sends steps.actionTurn steps.claimTurn steps.ptrReply steps.replyTurn steps.holdAnswers steps.holdTurn steps.stepTurn steps.walked steps.endedOf steps.tickOf moreDue actionOf unsentOf sets.someOf sets.everyOf sets.picked sets.only sets.anyOf sets.atOnce sets.recordsOf multicastsKept holdsKept kept wrongTime claims.begunAt afterMs markedAll hasRecord ownLabels ownName srvRdata ownRdata labelFits instanceFits utf8.isShown utf8.shownFrom utf8.mayStand utf8.behind utf8.starts utf8.following utf8.within isLetter isNameByte allNameBytes someLetter hyphensApart serviceRule serviceFits protocolFits domainFits txtFits validSetup serviceLabels instanceLabels hostLabels standsAt placeOf cutFrom nameBytes starts namePlaces questionRead recordRead questionAt recordAt listFrom messageAt andThen sameBytes stringsFill nameAt fromRun readFrom pieceAt sameName rdataAt rdataIn formFor formIn
 seen-defence = (refl, refl, refl, refl)
 
 pub by-unicast-alone : sentAt responder contest 12 ≡ sends (unicast (halves (somewhere 2)) 5353) (responsePacket one 0 srvAndTxt)
@@ -306,10 +327,10 @@ SeenDivided =
     × (sentAt responder divided 14
     ≡ sends everyone (responsePacket one 0 (only Srv)) ++ sends (unicast (halves (somewhere 2)) 5353) (responsePacket one 0 (only Txt)))
     × (isAnd lostBy (after responder divided 11 (length divided)) ≡ true)
-    × (holds responder divided 0 one instance (length divided) ≡ true)
+    × (holds responder divided 0 instance (length divided) ≡ true)
 
 seen-divided : SeenDivided
-unfolding setupOf alone contest rivals three ptrQuery truncatedQuery divided plainQuery plainPacket plainRecords answers.plainOf answers.dueTo sets.withData labelsFill holds writes hears anyOf respondsFor conflictsWith defeatsOf responds conflicts defeats meets ordered atOneRate reaches addressIn owed takes taken deliveredTo allDelivered allOnTime every someBelow allOf samePackets entry clockOf ownerOf setupIn reply returned called after isAccepted parcelsOf heardIn sourceIn start tick receive dueTimes due blank startOf packetFor receivedPacket unicastPacket receiveOf tickedPacket tickOf wrongState startRefusal receiveRefusal tickRefusal ownRecord responseRecords probeRecords responseOf probeOf responsePacket probePacket putName dataBytes dataPlaces putFields packetOf isAsked isAskedAs isKnown conflicted theirsLater responseFacts queryFacts factsOf answers.heardOf answers.asksOf answers.wantedOf answers.askedBy answers.multicastAsks answers.unicastAsks answers.joined answers.judgedOf held.toHold held.heldBack held.receiveOf queries.someFrom queries.someFree queries.union queries.knowing queries.knowingAll queries.queued listUnder someOf isProbe compareNumbers inTurn compareRecords insertBy sortBy tie steps.sends steps.actionTurn steps.claimTurn steps.ptrReply steps.replyTurn steps.holdAnswers steps.holdTurn steps.stepTurn steps.walked steps.endedOf steps.tickOf moreDue actionOf unsentOf sets.someOf sets.everyOf sets.picked sets.only sets.anyOf sets.atOnce sets.recordsOf multicastsKept holdsKept kept wrongTime claims.begunAt afterMs markedAll hasRecord ownLabels ownName srvRdata ownRdata labelFits instanceFits utf8.isShown utf8.shownFrom utf8.mayStand utf8.behind utf8.starts utf8.following utf8.within isLetter isNameByte allNameBytes someLetter hyphensApart serviceRule serviceFits protocolFits domainFits txtFits validSetup serviceLabels instanceLabels hostLabels standsAt placeOf cutFrom nameBytes starts namePlaces questionRead recordRead questionAt recordAt listFrom messageAt andThen sameBytes stringsFill nameAt fromRun readFrom pieceAt sameName rdataAt rdataIn formFor formIn
+unfolding setupOf alone contest rivals three ptrQuery truncatedQuery divided plainQuery plainPacket plainRecords answers.plainOf answers.dueTo sets.withData labelsFill holds writes hears anyOf respondsFor conflictsWith defeatsOf responds conflicts defeats meets ordered atOneRate reaches addressIn owed takes taken deliveredTo allDelivered allOnTime every someBelow allOf samePackets entry clockOf ownerOf setupIn reply returned unlessStopped called after isAccepted parcelsOf heardIn sourceIn revised dataAt updateIn start tick receive dueTimes due blank startOf packetFor receivedPacket unicastPacket receiveOf tickedPacket tickOf wrongState startRefusal receiveRefusal tickRefusal ownRecord responseRecords probeRecords responseOf probeOf responsePacket probePacket putName dataBytes dataPlaces putFields packetOf isAsked isAskedAs isKnown conflicted theirsLater responseFacts queryFacts factsOf answers.heardOf answers.asksOf answers.wantedOf answers.askedBy answers.multicastAsks answers.unicastAsks answers.joined answers.judgedOf held.toHold held.heldBack held.receiveOf queries.someFrom queries.someFree queries.union queries.knowing queries.knowingAll queries.queued listUnder someOf isProbe compareNumbers inTurn compareRecords insertBy sortBy tie steps.sends steps.actionTurn steps.claimTurn steps.ptrReply steps.replyTurn steps.holdAnswers steps.holdTurn steps.stepTurn steps.walked steps.endedOf steps.tickOf moreDue actionOf unsentOf sets.someOf sets.everyOf sets.picked sets.only sets.anyOf sets.atOnce sets.recordsOf multicastsKept holdsKept kept wrongTime claims.begunAt afterMs markedAll hasRecord ownLabels ownName srvRdata ownRdata labelFits instanceFits utf8.isShown utf8.shownFrom utf8.mayStand utf8.behind utf8.starts utf8.following utf8.within isLetter isNameByte allNameBytes someLetter hyphensApart serviceRule serviceFits protocolFits domainFits txtFits validSetup serviceLabels instanceLabels hostLabels standsAt placeOf cutFrom nameBytes starts namePlaces questionRead recordRead questionAt recordAt listFrom messageAt andThen sameBytes stringsFill nameAt fromRun readFrom pieceAt sameName rdataAt rdataIn formFor formIn
 seen-divided = (refl, refl, refl, refl)
 
 pub divided-premises : Premises responder divided

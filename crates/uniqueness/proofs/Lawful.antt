@@ -4,7 +4,7 @@ use mathlib.Core.Logic.{_⊎_, inl, inr}
 use mathlib.Core.Bool.{true}
 use mathlib.Core.Option.{some}
 use mathlib.Core.List.{List, [], _∷_}
-use Prim.Native.Nat.{ℕ}
+use Prim.Native.Nat.{ℕ, _+_, _≤_}
 use Rattle.wire.specs.case_folding.Fold.{sameName}
 use Rattle.wire.proofs.case_folding.Equal.{same-sym}
 use Rattle.own.specs.declared.records.Setup.{Setup}
@@ -23,13 +23,14 @@ use Rattle.link.specs.Responder.{Claim, instance, host, everyone, unicast}
 use Rattle.link.specs.Premises.{Among}
 use Rattle.link.specs.Laws as law
 use Rattle.link.proofs.Demand3 as link
-use Rattle.uniqueness.specs.Responder.{ownClaim, halves, listed, dueTimes, due, rdata, name, conflicts, defeats, responder}
+use Rattle.uniqueness.specs.Responder.{ownClaim, halves, changes, revise, listed, dueTimes, due, rdata, name, conflicts, defeats, responder}
 use Rattle.uniqueness.specs.Statement.{Theorem}
 use Rattle.uniqueness.specs.Rules.{stageOf, claimAt, Of, Ready, rules}
 use Rattle.uniqueness.proofs.Lists.{clash, in-append, in-tail}
 use Rattle.uniqueness.proofs.Owned.{owned, Has, has-data, one-claim}
 use Rattle.uniqueness.proofs.Data.{tie-law, conflict-law}
-use Rattle.uniqueness.proofs.Calls.{begun, ticked, received}
+use Rattle.uniqueness.proofs.Calls.{begun, ticked, received, updated}
+use Rattle.uniqueness.proofs.Renewal.{revise-name, revise-other, revise-carries, revise-carried, revise-probe, renewal}
 use Rattle.uniqueness.proofs.Hearing.{yields-to, defers-to}
 use Rattle.uniqueness.proofs.Sent.{said}
 use Rattle.uniqueness.proofs.Moves.{move}
@@ -81,8 +82,11 @@ one-claim-law s t k l type d e p q =
     let yours : Has t l type e = has-data t l type e q in
     one-claim k l type (mine .own) (yours .own) (owned k type (mine .own) (mine .is)) (owned l type (yours .own) (yours .is))
 
-kept : (s : Setup) (x : State) (c : law.Step responder) → Ready x s c → Of (law.next responder rules x c) s
-kept s x c r = record { setup = r .of .setup; valid = r .of .valid }
+kept : (s : Setup) (x : State) (c : law.Step responder) → Ready x s c → Of (law.next responder rules x c) (law.dataAfter responder c s)
+kept s x (law.ticks t) r = record { setup = r .of .setup; valid = r .of .valid }
+kept s x (law.hears a m) r = record { setup = r .of .setup; valid = r .of .valid }
+kept s x (law.serves a m) r = record { setup = r .of .setup; valid = r .of .valid }
+kept s x (law.updates u) r = record { setup = ap (revise u) (r .of .setup); valid = r .fits .0 }
 
 -- what is proved for the state's own set-up holds for the set-up that it is of
 pub lawful : law.Lawful responder rules
@@ -95,12 +99,25 @@ lawful =
       begun = begun;
       ticked = ticked;
       received = received;
+      updated = updated;
+      reviseName = revise-name;
+      reviseOther = revise-other;
+      reviseCarries = revise-carries;
+      reviseCarried = revise-carried;
+      reviseProbe = revise-probe;
+      renewed = λ s x u r.
+          subst
+          (λ (t : Setup). ((due : ℕ) × (rules .stage (law.next responder rules x (law.updates u)) instance ≡ law.waiting due) × (due ≤ u .time + law.mostDraw))
+          ⊎ ((rules .stage x instance ≡ law.held)
+          × (rules .stage (law.next responder rules x (law.updates u)) instance ≡ law.held)
+          × law.Tells responder rules (revise u t) x (law.updates u) instance (changes u) everyone))
+          (r .of .setup) (renewal x (r .of .valid) u (r .time) (r .fits));
       valid = λ x s of. subst (λ (t : Setup). validSetup t ≡ true) (of .setup) (of .valid);
       kept = kept;
-      move = λ s x c k r. subst (λ (t : Setup). law.Move responder rules t x c k) (r .of .setup) (move x (r .of .valid) k c (r .time));
+      move = λ s x c k r. subst (λ (t : Setup). law.Move responder rules t x c k) (r .of .setup) (move x (r .of .valid) k c (r .time) (r .fits));
       said = λ s x c k q r h e.
           subst (λ (t : Setup). responder .responds (q .message) (name t k) ≡ true → rules .stage (law.next responder rules x c) k ≡ law.held) (r .of .setup)
-          (said x (r .of .valid) c k q h) e;
+          (said x (r .of .valid) c (r .fits) k q h) e;
       yields = λ s x a m k r h.
           subst (λ (t : Setup). conflicts m t k ≡ true → law.Unclaimed (rules .stage (law.next responder rules x (law.hears a m)) k)) (r .of .setup)
           (yields-to x a m k) h;
@@ -113,7 +130,7 @@ lawful =
           → rdata q k type ≡ some d
           → law.Tells responder rules q x (law.hears a (rules .probe t k)) k type everyone
           ⊎ law.Tells responder rules q x (law.hears a (rules .probe t k)) k type (unicast (halves (a .from)) 5353))
-          (r .of .setup) (λ f g. defends x (r .of .valid) a (r .port) t k type d f g h) n e;
+          (r .of .setup) (λ f g. defends x (r .of .valid) a (r .fits) t k type d f g h) n e;
       dueWaiting = λ x k u e. due-in x k u (waiting-due (claimAt x k) u e);
       dueProbing = λ x k i u e. due-in x k u (probing-due (claimAt x k) i u e);
     }

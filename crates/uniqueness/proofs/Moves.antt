@@ -1,14 +1,16 @@
 -- What one accepted call does to a claim, in messages: law `move`. Assumes nothing.
 use mathlib.Core.Path.{_≡_, refl, sym, ap, subst, _∙_}
 use mathlib.Core.Logic.{inl}
-use mathlib.Core.Bool.{Bool, true}
+use mathlib.Core.Bool.{Bool, true, false}
 use Prim.Native.Nat.{ℕ, _+_, _≤_}
 use native.Mathlib.Omega.{arith}
 use borrow.Author.Tests.{leb-true}
 use Rattle.wire.specs.message.Message.{Message}
 use Rattle.own.specs.records.Setups.{validSetup}
 use Rattle.claims.specs.Time.{lastTime, afterMs}
-use Rattle.claims.specs.Claims.{claimOf}
+use Rattle.claims.specs.Claims.{claimOf, heldNow}
+use Rattle.claims.proofs.changes.Updates as changes
+use Rattle.own.specs.changes.Changes.{changeOf}
 use Rattle.claims.specs.records.Own.{has}
 use Rattle.claims.specs.records.Sets.{recordsOf, under}
 use Rattle.claims.proofs.Times.{after-exact}
@@ -24,19 +26,20 @@ use Rattle.facts.specs.Facts.{factsOf}
 use Rattle.claims.proofs.steps.Moves.{Move, stays, probes, announces, repeats, answers, tick-move}
 use Rattle.writer.specs.own_packets.Own.{responseOf, probeOf}
 use Rattle.responder.specs.Calls.{walkedOf}
+use Rattle.responder.specs.changes.Changes.{Update}
 use Rattle.responder.specs.declared.State.{State}
-use Rattle.link.specs.Responder.{Claim}
+use Rattle.link.specs.Responder.{Claim, instance, host}
 use Rattle.link.specs.Premises.{Among}
 use Rattle.link.specs.Laws as law
 use Rattle.responder.specs.Handed.{Arrival, Tick}
 use Rattle.uniqueness.specs.Responder.{ownClaim, responder}
-use Rattle.uniqueness.specs.Rules.{messagesFor, stageOf, claimAt, rules}
-use Rattle.uniqueness.proofs.Lists.{clash}
+use Rattle.uniqueness.specs.Rules.{messagesFor, renewed, stageOf, claimAt, Fits, rules}
+use Rattle.uniqueness.proofs.Lists.{clash, never}
 use Rattle.uniqueness.proofs.Owned.{owned, Has, has-data}
 use Rattle.uniqueness.proofs.Messages.{goes-out, carries, says-name}
 use Rattle.uniqueness.proofs.Sent.{in-out}
 use Rattle.uniqueness.proofs.Hearing.{Hears, same, yields, defers, heard}
-use Rattle.uniqueness.proofs.Facts.{announce-held, repeat-held, all-announced, first-of}
+use Rattle.uniqueness.proofs.Facts.{stage-held, held-stage, announce-held, repeat-held, all-announced, first-of}
 
 module _ (x : State) (ok : validSetup (x .setup) ≡ true) (k : Claim) where
   abbrev aaaa′ : Bool
@@ -107,7 +110,7 @@ module _ (x : State) (ok : validSetup (x .setup) ≡ true) (k : Claim) where
     announced (Probing1 u) e d t o = clash (cc)
     announced (Probing2 u) e d t o = clash (cc)
     announced (Probing3 u) e d t o =
-        law.wins u (ap stageOf e) (leb-true u now d) (announcement o) (announce-held (Probing3 u) after now t)
+        law.wins tick u refl (ap stageOf e) (leb-true u now d) (announcement o) (announce-held (Probing3 u) after now t)
     announced (Deferred u) e d t o = clash (cc)
     announced (Announced u) e d t o = clash (cc)
     announced Held e d t o = clash (cc)
@@ -125,7 +128,21 @@ module _ (x : State) (ok : validSetup (x .setup) ≡ true) (k : Claim) where
   told-by arrival m (yields c g) = law.hearsConflict arrival m refl c
   told-by arrival m (defers i u c p g) = law.hearsLater arrival m i u refl c p
 
-  pub move : (c : law.Step responder) → law.timeOf responder c ≤ lastTime → Moved c
-  move (law.ticks tick) time = ticked tick time (tick-move (ownClaim k) aaaa′ (tick .time) (x .progress))
-  move (law.hears arrival m) time = told-by arrival m (heard x arrival m k)
-  move (law.serves arrival m) time = law.stays (ap stageOf (plain-claim (arrival .time) (factsOf (x .setup) m) aaaa′ (ownClaim k) (x .progress)))
+pub move : (x : State) (ok : validSetup (x .setup) ≡ true) (k : Claim) (c : law.Step responder) → law.timeOf responder c ≤ lastTime → Fits x c → Moved x ok k c
+move x ok k (law.ticks tick) time fits = ticked x ok k tick time (tick-move (ownClaim k) (x .setup .hasaaaa) (tick .time) (x .progress))
+move x ok k (law.hears arrival m) time fits = told-by x ok k arrival m (heard x arrival m k)
+move x ok k (law.serves arrival m) time fits =
+    law.stays (ap stageOf (plain-claim (arrival .time) (factsOf (x .setup) m) (x .setup .hasaaaa) (ownClaim k) (x .progress)))
+move x ok host (law.updates u) time fits = law.stays (ap stageOf (changes.update-host (x .progress) (u .time) (changeOf (u .new))))
+move x ok instance (law.updates u) time fits = renewing (heldNow (x .progress .instance)) refl
+  where
+    renewing : (b : Bool) → heldNow (x .progress .instance) ≡ b → Moved x ok instance (law.updates u)
+    renewing true h =
+        law.stays
+        (ap stageOf (changes.update-announces (x .progress) (u .time) (changeOf (u .new)) h .0) ∙ sym (stage-held (x .progress .instance) h))
+    renewing false h =
+        let exact : afterMs (u .time) (x .progress .draw) ≡ u .time + x .progress .draw = after-exact (u .time) (x .progress .draw) time (omega (arith, fits .2)) in
+        law.restarts u (u .time + x .progress .draw) refl refl
+        (λ e. never (sym h ∙ held-stage (x .progress .instance) e))
+        (ap stageOf (changes.update-restarts (x .progress) (u .time) (changeOf (u .new)) h (fits .1) .0) ∙ ap law.waiting exact)
+        (omega (arith, fits .2))

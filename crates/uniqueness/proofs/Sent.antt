@@ -6,11 +6,19 @@ use mathlib.Core.Option.{some}
 use mathlib.Core.List.{List, [], _∷_, map}
 use Prim.Native.Nat.{ℕ}
 use Rattle.wire.specs.message.Message.{Question, Message, isResponse}
+use Rattle.own.specs.declared.records.Setup.{Setup}
 use Rattle.own.specs.records.Setups.{validSetup}
+use Rattle.own.specs.changes.Changes.{changeOf}
+use Rattle.own.proofs.changes.Revised.{name-stays}
 use Rattle.own.specs.records.Records.{hasRecord}
 use Rattle.claims.specs.Claims.{claimOf, heldNow}
 use Rattle.claims.specs.records.Own.{has}
-use Rattle.claims.specs.records.Sets.{withData, under}
+use Rattle.claims.specs.records.Sets.{withData, under, someOf, only, noRecord}
+use Rattle.claims.specs.changes.Changes.{changedRecord, announcedOf, updateOf}
+use Rattle.claims.specs.declared.changes.Change.{Change}
+use Rattle.claims.specs.declared.changes.Change.the-variants.{Port, Txt}
+use Rattle.claims.proofs.changes.Updates as changes
+use Rattle.claims.specs.declared.records.Claim.the-variants.{Instance, Host}
 use Rattle.claims.specs.declared.records.Claim as own
 use Rattle.claims.specs.declared.records.Own.{Own}
 use Rattle.claims.specs.declared.ClaimState.{ClaimState}
@@ -24,7 +32,7 @@ use Rattle.claims.specs.answers.Answers.{asksOf, isDue, isToAsker, wantedOf, as
 use Rattle.claims.specs.answers.Held.{heldBack}
 use Rattle.claims.specs.declared.answers.Asks.{Asks}
 use Rattle.claims.specs.declared.answers.Facts.{Facts}
-use Rattle.claims.specs.records.Own.{carriesData, claimFor, present}
+use Rattle.claims.specs.records.Own.{carriesData, claimFor, firstOf, present}
 use Rattle.claims.proofs.records.Sets.{has-each}
 use Rattle.claims.proofs.answers.Causes.{IsDue, only-due, held-or-judged}
 use Rattle.claims.proofs.answers.Receives.{answered-wanted, plain-claim}
@@ -32,13 +40,14 @@ use Rattle.claims.proofs.answers.Asking.{asks-query}
 use Rattle.facts.specs.Facts.{factsOf}
 use Rattle.writer.specs.own_packets.Own.{responseRecords, responseOf, probeOf, plainRecords, plainReplyOf}
 use Rattle.responder.specs.Calls.{walkedOf}
+use Rattle.responder.specs.changes.Changes.{Update}
 use Rattle.responder.specs.declared.State.{State}
-use Rattle.link.specs.Responder.{Claim, everyone}
+use Rattle.link.specs.Responder.{Claim, instance, host, everyone}
 use Rattle.link.specs.Premises.{Among}
 use Rattle.link.specs.Laws as law
 use Rattle.responder.specs.Handed.{Arrival, comingOf, Tick}
-use Rattle.uniqueness.specs.Responder.{ownClaim, backTo, claimRecord, name, responds, responder}
-use Rattle.uniqueness.specs.Rules.{responseFor, messagesFor, repliesFor, toAsker, told, served, progressOf, outputOf, stageOf, claimAt, rules}
+use Rattle.uniqueness.specs.Responder.{ownClaim, backTo, revise, claimRecord, name, responds, responder}
+use Rattle.uniqueness.specs.Rules.{responseFor, messagesFor, repliesFor, toAsker, told, served, renewed, progressOf, outputOf, stageOf, claimAt, Fits, rules}
 use Rattle.uniqueness.proofs.Lists.{clash, never, and-left, and-right, in-append, in-tail, out-append, in-map, out-map}
 use Rattle.uniqueness.proofs.Owned.{Owned, own-claim}
 use Rattle.uniqueness.proofs.Messages.{only-one, goes-out, carries, name-said, plain-said}
@@ -49,8 +58,12 @@ module _ (x : State) (ok : validSetup (x .setup) ≡ true) where
   abbrev aaaa′ : Bool
   aaaa′ = x .setup .hasaaaa
 
+  -- the data after a call
+  abbrev dataAfter : law.Step responder → Setup
+  dataAfter c = law.dataAfter responder c (x .setup)
+
   pub in-out :
-      (c : law.Step responder) (o : Output) (m : Message) → outputOf x c ≡ o → Among m (messagesFor (x .setup) o)
+      (c : law.Step responder) (o : Output) (m : Message) → outputOf x c ≡ o → Among m (messagesFor (dataAfter c) o)
       → Among (law.toAll m) (law.out responder rules x c)
   unfolding messagesFor
   in-out (law.ticks t) o m e h =
@@ -60,22 +73,28 @@ module _ (x : State) (ok : validSetup (x .setup) ≡ true) where
       (map (toAsker a) (responseFor (x .setup) (b .id) (told x a b .unicast)))
       (in-map law.toAll m (messagesFor (x .setup) (outputOf x (law.hears a b))) (subst (λ (l : List Message). Among m l) (sym (ap (messagesFor (x .setup)) e)) h))
   in-out (law.serves a b) o m e h = absurd (subst (λ (p : Output). Among m (messagesFor (x .setup) p)) (sym e) h)
+  in-out (law.updates u) o m e h =
+      in-map law.toAll m (messagesFor (revise u (x .setup)) (outputOf x (law.updates u)))
+      (subst (λ (l : List Message). Among m l) (sym (ap (messagesFor (revise u (x .setup))) e)) h)
 
   -- ---- what is told, to all and to the asker
 
-  module _ (k : Claim) (type : ℕ) (r : Own) (is : claimRecord k type ≡ some r) (there : hasRecord (x .setup) r ≡ true) where
+  module _ (k : Claim) (type : ℕ) (r : Own) (is : claimRecord k type ≡ some r) where
     pub told-all :
-        (c : law.Step responder) (set : Set) → outputOf x c ≡ Response set → has r set ≡ true → law.Tells responder rules (x .setup) x c k type everyone
+        (c : law.Step responder) → hasRecord (dataAfter c) r ≡ true → (set : Set) → outputOf x c ≡ Response set → has r set ≡ true
+        → law.Tells responder rules (dataAfter c) x c k type everyone
     unfolding messagesFor
-    told-all c set e h =
+    told-all c there set e h =
         record {
-          message = responseOf (x .setup) 0 set;
-          sent = in-out c (Response set) (responseOf (x .setup) 0 set) e (goes-out (x .setup) 0 set r h there);
-          carries = carries (x .setup) 0 set k type r is h there;
+          message = responseOf (dataAfter c) 0 set;
+          sent = in-out c (Response set) (responseOf (dataAfter c) 0 set) e (goes-out (dataAfter c) 0 set r h there);
+          carries = carries (dataAfter c) 0 set k type r is h there;
         }
 
-    pub told-asker : (a : Arrival) (m : Message) → has r (told x a m .unicast) ≡ true → law.Tells responder rules (x .setup) x (law.hears a m) k type (backTo a)
-    told-asker a m h =
+    pub told-asker :
+        (a : Arrival) (m : Message) → hasRecord (x .setup) r ≡ true → has r (told x a m .unicast) ≡ true
+        → law.Tells responder rules (x .setup) x (law.hears a m) k type (backTo a)
+    told-asker a m there h =
         let reply : Message = responseOf (x .setup) (m .id) (told x a m .unicast) in
         record {
           message = reply;
@@ -162,31 +181,51 @@ module _ (x : State) (ok : validSetup (x .setup) ≡ true) where
         only-due (x .progress) (arrival .time) (unicastAsks (x .progress) f (arrival .time)) aaaa′ (one .own) (replied-wanted (one .own) (one .there)) in
         out-held (one .type) (one .own) (one .is) (due .held) (asked-query true (arrival .time) f (one .own) (due .asked))
 
+  -- an update is announced where the claim is held, and stays so
+  update-said : (new : Update) (k : Claim) → under (ownClaim k) (renewed x new .announced) ≡ true → HeldThen (law.updates new) k
+  unfolding updateOf announcedOf someOf only
+  update-said new instance u = go (heldNow (x .progress .instance)) refl u
+    where
+      go : (b : Bool) → heldNow (x .progress .instance) ≡ b → under Instance (cond b (only (changedRecord (changeOf (new .new)))) noRecord) ≡ true
+          → HeldThen (law.updates new) instance
+      go true h v = ap stageOf (changes.update-announces (x .progress) (new .time) (changeOf (new .new)) h .0)
+      go false h v = never v
+  update-said new host u = never (sym (none-of (heldNow (x .progress .instance)) (changeOf (new .new))) ∙ u)
+    where
+      none-of : (b : Bool) (change : Change) → under Host (cond b (only (changedRecord change)) noRecord) ≡ false
+      none-of true Port = refl
+      none-of true Txt = refl
+      none-of false Port = refl
+      none-of false Txt = refl
+
   said-by : (c : law.Step responder) (k : Claim) (set : Set) → outputOf x c ≡ Response set → under (ownClaim k) set ≡ true → HeldThen c k
   said-by (law.ticks t) k set e u = tick-said t k set e u
   said-by (law.hears arrival m) k set e u =
       let z : told x arrival m .answers ≡ set = cc in
       hear-said arrival m k (subst (λ (r : Set). under (ownClaim k) r ≡ true) (sym z) u)
   said-by (law.serves arrival m) k set e u = clash (cc)
+  said-by (law.updates new) k set e u =
+      let z : renewed x new .announced ≡ set = cc in
+      update-said new k (subst (λ (r : Set). under (ownClaim k) r ≡ true) (sym z) u)
 
   says-not : (m : Message) (n : List ℕ) → isResponse (m .flags) ≡ false → responds m n ≡ true → ⊥
   unfolding responds
   says-not m n e h = never (sym e ∙ and-left (isResponse (m .flags)) _ h)
 
   said-as :
-      (c : law.Step responder) (k : Claim) (m : Message) (o : Output) → outputOf x c ≡ o → Among m (messagesFor (x .setup) o)
-      → responds m (name (x .setup) k) ≡ true → HeldThen c k
+      (c : law.Step responder) → validSetup (dataAfter c) ≡ true → (k : Claim) (m : Message) (o : Output) → outputOf x c ≡ o
+      → Among m (messagesFor (dataAfter c) o) → responds m (name (dataAfter c) k) ≡ true → HeldThen c k
   unfolding messagesFor responseFor
-  said-as c k m Nothing e h s = absurd h
-  said-as c k m (Probe j) e h s =
+  said-as c fine k m Nothing e h s = absurd h
+  said-as c fine k m (Probe j) e h s =
       absurd
-      (says-not m (name (x .setup) k)
-      (ap (λ (n : Message). isResponse (n .flags)) (only-one m (probeOf (x .setup) j) h) ∙ query-flag (x .setup) j) s)
-  said-as c k m (Response set) e h s =
+      (says-not m (name (dataAfter c) k)
+      (ap (λ (n : Message). isResponse (n .flags)) (only-one m (probeOf (dataAfter c) j) h) ∙ query-flag (dataAfter c) j) s)
+  said-as c fine k m (Response set) e h s =
       said-by c k set e
-      (name-said (x .setup) ok set 0 k
-      (subst (λ (n : Message). responds n (name (x .setup) k) ≡ true)
-      (unless-out (responseRecords (x .setup) set) (responseOf (x .setup) 0 set) m h) s))
+      (name-said (dataAfter c) fine set 0 k
+      (subst (λ (n : Message). responds n (name (dataAfter c) k) ≡ true)
+      (unless-out (responseRecords (dataAfter c) set) (responseOf (dataAfter c) 0 set) m h) s))
 
   -- a response to the asker
   reply-as : (a : Arrival) (b : Message) (k : Claim) (m : Message) → Among m (responseFor (x .setup) (b .id) (told x a b .unicast))
@@ -227,12 +266,13 @@ module _ (x : State) (ok : validSetup (x .setup) ≡ true) where
       (unless-out (plainRecords (x .setup) (served x arrival b .unicast)) (plainReplyOf (x .setup) (served x arrival b .unicast) (b .id) q) m h) s))
   serve-said arrival b k (q ∷ (r ∷ rs)) m h s = absurd h
 
-  pub said : (c : law.Step responder) (k : Claim) (q : law.Sent Message) → Among q (law.out responder rules x c) → responds (q .message) (name (x .setup) k) ≡ true
+  pub said : (c : law.Step responder) → Fits x c → (k : Claim) (q : law.Sent Message) → Among q (law.out responder rules x c)
+      → responds (q .message) (name (x .setup) k) ≡ true
       → rules .stage (law.next responder rules x c) k ≡ law.held
-  said (law.ticks t) k q h s =
+  said (law.ticks t) fits k q h s =
       let m = out-map law.toAll q (messagesFor (x .setup) (outputOf x (law.ticks t))) h in
-      said-as (law.ticks t) k (m .0) (outputOf x (law.ticks t)) refl (m .1) (ap (λ (y : law.Sent Message). responds (y .message) (name (x .setup) k)) (sym (m .2)) ∙ s)
-  said (law.hears a b) k q h s =
+      said-as (law.ticks t) ok k (m .0) (outputOf x (law.ticks t)) refl (m .1) (ap (λ (y : law.Sent Message). responds (y .message) (name (x .setup) k)) (sym (m .2)) ∙ s)
+  said (law.hears a b) fits k q h s =
       go
       (out-append q (map law.toAll (messagesFor (x .setup) (outputOf x (law.hears a b))))
       (map (toAsker a) (responseFor (x .setup) (b .id) (told x a b .unicast))) h)
@@ -243,11 +283,17 @@ module _ (x : State) (ok : validSetup (x .setup) ≡ true) where
           → HeldThen (law.hears a b) k
       go (inl i) =
           let m = out-map law.toAll q (messagesFor (x .setup) (outputOf x (law.hears a b))) i in
-          said-as (law.hears a b) k (m .0) (outputOf x (law.hears a b)) refl (m .1)
+          said-as (law.hears a b) ok k (m .0) (outputOf x (law.hears a b)) refl (m .1)
           (ap (λ (y : law.Sent Message). responds (y .message) (name (x .setup) k)) (sym (m .2)) ∙ s)
       go (inr i) =
           let m = out-map (toAsker a) q (responseFor (x .setup) (b .id) (told x a b .unicast)) i in
           reply-as a b k (m .0) (m .1) (ap (λ (y : law.Sent Message). responds (y .message) (name (x .setup) k)) (sym (m .2)) ∙ s)
-  said (law.serves a b) k q h s =
+  said (law.serves a b) fits k q h s =
       let m = out-map (toAsker a) q (repliesFor (x .setup) (served x a b .unicast) (b .id) (b .questions)) h in
       serve-said a b k (b .questions) (m .0) (m .1) (ap (λ (y : law.Sent Message). responds (y .message) (name (x .setup) k)) (sym (m .2)) ∙ s)
+  said (law.updates u) fits k q h s =
+      let m = out-map law.toAll q (messagesFor (revise u (x .setup)) (outputOf x (law.updates u))) h in
+      said-as (law.updates u) (fits .0) k (m .0) (outputOf x (law.updates u)) refl (m .1)
+      (ap (λ (n : List ℕ). responds (m .0) n) (name-stays (x .setup) (u .new) (firstOf (ownClaim k)))
+      ∙ ap (λ (y : law.Sent Message). responds (y .message) (name (x .setup) k)) (sym (m .2))
+      ∙ s)

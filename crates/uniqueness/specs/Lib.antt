@@ -2,3 +2,4 @@ pub mod Responder
 pub mod Statement
 pub mod Rules
 pub mod Example
+pub mod Updating

@@ -1,4 +1,4 @@
--- Our responder (the dock of the specification) as a `Responder` of `link`: its calls are what the contracts of start, receive and tick give outright, its
+-- Our responder (the dock of the specification) as a `Responder` of `link`: its calls are what the contracts of the functions give outright, its
 -- names and data are the set-up's, and conflicting and later are the tests that receive itself makes. Assumes nothing: these are definitions.
 use mathlib.Core.Bool.{Bool, cond, _&&_, _||_}
 use mathlib.Core.Option.{Option, none, some}
@@ -10,6 +10,8 @@ use Rattle.wire.specs.message.Message.{Record, Message, isResponse, allRecords}
 use Rattle.wire.specs.message.Layout.{Reads, read, refused, messageAt}
 use Rattle.own.specs.declared.records.Setup.{Setup}
 use Rattle.own.specs.records.Records.{hasRecord, ownRdata}
+use Rattle.own.specs.changes.Changes.{revised, changeOf}
+use Rattle.claims.specs.changes.Changes.{changedRecord}
 use Rattle.claims.specs.records.Own.{ownType, claimed}
 use Rattle.claims.specs.declared.records.Claim as own
 use Rattle.claims.specs.declared.records.Claim.the-variants.{Instance, Host}
@@ -25,6 +27,7 @@ use Rattle.facts.specs.probe.Probe.{isProbe, under}
 use Rattle.facts.specs.Facts.{inConflict, claimName, theirsLater}
 use Rattle.responder.specs.Handed.{Arrival, Tick}
 use Rattle.responder.specs.Calls.{startOf, receivedPacket, unicastPacket, receiveOf, tickedPacket, tickOf}
+use Rattle.responder.specs.changes.Changes.{stoppedPacket, stopOf, Update, updatedPacket, updateOf}
 use Rattle.responder.specs.declared.State.{State}
 use Rattle.responder.specs.declared.Answer.{Answer}
 use Rattle.responder.specs.declared.Answer.the-variants.{Refused, Quiet, Sent, Unicast, Both}
@@ -79,6 +82,19 @@ sentFor x a = sends link.everyone (receivedPacket x a) ++ sends (backTo a) (unic
 
 unfoldable pub receive : State → Arrival → link.Answer State
 receive x a = answeredBy (receiveOf x a .answer) (receiveOf x a .state) (sentFor x a)
+
+unfoldable pub stop : State → Tick → link.Answer State
+stop x t = answeredBy (stopOf x t .answer) (stopOf x t .state) (sends link.everyone (stoppedPacket x t))
+
+unfoldable pub update : State → Update → link.Answer State
+update x u = answeredBy (updateOf x u .answer) (updateOf x u .state) (sends link.everyone (updatedPacket x u))
+
+-- "an update of SRV port or TXT": the type of the record, and the set-up with the new data
+abbrev pub changes : Update → ℕ
+changes u = ownType (changedRecord (changeOf (u .new)))
+
+abbrev pub revise : Update → Setup → Setup
+revise u s = revised s (u .new)
 
 -- a time, where there is one
 abbrev pub listed : When → List ℕ
@@ -154,14 +170,20 @@ responder = record {
   Message = Message;
   Tick = Tick;
   Arrival = Arrival;
+  Update = Update;
   tickTime = λ t. t .time;
   arrivalTime = λ a. a .time;
+  updateTime = λ u. u .time;
   packet = λ a. a .packet;
   from = λ a. halves (a .from);
   port = λ a. a .port;
   start = start;
   tick = tick;
   receive = receive;
+  stop = stop;
+  update = update;
+  changes = changes;
+  revise = revise;
   due = due;
   name = name;
   rdata = rdata;

@@ -1,5 +1,5 @@
 // The refusal numbers (specification, 'Refusal numbers'): a call that is refused answers the number of the first of its tests that holds, in the order
-// 1, 2, 3, 8, 4, 5, 6, 7, 9. Constants alone.
+// 1, 2, 3, 8, 4, 5, 6, 7, 9, 10, 11. Constants alone.
 // 1: a time above 2^62 ms, or before one that was handed in before.
 pub const TIME: u8 = 1;
 
@@ -26,3 +26,9 @@ pub const TABLE: u8 = 8;
 
 // 9: a TXT key that is empty or has a byte that no key has.
 pub const KEY: u8 = 9;
+
+// 10: an update of a claim that is lost.
+pub const LOST: u8 = 10;
+
+// 11: an update less than 6,000 ms after the last.
+pub const TOO_SOON: u8 = 11;

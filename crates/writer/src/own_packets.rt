@@ -23,6 +23,7 @@ ghost use Rattle.writer.specs.own_packets.Ready.{HeaderReady, spotAfter,
 ghost use Rattle.writer.specs.own_packets.Styles.{responseStyle, probeStyle, plainStyle, classIn, ttlIn, asked, ownRecord, packetIn};
 ghost use Rattle.writer.specs.own_packets.Own.{refusalOf, lengthOf, responseRecords, probeRecords, responsePacket, probePacket, plainPacket};
 ghost use Rattle.writer.specs.own_packets.Own.{refusal, unlessRefused, writtenOf, laidOver};
+ghost use Rattle.writer.specs.own_packets.Goodbye.{goodbyeStyle, goodbyePacket};
 
 // The least buffer that a packet is written into.
 pub const LEAST_OUT: usize = 1452;
@@ -406,4 +407,41 @@ pub fn plain_reply(
     }
     let style = plain_style(id, qtype, qclass);
     Written::Sent(write_packet(s, style, name, records, out))
+}
+
+// A goodbye is a response whose records have TTL 0.
+fn goodbye_style() -> Style
+    ensures { λ r. ⌜ r ≡ goodbyeStyle ⌝ }
+{
+    Style {
+        id: 0,
+        flags: RESPONSE_FLAGS,
+        asks: false,
+        qtype: 0,
+        qclass: 0,
+        authority: false,
+        ttl: TtlRule::Fixed(0),
+        flush: true,
+        whole: false,
+    }
+}
+
+// Writes a goodbye to the chosen ones of the own records that the set-up has.
+pub fn goodbye(s: Setup, chosen: Set, out: &mut [u8]) -> Written
+    ensures answer { λ r. ⌜ r ≡ writtenOf (refusal s (now (out .entry))) (goodbyePacket s chosen) ⌝ }
+    ensures out { λ _. ⌜ now (out .exit) ≡ laidOver (unlessRefused (refusal s (now (out .entry))) (goodbyePacket s chosen)) (now (out .entry)) ⌝ }
+    ensures number { λ r. ⌜ refusalOf r ≡ refusal s (now (out .entry)) ⌝ }
+    ensures sent { λ r. ⌜ lengthOf r ≡ length (unlessRefused (refusal s (now (out .entry))) (goodbyePacket s chosen)) ⌝ }
+{
+    if out.len() < LEAST_OUT {
+        return Written::Refused(wire::refusals::BUFFER);
+    }
+    if !own::setups::check_setup(s) {
+        return Written::Refused(wire::refusals::SETUP);
+    }
+    let parting = pick(s, chosen);
+    if parting.n == 0 {
+        return Written::Nothing;
+    }
+    Written::Sent(write_packet(s, goodbye_style(), b"", parting, out))
 }

@@ -77,7 +77,7 @@ pub fn responders() {
             |responder| responder.tick(10),
         );
         tick_on_bytes(
-            &format!("{name}; ordinary reads and tests the same 841 bytes"),
+            &format!("{name}; ordinary reads and tests the same 850 bytes"),
             instance,
         );
     }

@@ -1,4 +1,4 @@
-//! An ordinary tick on a state that is handed in as 841 bytes, as the proved one's is: it reads what changes from the bytes, makes the tests of refusals 1, 3
+//! An ordinary tick on a state that is handed in as 850 bytes, as the proved one's is: it reads what changes from the bytes, makes the tests of refusals 1, 3
 //! and 7 on them, the set-up's rules in place, and writes what changes back. Only where a step is due is the set-up copied, for `reference::responder`.
 
 use reference::refusal::Refusal;
@@ -7,7 +7,7 @@ use reference::responder::{Claim, ProbesSent, Responder, Sent, LEAST_OUT};
 use reference::setup::{Setup, KINDS};
 use reference::{txt, MOST_TIME};
 
-pub const STATE_BYTES: usize = 841;
+pub const STATE_BYTES: usize = 850;
 const SETUP_BYTES: usize = 579;
 const MOST_KEPT_TIME: u64 = MOST_TIME + 2000;
 const MOST_START_DRAW: u64 = 250;
@@ -17,7 +17,8 @@ const CASE: usize = 9;
 const HOST_CLAIM: usize = CASE;
 const MULTICASTS: usize = 2 * CASE;
 const REPLY: usize = MULTICASTS + KINDS * CASE;
-const HOLDS: usize = REPLY + CASE;
+const UPDATED: usize = REPLY + CASE;
+const HOLDS: usize = UPDATED + CASE;
 /// A held query: the address that it came from, when it is due, and of each record whether it is asked for and whether it is known.
 const HOLD: usize = ADDRESS + CASE + 2 * KINDS;
 const ADDRESS: usize = 16;
@@ -31,6 +32,7 @@ struct Progress {
     multicast: [Option<u64>; KINDS],
     reply: Option<u64>,
     holds: [Place; MOST_HOLDS],
+    updated: Option<u64>,
     draw: u64,
     last: u64,
 }
@@ -77,6 +79,7 @@ impl Progress {
             multicast: std::array::from_fn(|kind| time_at(b, MULTICASTS + kind * CASE)),
             reply: time_at(b, REPLY),
             holds: std::array::from_fn(|place| Place::read(&b[HOLDS + place * HOLD..][..HOLD])),
+            updated: time_at(b, UPDATED),
             draw: number_at(b, DRAW),
             last: number_at(b, LAST),
         }
@@ -92,6 +95,7 @@ impl Progress {
         for (place, bytes) in self.holds.iter().zip(b[HOLDS..DRAW].chunks_exact_mut(HOLD)) {
             place.write(bytes);
         }
+        put_case(b, UPDATED, self.updated.is_some() as u8, self.updated);
         b[DRAW..LAST].copy_from_slice(&self.draw.to_be_bytes());
         b[LAST..].copy_from_slice(&self.last.to_be_bytes());
     }
@@ -105,6 +109,7 @@ impl Progress {
             || too_late(self.instance.due())
             || too_late(self.host.due())
             || too_late(self.reply)
+            || too_late(self.updated)
             || self.multicast.into_iter().any(too_late)
             || self.holds.iter().any(|place| too_late(place.due))
         {
@@ -132,6 +137,7 @@ impl Progress {
             reply: self.reply,
             multicast: self.multicast,
             holds: self.holds.iter().filter_map(Place::hold).collect(),
+            updated: self.updated,
         };
         let held = responder.holds.len();
         let sent = responder.tick(now, out)?;

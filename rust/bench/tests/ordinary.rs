@@ -135,7 +135,7 @@ fn ordinary_tick(state: &[u8; STATE_BYTES], now: u64) -> Ticked {
 }
 
 /// Where the places of held queries stand in a state, and of one place the flag whether it is taken, behind which its due time stands.
-const HOLDS: std::ops::Range<usize> = 669..825;
+const HOLDS: std::ops::Range<usize> = 678..834;
 const HOLD: usize = 39;
 const TAKEN: usize = 16;
 

@@ -51,12 +51,16 @@ pub enum Refusal {
     Header,
     /// 6: a malformed message, TXT or looked-up name.
     Malformed,
-    /// 7: a set-up or a state that breaks the rules ([`Setup::new`]), such as an instance label that is not UTF-8 or has a control character.
+    /// 7: a set-up, a state or an update that breaks the rules ([`Setup::new`]), such as an instance label that is not UTF-8 or has a control character.
     Setup,
     /// 8: a cache of another size, or with an entry that breaks the rules.
     Cache,
     /// 9: a TXT key that is empty or has a byte that no key has.
     Key,
+    /// 10: an update of an instance whose name is lost.
+    Lost,
+    /// 11: an update less than 6,000 ms after the last one.
+    TooSoon,
 }
 
 impl Refusal {
@@ -78,7 +82,9 @@ impl Refusal {
             6 => Err(Malformed),
             7 => Err(Setup),
             8 => Err(Cache),
-            _ => Err(Key),
+            9 => Err(Key),
+            10 => Err(Lost),
+            _ => Err(TooSoon),
         }
     }
 }

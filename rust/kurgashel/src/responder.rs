@@ -1,4 +1,4 @@
-//! A responder: start, packet received and tick over the state's bytes.
+//! A responder: start, packet received, tick, stop and update over the state's bytes.
 
 use std::net::{IpAddr, SocketAddr};
 
@@ -9,7 +9,7 @@ use crate::Refusal;
 pub const PORT: u16 = 5353;
 
 /// The bytes of a responder's state.
-pub const STATE_BYTES: usize = 841;
+pub const STATE_BYTES: usize = 850;
 
 /// The least out buffer; no packet is longer.
 pub const OUT_BYTES: usize = 1452;
@@ -58,6 +58,30 @@ extern "C" {
         state: *mut u8,
         state_bytes: usize,
         now: u64,
+        out: *mut u8,
+        out_bytes: usize,
+    ) -> Answer;
+    fn kurgashel_stop(
+        state: *mut u8,
+        state_bytes: usize,
+        now: u64,
+        out: *mut u8,
+        out_bytes: usize,
+    ) -> Answer;
+    fn kurgashel_update_port(
+        state: *mut u8,
+        state_bytes: usize,
+        now: u64,
+        port: u16,
+        out: *mut u8,
+        out_bytes: usize,
+    ) -> Answer;
+    fn kurgashel_update_txt(
+        state: *mut u8,
+        state_bytes: usize,
+        now: u64,
+        txt: *const u8,
+        txt_bytes: usize,
         out: *mut u8,
         out_bytes: usize,
     ) -> Answer;
@@ -259,6 +283,60 @@ impl Responder {
             length: answer.length,
             more: answer.more,
         })
+    }
+
+    /// Ends the responder: says goodbye to what it holds (RFC 6762 section 10.1), and leaves both names lost for good. Gives the length of the packet in `out`, 0
+    /// for none, which goes to all.
+    pub fn stop(&mut self, now: u64, out: &mut [u8]) -> Result<usize, Refusal> {
+        let state = &mut self.state;
+        // SAFETY: as for `receive`.
+        let answer = unsafe {
+            kurgashel_stop(
+                state.as_mut_ptr(),
+                state.len(),
+                now,
+                out.as_mut_ptr(),
+                out.len(),
+            )
+        };
+        Refusal::check(answer.refusal).map(|()| answer.length)
+    }
+
+    /// Changes the port of the SRV record. Where the instance's name is held, the record goes out with its new data (RFC 6762 section 8.4), and once more 1,000 ms
+    /// later by a tick; where it is not yet held, the responder begins anew to claim it. At most one update in 6,000 ms. Gives the length of the packet in `out`, 0
+    /// for none, which goes to all.
+    pub fn update_port(&mut self, now: u64, port: u16, out: &mut [u8]) -> Result<usize, Refusal> {
+        let state = &mut self.state;
+        // SAFETY: as for `receive`.
+        let answer = unsafe {
+            kurgashel_update_port(
+                state.as_mut_ptr(),
+                state.len(),
+                now,
+                port,
+                out.as_mut_ptr(),
+                out.len(),
+            )
+        };
+        Refusal::check(answer.refusal).map(|()| answer.length)
+    }
+
+    /// Changes the TXT record, as [`Responder::update_port`] changes the port: `txt` is 1 to 400 bytes of strings, each behind its length byte.
+    pub fn update_txt(&mut self, now: u64, txt: &[u8], out: &mut [u8]) -> Result<usize, Refusal> {
+        let state = &mut self.state;
+        // SAFETY: as for `receive`.
+        let answer = unsafe {
+            kurgashel_update_txt(
+                state.as_mut_ptr(),
+                state.len(),
+                now,
+                txt.as_ptr(),
+                txt.len(),
+                out.as_mut_ptr(),
+                out.len(),
+            )
+        };
+        Refusal::check(answer.refusal).map(|()| answer.length)
     }
 
     /// When the next step is due, if one is to come: before then a tick sends nothing. A packet received may bring it forward.

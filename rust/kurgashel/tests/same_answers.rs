@@ -116,6 +116,14 @@ fn read_words(message: &Message) -> String {
     words
 }
 
+/// What a stop or an update sends.
+fn sent_or_quiet(packet: &[u8]) -> String {
+    match packet {
+        [] => "quiet".into(),
+        packet => format!("sent {}", hex(packet)),
+    }
+}
+
 /// A part of an out buffer, as a line asks for it.
 fn part(word: &str, buffer: &[u8], fields: &[&str]) -> String {
     let at = number(fields[1]) as usize;
@@ -156,6 +164,22 @@ impl Exported {
                         if sent.more { " more" } else { "" }
                     ),
                 })
+            }
+            "stop" => {
+                let stopped = self
+                    .responder
+                    .stop(number(fields[1]), &mut self.out[..lent(2)]);
+                stopped.map(|length| sent_or_quiet(&self.out[..length]))
+            }
+            "update" => {
+                let (now, out) = (number(fields[1]), &mut self.out[..lent(4)]);
+                let updated = match fields[2] {
+                    "port" => self
+                        .responder
+                        .update_port(now, number(fields[3]) as u16, out),
+                    _ => self.responder.update_txt(now, &bytes(fields[3]), out),
+                };
+                updated.map(|length| sent_or_quiet(&self.out[..length]))
             }
             "claims" => Ok(self.claims()),
             "holds" => Ok(self.holds()),
@@ -278,10 +302,10 @@ impl Exported {
         u64::from_be_bytes(bytes.try_into().expect("eight bytes"))
     }
 
-    /// The held queries, by a state's layout: four places of 39 bytes behind the reply, each of an address, a flag and a due time, and two flags for each record.
+    /// The held queries, by a state's layout: four places of 39 bytes behind the last update, each of an address, a flag and a due time, and two flags for each record.
     fn holds(&self) -> String {
         let taken = (0..4)
-            .map(|place| 669 + 39 * place)
+            .map(|place| 678 + 39 * place)
             .filter(|at| self.responder.bytes()[at + 16] % 2 == 1);
         let shown = taken.map(|at| {
             let from = hex(&self.responder.bytes()[at..at + 16]);
@@ -291,7 +315,7 @@ impl Exported {
         format!("holds{}", if shown.is_empty() { " -" } else { &shown })
     }
 
-    /// The times that a state keeps, by its layout: a case byte and a number of eight bytes for each claim, each last multicast and the reply.
+    /// The times that a state keeps, by its layout: a case byte and a number of eight bytes for each claim, each last multicast, the reply and the last update.
     fn claims(&self) -> String {
         let state = self.responder.bytes();
         let word = |at| self.word(at);
@@ -303,13 +327,14 @@ impl Exported {
             }
         };
         format!(
-            "{} instance {} {} host {} {} reply {}",
-            word(833),
+            "{} instance {} {} host {} {} reply {} updated {}",
+            word(842),
             self.responder.instance().word(),
             due(state[579] < 6, 580),
             self.responder.host().word(),
             due(state[588] < 6, 589),
             due(state[660] % 2 == 1, 661),
+            due(state[669] % 2 == 1, 670),
         )
     }
 }

@@ -117,7 +117,9 @@ fn sent_of(to_all: Option<&str>, unicast: Option<&str>) -> Option<Answer> {
 fn claims_of(line: &str) -> Option<Claims> {
     let words: Vec<&str> = line.split(' ').collect();
     match words[..] {
-        [_, "instance", instance, instance_due, "host", host, host_due, "reply", reply] => {
+        [_, "instance", instance, instance_due, "host", host, host_due, "reply", reply, "updated", updated] =>
+        {
+            due_of(updated)?;
             Some(Claims {
                 states: [state_of(instance)?, state_of(host)?],
                 due: dues(&[due_of(instance_due)?, due_of(host_due)?, due_of(reply)?]),
@@ -215,10 +217,12 @@ mod tests {
 
     #[test]
     fn claims() {
-        let claims = claims_of("5 instance waiting 7 host lost - reply -").unwrap();
+        let line = "5 instance waiting 7 host lost - reply - updated 3";
+        let claims = claims_of(line).unwrap();
         assert_eq!(claims.states, [State::Waiting, State::Lost]);
         assert_eq!(claims.due, dues(&[Some(7), None, None]));
         assert_eq!(claims_of("quiet"), None);
+        assert_eq!(claims_of(&line.replace('3', "x")), None);
     }
 
     #[test]

@@ -12,6 +12,10 @@ pub struct Counts {
     pub longest: u64,
     pub starts: u64,
     pub cuts: u64,
+    pub stops: u64,
+    pub updates: u64,
+    /// Entries at which two held one name with different data, in the 100 ms after an update.
+    pub excused: u64,
     pub refused: u64,
     pub sent: u64,
     /// Truncated queries that came to be held.
@@ -39,6 +43,9 @@ impl Counts {
         self.longest = self.longest.max(other.entries);
         self.starts += other.starts;
         self.cuts += other.cuts;
+        self.stops += other.stops;
+        self.updates += other.updates;
+        self.excused += other.excused;
         self.refused += other.refused;
         self.sent += other.sent;
         self.truncated += other.truncated;
@@ -71,6 +78,9 @@ impl fmt::Display for Counts {
             longest,
             starts,
             cuts,
+            stops,
+            updates,
+            excused,
             refused,
             sent,
             truncated,
@@ -89,7 +99,7 @@ impl fmt::Display for Counts {
         )?;
         writeln!(
             f,
-            "{starts} responders started, {cuts} cut; {refused} calls refused; {sent} packets sent, {heard} heard, {truncated} of them held back, {unicast} answered by unicast, {replied} of plain resolvers"
+            "{starts} responders started, {cuts} cut, {stops} stopped; {updates} updates, {excused} times with two holders in the 100 ms after one; {refused} calls refused; {sent} packets sent, {heard} heard, {truncated} of them held back, {unicast} answered by unicast, {replied} of plain resolvers"
         )?;
         write!(
             f,

@@ -1,4 +1,5 @@
-//! A list's entries: "the start, packet received and tick calls of all docks, refused ones too, and power cuts between them".
+//! A list's entries: "the start, packet received and tick calls of all docks, refused ones too, and power cuts between them", and
+//! "Stops and updates, refused ones too".
 
 use std::rc::Rc;
 
@@ -6,13 +7,16 @@ use reference::console::hex;
 use reference::message::Message;
 use reference::refusal::Refusal;
 use reference::responder::holds::{Address, LEAST_HOLD_DRAW, MOST_HOLD_DRAW};
+use reference::responder::Change;
 use reference::setup::Setup;
-use reference::MOST_TIME;
+use reference::{txt, MOST_TIME};
 
 pub const LEAST_OUT: usize = 1452;
 pub const MOST_START_DRAW: u64 = 250;
 pub const LEAST_REPLY_DRAW: u64 = 20;
 pub const MOST_REPLY_DRAW: u64 = 120;
+pub const UPDATE_GAP: u64 = 6000;
+const MOST_TXT: usize = 400;
 
 pub type Packet = Rc<[u8]>;
 
@@ -40,7 +44,27 @@ pub enum Call {
         clock: u64,
         out: usize,
     },
+    Stop {
+        clock: u64,
+        out: usize,
+    },
+    Update {
+        clock: u64,
+        change: Change,
+        out: usize,
+    },
     Cut,
+}
+
+/// What a call's refusal goes by, of the responder before it.
+#[derive(Clone, Copy, Default)]
+pub struct Before {
+    /// The time of its last call that was not refused.
+    pub last: u64,
+    /// The instance claim is lost.
+    pub lost: bool,
+    /// The time of the last update that was not refused.
+    pub updated: Option<u64>,
 }
 
 #[derive(Clone)]
@@ -93,24 +117,37 @@ impl Call {
             ),
             Call::Receive(receive) => receive.line(),
             Call::Tick { clock, out } => format!("tick {clock} {out}"),
+            Call::Stop { clock, out } => format!("stop {clock} {out}"),
+            Call::Update { clock, change, out } => match change {
+                Change::Port(port) => format!("update {clock} port {port} {out}"),
+                Change::Txt(txt) => format!("update {clock} txt {} {out}", hex(txt)),
+            },
             Call::Cut => "# power cut".to_string(),
         }
     }
 
     pub fn clock(&self) -> u64 {
         match self {
-            Call::Start { clock, .. } | Call::Tick { clock, .. } => *clock,
+            Call::Start { clock, .. }
+            | Call::Tick { clock, .. }
+            | Call::Stop { clock, .. }
+            | Call::Update { clock, .. } => *clock,
             Call::Receive(receive) => receive.clock,
             Call::Cut => 0,
         }
     }
 
-    /// The number by "Refusal numbers", in their order; `last` is the time of the responder's last call that was not refused.
-    pub fn refusal(&self, last: u64) -> Option<u8> {
-        self.check(last).err().map(Refusal::number)
+    /// The number by "Refusal numbers", in their order.
+    pub fn refusal(&self, before: Before) -> Option<u8> {
+        self.check(before).err().map(Refusal::number)
     }
 
-    fn check(&self, last: u64) -> Result<(), Refusal> {
+    fn check(&self, before: Before) -> Result<(), Refusal> {
+        let Before {
+            last,
+            lost,
+            updated,
+        } = before;
         let test = |passed: bool, refusal| if passed { Ok(()) } else { Err(refusal) };
         match self {
             Call::Start {
@@ -130,9 +167,23 @@ impl Call {
                 test(!short, Refusal::OutBuffer)?;
                 Message::read_from(receive.port, &receive.packet).map(|_| ())
             }
-            Call::Tick { clock, out } => {
+            Call::Tick { clock, out } | Call::Stop { clock, out } => {
                 test((last..=MOST_TIME).contains(clock), Refusal::Time)?;
                 test(*out >= LEAST_OUT, Refusal::OutBuffer)
+            }
+            Call::Update { clock, change, out } => {
+                test((last..=MOST_TIME).contains(clock), Refusal::Time)?;
+                test(*out >= LEAST_OUT, Refusal::OutBuffer)?;
+                let legal = match change {
+                    Change::Port(_) => true,
+                    Change::Txt(txt) => {
+                        (1..=MOST_TXT).contains(&txt.len()) && txt::is_well_formed(txt)
+                    }
+                };
+                test(legal, Refusal::Setup)?;
+                test(!lost, Refusal::Lost)?;
+                let soon = updated.is_some_and(|updated| *clock < updated + UPDATE_GAP);
+                test(!soon, Refusal::TooSoon)
             }
             Call::Cut => Ok(()),
         }

@@ -7,6 +7,7 @@ use std::fmt;
 use reference::message::{Message, Question, Record, Section};
 use reference::name::Name;
 use reference::order::{self, Entry};
+use reference::responder::Change;
 use reference::setup::{ClaimName, Setup};
 use reference::{class, rtype};
 
@@ -14,30 +15,39 @@ use crate::describe::text_of;
 
 /// "a dock holds each of its two names 1,200 ms after its start at the latest"
 const HOLDING_TIME: u64 = 1200;
+/// "for at most 100 ms after a holder's update, another dock with different data may hold, or come to hold, that name"
+const EXCUSED: u64 = 100;
 
 #[derive(Default)]
 pub struct Judge {
     responders: Vec<Responder>,
     /// How often the 1,200 ms were asked of a claim.
     pub asked: u64,
+    /// After how many entries two held one name with different data, in the time after an update.
+    pub excused: u64,
 }
 
 struct Responder {
-    start: u64,
+    setup: Setup,
     runs: bool,
-    /// Its 1,200 ms are over.
-    past: bool,
+    /// Instance, host.
     claims: [Claim; 2],
 }
 
 /// A name with what one responder would have it mean, and what happened to it so far.
 pub struct Claim {
     name: Name,
-    /// Class, type and rdata: "Its types and data are its setup's".
+    /// Class, type and rdata: "Its types and data are its setup's", and "a dock's data are those after its last update taken".
     records: Vec<Entry>,
     holds: bool,
-    /// A conflicting response or a probe with later records was heard since the start.
+    /// From when the 1,200 ms run: its start, or an update taken while it was not held.
+    begin: u64,
+    /// The 1,200 ms are over.
+    past: bool,
+    /// A conflicting response or a probe with later records was heard since then.
     opposed: bool,
+    /// The times and types of the updates that were taken while it was held.
+    updates: Vec<(u64, u16)>,
 }
 
 #[derive(Clone, Debug, PartialEq, Eq)]
@@ -60,21 +70,35 @@ pub enum Violation {
 }
 
 impl Claim {
-    pub fn new(setup: &Setup, name: ClaimName) -> Claim {
-        let own = setup.records().into_iter();
-        let own = own.filter(|record| record.kind.is_claimed() && record.kind.claim() == name);
+    pub fn new(time: u64, setup: &Setup, name: ClaimName) -> Claim {
         Claim {
             name: setup.claim_name(name),
-            records: own
-                .map(|record| Entry {
-                    class: class::IN,
-                    rtype: record.kind.rtype(),
-                    rdata: record.rdata(),
-                })
-                .collect(),
+            records: records(setup, name),
             holds: false,
+            begin: time,
+            past: false,
             opposed: false,
+            updates: Vec::new(),
         }
+    }
+
+    /// An update that was taken: new data of this type.
+    fn update(&mut self, time: u64, setup: &Setup, rtype: u16) {
+        self.records = records(setup, ClaimName::Instance);
+        if self.holds {
+            self.updates.push((time, rtype));
+        } else {
+            // "they and their premise run from the last update taken before it is held"
+            self.begin = time;
+            self.past = false;
+            self.opposed = false;
+        }
+    }
+
+    /// An update of this type, taken while the name was held, is at most 100 ms ago.
+    fn is_excused(&self, time: u64, rtype: u16) -> bool {
+        let mut updates = self.updates.iter();
+        updates.any(|(at, of)| *of == rtype && time <= at + EXCUSED)
     }
 
     /// "A response record of any section conflicts when name, class 1 and type are the claim's, TTL is not 0 and rdata differs."
@@ -137,34 +161,66 @@ impl Claim {
         }
     }
 
-    /// Same name, and different data in a type of both.
-    fn differs_from(&self, other: &Claim) -> bool {
-        let unlike = |own: &Entry| {
+    /// Same name, and different data in these types of both.
+    fn differs_from(&self, other: &Claim) -> Vec<u16> {
+        let unlike = |own: &&Entry| {
             let mut theirs = other.records.iter();
             theirs.any(|theirs| own.rtype == theirs.rtype && own.rdata != theirs.rdata)
         };
-        self.name.equals(&other.name) && self.records.iter().any(unlike)
+        if !self.name.equals(&other.name) {
+            return Vec::new();
+        }
+        let differing = self.records.iter().filter(unlike);
+        differing.map(|own| own.rtype).collect()
     }
+}
+
+/// What a claim's name would mean by this set-up.
+fn records(setup: &Setup, name: ClaimName) -> Vec<Entry> {
+    let own = setup.records().into_iter();
+    own.filter(|record| record.kind.is_claimed() && record.kind.claim() == name)
+        .map(|record| Entry {
+            class: class::IN,
+            rtype: record.kind.rtype(),
+            rdata: record.rdata(),
+        })
+        .collect()
 }
 
 impl Judge {
     /// An accepted start; gives the responder's number.
     pub fn start(&mut self, time: u64, setup: &Setup) -> usize {
+        let names = [ClaimName::Instance, ClaimName::Host];
         self.responders.push(Responder {
-            start: time,
+            setup: setup.clone(),
             runs: true,
-            past: false,
-            claims: [ClaimName::Instance, ClaimName::Host].map(|name| Claim::new(setup, name)),
+            claims: names.map(|name| Claim::new(time, setup, name)),
         });
         self.responders.len() - 1
     }
 
-    /// "A power cut ends a dock: from then on it holds nothing".
-    pub fn cut(&mut self, responder: usize) {
+    /// "A power cut ends a dock: from then on it holds nothing"; "a stop taken ends holding".
+    pub fn end(&mut self, responder: usize) {
         self.responders[responder].runs = false;
         for claim in &mut self.responders[responder].claims {
             claim.holds = false;
         }
+    }
+
+    /// An update that was taken, before what the call wrote.
+    pub fn update(&mut self, time: u64, responder: usize, change: &Change) {
+        let Responder { setup, claims, .. } = &mut self.responders[responder];
+        let rtype = match change {
+            Change::Port(port) => {
+                setup.port = *port;
+                rtype::SRV
+            }
+            Change::Txt(txt) => {
+                setup.txt = txt.clone();
+                rtype::TXT
+            }
+        };
+        claims[0].update(time, setup, rtype);
     }
 
     pub fn hear(&mut self, responder: usize, message: &Message) {
@@ -189,14 +245,15 @@ impl Judge {
     pub fn not_in_time(&mut self, time: u64) -> Option<Violation> {
         let mut found = None;
         for (number, responder) in self.responders.iter_mut().enumerate() {
-            if responder.past || time <= responder.start + HOLDING_TIME {
-                continue;
-            }
-            responder.past = true;
-            if !responder.runs {
-                continue;
-            }
-            for claim in responder.claims.iter().filter(|claim| !claim.opposed) {
+            let runs = responder.runs;
+            for claim in &mut responder.claims {
+                if claim.past || time <= claim.begin + HOLDING_TIME {
+                    continue;
+                }
+                claim.past = true;
+                if !runs || claim.opposed {
+                    continue;
+                }
                 self.asked += 1;
                 if !claim.holds {
                     found = Some(Violation::NotInTime {
@@ -209,8 +266,9 @@ impl Judge {
         found
     }
 
-    /// After an entry: two who hold one name with different data in a type of both.
-    pub fn two_holders(&self) -> Option<Violation> {
+    /// After an entry, and again at the time of the next: two who hold one name with different data in a type of both. An update of
+    /// that very type, by one of the two while it held, excuses it for 100 ms.
+    pub fn two_holders(&mut self, time: u64) -> Option<Violation> {
         let holdings: Vec<(usize, &Claim)> = self
             .responders
             .iter()
@@ -220,9 +278,17 @@ impl Judge {
             })
             .filter(|(_, claim)| claim.holds)
             .collect();
+        let mut excused = false;
         for (at, (one, claim)) in holdings.iter().enumerate() {
             for (other, others) in &holdings[at + 1..] {
-                if one != other && claim.differs_from(others) {
+                if one == other {
+                    continue;
+                }
+                for rtype in claim.differs_from(others) {
+                    if claim.is_excused(time, rtype) || others.is_excused(time, rtype) {
+                        excused = true;
+                        continue;
+                    }
                     return Some(Violation::TwoHolders {
                         name: text_of(&claim.name),
                         one: *one,
@@ -231,6 +297,7 @@ impl Judge {
                 }
             }
         }
+        self.excused += u64::from(excused);
         None
     }
 }
@@ -250,7 +317,7 @@ impl fmt::Display for Violation {
             ),
             Violation::NotInTime { name, responder } => write!(
                 f,
-                "responder {responder} does not hold {name} 1,200 ms after its start"
+                "responder {responder} does not hold {name} 1,200 ms after its start, or its update"
             ),
             Violation::Refusal { expected, given } => {
                 write!(f, "refusal {given:?}, expected {expected:?}")
@@ -300,7 +367,7 @@ mod tests {
     }
 
     fn host() -> Claim {
-        Claim::new(&plain(), ClaimName::Host)
+        Claim::new(0, &plain(), ClaimName::Host)
     }
 
     /// An A record of dock.local with other data, changed, in a section of a message.
@@ -345,7 +412,11 @@ mod tests {
 
     #[test]
     fn later_by_unsigned_bytes_and_by_length() {
-        let ours = Claim::new(&setup("dock", [169, 254, 99, 200], None), ClaimName::Host);
+        let ours = Claim::new(
+            0,
+            &setup("dock", [169, 254, 99, 200], None),
+            ClaimName::Host,
+        );
         let theirs = |a, aaaa| host_probe(&setup("DOCK", a, aaaa));
         assert!(ours.is_later(&theirs([169, 254, 200, 50], None)));
         assert!(!ours.is_later(&theirs([169, 254, 99, 200], None)));
@@ -387,20 +458,20 @@ mod tests {
         let other = judge.start(0, &setup("Dock", [10, 0, 0, 8], None));
         assert_eq!(judge.write(one, &host_probe(&plain())), 0);
         assert_eq!(judge.write(one, &announcement(&plain())), 2);
-        assert_eq!(judge.two_holders(), None);
+        assert_eq!(judge.two_holders(0), None);
         let theirs = announcement(&setup("Dock", [10, 0, 0, 8], None));
         judge.write(other, &theirs);
         // both names: SRV of the instance has another target
         assert!(matches!(
-            judge.two_holders(),
+            judge.two_holders(0),
             Some(Violation::TwoHolders { .. })
         ));
         judge.hear(one, &theirs);
-        assert_eq!(judge.two_holders(), None);
+        assert_eq!(judge.two_holders(0), None);
         judge.write(one, &announcement(&plain()));
-        assert!(judge.two_holders().is_some());
-        judge.cut(other);
-        assert_eq!(judge.two_holders(), None);
+        assert!(judge.two_holders(0).is_some());
+        judge.end(other);
+        assert_eq!(judge.two_holders(0), None);
     }
 
     #[test]
@@ -411,11 +482,86 @@ mod tests {
             let number = judge.start(0, &setup);
             judge.write(number, &announcement(&setup));
         }
-        assert_eq!(judge.two_holders(), None);
+        assert_eq!(judge.two_holders(0), None);
         let other = setup("dock", [10, 0, 0, 7], Some([2; 16]));
         let number = judge.start(0, &other);
         judge.write(number, &announcement(&other));
-        assert!(judge.two_holders().is_some());
+        assert!(judge.two_holders(0).is_some());
+    }
+
+    /// Two of equal instance data that hold the name, and one of them has another port from 1,000 on.
+    fn updated_twins() -> Judge {
+        let mut judge = Judge::default();
+        for _ in 0..2 {
+            let number = judge.start(0, &plain());
+            judge.write(number, &announcement(&plain()));
+        }
+        judge.update(1000, 1, &Change::Port(80));
+        judge
+    }
+
+    #[test]
+    fn an_update_excuses_two_holders_for_100_ms() {
+        let mut judge = updated_twins();
+        for time in [1000, 1100] {
+            assert_eq!(judge.two_holders(time), None);
+        }
+        assert_eq!(judge.excused, 2);
+        assert!(judge.two_holders(1101).is_some());
+        // who hears of it in time does not hold any more
+        let mut twin = plain();
+        twin.port = 80;
+        judge.hear(0, &announcement(&twin));
+        assert_eq!(judge.two_holders(1101), None);
+    }
+
+    #[test]
+    fn an_update_of_another_type_or_while_not_holding_excuses_nothing() {
+        let mut judge = updated_twins();
+        judge.update(1050, 0, &Change::Txt(vec![1, b'x']));
+        assert_eq!(judge.two_holders(1100), None);
+        assert!(judge.two_holders(1101).is_some());
+        let mut judge = Judge::default();
+        for _ in 0..2 {
+            judge.start(0, &plain());
+        }
+        judge.write(0, &announcement(&plain()));
+        judge.update(1000, 1, &Change::Port(80));
+        let mut twin = plain();
+        twin.port = 80;
+        judge.write(1, &announcement(&twin));
+        assert!(judge.two_holders(1000).is_some());
+    }
+
+    #[test]
+    fn an_update_while_not_holding_begins_the_1200_ms_anew_for_the_instance() {
+        let later = |judge: &mut Judge, number| {
+            judge.hear(number, &host_probe(&setup("dock", [10, 0, 0, 8], None)));
+            judge.update(500, number, &Change::Port(80));
+        };
+        assert_eq!(unheld(1301, later), None);
+        assert_eq!(unheld(1700, later), None);
+        let Some(Violation::NotInTime { name, .. }) = unheld(1701, later) else {
+            panic!("the instance name is not held");
+        };
+        assert_eq!(name, "booth._voice._tcp.local");
+        // one while holding begins nothing
+        let mut judge = Judge::default();
+        let number = judge.start(0, &plain());
+        judge.write(number, &announcement(&plain()));
+        assert_eq!(judge.not_in_time(1201), None);
+        judge.update(2000, number, &Change::Port(80));
+        judge.hear(number, &announcement(&setup("dock", [10, 0, 0, 9], None)));
+        assert_eq!(judge.not_in_time(4000), None);
+        assert_eq!(judge.asked, 2);
+    }
+
+    #[test]
+    fn a_stop_ends_a_holding_and_the_1200_ms() {
+        let mut judge = updated_twins();
+        judge.end(1);
+        assert_eq!(judge.two_holders(5000), None);
+        assert_eq!(judge.not_in_time(5000), None);
     }
 
     #[test]
@@ -445,7 +591,7 @@ mod tests {
 
     #[test]
     fn the_1200_ms_are_not_asked_after_a_cut_or_against_opposition() {
-        assert_eq!(unheld(1301, |judge, number| judge.cut(number)), None);
+        assert_eq!(unheld(1301, |judge, number| judge.end(number)), None);
         let held = |judge: &mut Judge, number| {
             judge.write(number, &announcement(&plain()));
         };

@@ -7,7 +7,7 @@ use reference::MDNS_PORT;
 
 use crate::console::{Answer, Claims, Console, Sent, State};
 use crate::counts::Counts;
-use crate::entry::{Call, Entry, Packet, Receive};
+use crate::entry::{Before, Call, Entry, Packet, Receive};
 use crate::judge::{Judge, Violation};
 use crate::premises::{Limits, Premises};
 
@@ -31,6 +31,10 @@ struct Running {
     states: [State; 2],
     /// How many queries it holds.
     holds: usize,
+    /// The clock of its last accepted update.
+    updated: Option<u64>,
+    /// It has taken a stop: it no longer runs, though it may still be called.
+    stopped: bool,
 }
 
 /// What an entry brought, for who makes the next ones.
@@ -60,8 +64,14 @@ impl Link<'_> {
         self.premises.broken()
     }
 
-    pub fn runs(&self, console: usize) -> bool {
+    /// Whether a console has a responder that can be called.
+    pub fn answers(&self, console: usize) -> bool {
         self.running[console].is_some()
+    }
+
+    /// "a dock cut off or stopped no longer runs"
+    pub fn runs(&self, console: usize) -> bool {
+        self.running[console].is_some_and(|running| !running.stopped)
     }
 
     /// The number of the responder that a console runs.
@@ -76,19 +86,23 @@ impl Link<'_> {
         let late = self.judge.not_in_time(entry.time);
         self.counts.asked = self.judge.asked;
         self.found(late);
+        let two = self.judge.two_holders(entry.time);
+        self.found(two);
+        let time = entry.time;
         let outcome = match &entry.call {
             Call::Cut => {
                 self.cut(entry.console);
                 None
             }
             Call::Start { .. } => Some(self.call(&entry)?),
-            _ if self.runs(entry.console) => Some(self.call(&entry)?),
+            _ if self.answers(entry.console) => Some(self.call(&entry)?),
             _ => None,
         };
         let (answer, outcome) = outcome.unzip();
         self.played.push((entry, answer));
-        let two = self.judge.two_holders();
+        let two = self.judge.two_holders(time);
         self.found(two);
+        self.counts.excused = self.judge.excused;
         Ok(outcome)
     }
 
@@ -100,15 +114,33 @@ impl Link<'_> {
 
     fn cut(&mut self, console: usize) {
         if let Some(running) = self.running[console].take() {
-            self.counts.cuts += 1;
-            self.judge.cut(running.number);
+            if !running.stopped {
+                self.counts.cuts += 1;
+            }
+            self.judge.end(running.number);
+            self.premises.cut(running.number);
+        }
+    }
+
+    /// A stop that was taken; its goodbye is written, and owed to the others.
+    fn stopped(&mut self, console: usize) {
+        if let Some(running) = &mut self.running[console] {
+            if !running.stopped {
+                self.counts.stops += 1;
+            }
+            running.stopped = true;
+            self.judge.end(running.number);
             self.premises.cut(running.number);
         }
     }
 
     fn call(&mut self, entry: &Entry) -> io::Result<(Answer, Outcome)> {
-        let last = self.running[entry.console].map_or(0, |running| running.last);
-        let expected = entry.call.refusal(last);
+        let before = self.running[entry.console].map(|running| Before {
+            last: running.last,
+            lost: running.states[0] == State::Lost,
+            updated: running.updated,
+        });
+        let expected = entry.call.refusal(before.unwrap_or_default());
         let (answer, claims) = self.consoles[entry.console].call(&entry.call.line())?;
         let given = match answer {
             Answer::Refused(number) => Some(number),
@@ -128,8 +160,12 @@ impl Link<'_> {
             Some(_) => self.counts.refused += 1,
             None => self.accepted(entry, &claims),
         }
+        let is_goodbye = matches!(entry.call, Call::Stop { .. });
         if let (Some(packet), Some(number)) = (&sent, self.number(entry.console)) {
-            self.sent(number, packet);
+            self.sent(number, packet, is_goodbye);
+        }
+        if is_goodbye && given.is_none() {
+            self.stopped(entry.console);
         }
         if let (Some(packet), Call::Receive(receive)) = (&unicast, &entry.call) {
             self.sent_back(entry.console, receive, packet);
@@ -159,6 +195,11 @@ impl Link<'_> {
         let holds = claims.due[3..].iter().flatten().count();
         self.counts.truncated += holds.saturating_sub(running.holds) as u64;
         running.holds = holds;
+        if let Call::Update { clock, change, .. } = &entry.call {
+            running.updated = Some(*clock);
+            self.counts.updates += 1;
+            self.judge.update(entry.time, running.number, change);
+        }
         self.running[entry.console] = Some(running);
         self.premises
             .accepted(running.number, entry.call.clock(), claims.due);
@@ -189,6 +230,8 @@ impl Link<'_> {
             last: *clock,
             states: claims.states,
             holds: 0,
+            updated: None,
+            stopped: false,
         });
     }
 
@@ -201,10 +244,13 @@ impl Link<'_> {
         }
     }
 
-    fn sent(&mut self, number: usize, packet: &Packet) {
+    /// A goodbye is owed to all as any packet, but begins no holding.
+    fn sent(&mut self, number: usize, packet: &Packet, is_goodbye: bool) {
         self.counts.sent += 1;
         self.premises.sent(number, packet);
-        self.written(number, packet);
+        if !is_goodbye {
+            self.written(number, packet);
+        }
     }
 
     /// By unicast, to where the message came from: of a reply to a plain resolver "demand 3 asks no delivery".

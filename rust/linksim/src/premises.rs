@@ -95,7 +95,7 @@ impl Premises {
         }));
     }
 
-    /// "A power cut ends a dock: from then on it [...] need take no step or packet".
+    /// "A power cut ends a dock: from then on it [...] need take no step or packet"; and "a dock cut off or stopped no longer runs".
     pub fn cut(&mut self, responder: usize) {
         self.responders[responder] = None;
         self.owed.retain(|owed| owed.to != responder);

@@ -4,6 +4,7 @@ use std::rc::Rc;
 
 use reference::message::HEADER;
 use reference::responder::holds::{LEAST_HOLD_DRAW, MOST_HOLD_DRAW};
+use reference::responder::Change;
 use reference::{MDNS_PORT, MOST_TIME};
 
 use crate::entry::{Call, Packet, Receive};
@@ -32,6 +33,33 @@ pub fn tick(random: &mut Random, clock: u64, last: u64) -> Call {
     match random.up_to(1) {
         0 => tick(wrong_clock(random, last), LEAST_OUT),
         _ => tick(clock, small(random)),
+    }
+}
+
+pub fn stop(random: &mut Random, clock: u64, last: u64) -> Call {
+    match random.up_to(1) {
+        0 => Call::Stop {
+            clock: wrong_clock(random, last),
+            out: LEAST_OUT,
+        },
+        _ => Call::Stop {
+            clock,
+            out: small(random),
+        },
+    }
+}
+
+/// Whatever state the claim is in.
+pub fn update(random: &mut Random, clock: u64, last: u64) -> Call {
+    let update = |clock, change, out| Call::Update { clock, change, out };
+    let port = Change::Port(4000);
+    match random.up_to(2) {
+        0 => update(wrong_clock(random, last), port, LEAST_OUT),
+        1 => update(clock, port, small(random)),
+        _ => {
+            let txt = random.pick(&[vec![], vec![0; 401], vec![2, 0]]);
+            update(clock, Change::Txt(txt), LEAST_OUT)
+        }
     }
 }
 
@@ -99,6 +127,7 @@ fn small(random: &mut Random) -> usize {
 #[cfg(test)]
 mod tests {
     use super::*;
+    use crate::entry::Before;
     use reference::compose;
     use reference::setup::ClaimName;
 
@@ -109,10 +138,16 @@ mod tests {
             let setup = setups::draw(&mut random);
             let probe = Packet::from(compose::probe(&setup, ClaimName::Host));
             for last in [0, 1, 500] {
-                assert!(start(&mut random, 500).refusal(last).is_some());
-                assert!(tick(&mut random, 500, last).refusal(last).is_some());
+                let before = Before {
+                    last,
+                    ..Before::default()
+                };
+                assert!(start(&mut random, 500).refusal(before).is_some());
+                assert!(tick(&mut random, 500, last).refusal(before).is_some());
+                assert!(stop(&mut random, 500, last).refusal(before).is_some());
+                assert!(update(&mut random, 500, last).refusal(before).is_some());
                 let receive = receive(&mut random, 500, last, probe.clone());
-                assert!(receive.refusal(last).is_some());
+                assert!(receive.refusal(before).is_some());
             }
         }
     }

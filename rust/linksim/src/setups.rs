@@ -1,5 +1,6 @@
 //! Set-ups from a small pool, so that names collide, in other case too, with the same data or with different ones.
 
+use reference::responder::Change;
 use reference::setup::Setup;
 
 use crate::random::Random;
@@ -26,6 +27,15 @@ pub fn draw(random: &mut Random) -> Setup {
             [169, 254, 200, 50],
         ]),
         aaaa: random.pick(&[None, None, Some([0xfe; 16]), Some([0x7f; 16])]),
+    }
+}
+
+/// New data for an update, of the same pool.
+pub fn change(random: &mut Random) -> Change {
+    let other = draw(random);
+    match random.chance(50) {
+        true => Change::Port(other.port),
+        false => Change::Txt(other.txt),
     }
 }
 

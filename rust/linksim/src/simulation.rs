@@ -5,12 +5,13 @@ use std::io;
 use std::rc::Rc;
 
 use reference::responder::holds::{Address, LEAST_HOLD_DRAW, MOST_HOLD_DRAW};
+use reference::responder::Change;
 use reference::setup::Setup;
 use reference::{MDNS_PORT, MOST_TIME};
 
 use crate::console::Dues;
 use crate::entry::{Call, Entry, Packet, Receive};
-use crate::entry::{LEAST_OUT, LEAST_REPLY_DRAW, MOST_REPLY_DRAW, MOST_START_DRAW};
+use crate::entry::{LEAST_OUT, LEAST_REPLY_DRAW, MOST_REPLY_DRAW, MOST_START_DRAW, UPDATE_GAP};
 use crate::hostile;
 use crate::link::{Link, Outcome};
 use crate::premises::Limits;
@@ -50,6 +51,13 @@ enum Event {
     },
     Cut {
         console: usize,
+    },
+    Stop {
+        to: Target,
+    },
+    Update {
+        to: Target,
+        change: Change,
     },
     /// A due step is taken, unless it is not due any more.
     Step {
@@ -184,6 +192,8 @@ impl<'a> Simulation<'a> {
                 self.stale(to.console, from, packet)
             }
             Event::Step { to, .. }
+            | Event::Stop { to }
+            | Event::Update { to, .. }
             | Event::Hostile { to }
             | Event::Astray { to, .. }
             | Event::EarlyTick { to }
@@ -193,6 +203,9 @@ impl<'a> Simulation<'a> {
                 Ok(())
             }
             Event::Step { to, step, due } => self.step(to, step, due),
+            Event::Stop { to } => self.stop(to),
+            Event::Update { to, change } => self.update(to, change),
+            Event::Delivery { to, .. } if self.is_deaf(to) => Ok(()),
             Event::Delivery { to, from, packet } => self.receive(to, from, packet),
             Event::Hostile { to } => self.hostile(to),
             Event::Astray { to, packet } => self.astray(to, packet),
@@ -219,9 +232,11 @@ impl<'a> Simulation<'a> {
             let call = refused::start(&mut self.random, self.now);
             self.play_call(console, call)?;
         }
-        // after a cut often the set-up of before
-        let setup = match &self.seats[console].setup {
-            Some(setup) if self.random.chance(60) => setup.clone(),
+        // after a cut often the set-up of before; or that of another
+        let other = self.random.place(self.seats.len());
+        let setup = match (&self.seats[console].setup, &self.seats[other].setup) {
+            (_, Some(twin)) if self.random.chance(self.style.twins) => twin.clone(),
+            (Some(setup), _) if self.random.chance(60) => setup.clone(),
             _ => Rc::new(setups::draw(&mut self.random)),
         };
         let clock = match self.random.up_to(3) {
@@ -256,14 +271,70 @@ impl<'a> Simulation<'a> {
             let wait = self.random.up_to(wait);
             self.at(wait, Event::Cut { console });
         }
+        match self.target(console) {
+            Some(to) if self.random.chance(self.style.stops) => {
+                let wait = self.random.pick(&[0, 250, 1000, 1200, 3000]);
+                let wait = self.random.up_to(wait);
+                self.at(wait, Event::Stop { to });
+            }
+            _ => (),
+        }
         Ok(())
+    }
+
+    fn stop(&mut self, to: Target) -> io::Result<()> {
+        let clock = self.clock(to.console);
+        let out = self.out();
+        let outcome = self.play_call(to.console, Call::Stop { clock, out })?;
+        self.follow(to.console, outcome, None);
+        let console = to.console;
+        if self.random.chance(80) {
+            let wait = self.random.pick(&[0, 1, 100, 1000, 3000]);
+            let wait = self.random.up_to(wait);
+            self.at(wait, Event::Start { console });
+        }
+        Ok(())
+    }
+
+    /// The set-up is changed where the update is taken; another one may come when it may, or a millisecond too soon.
+    fn update(&mut self, to: Target, change: Change) -> io::Result<()> {
+        let clock = self.clock(to.console);
+        let out = self.out();
+        let call = Call::Update {
+            clock,
+            change: change.clone(),
+            out,
+        };
+        let outcome = self.play_call(to.console, call)?;
+        let taken = outcome.as_ref().is_some_and(|outcome| outcome.accepted);
+        if let (true, Some(setup)) = (taken, &mut self.seats[to.console].setup) {
+            let setup = Rc::make_mut(setup);
+            match change {
+                Change::Port(port) => setup.port = port,
+                Change::Txt(txt) => setup.txt = txt,
+            }
+        }
+        self.follow(to.console, outcome, None);
+        if self.random.chance(50) {
+            let change = setups::change(&mut self.random);
+            let wait = UPDATE_GAP - self.random.up_to(1);
+            self.at(wait, Event::Update { to, change });
+        }
+        Ok(())
+    }
+
+    /// One that has stopped need take no packet.
+    fn is_deaf(&mut self, to: Target) -> bool {
+        !self.link.runs(to.console) && self.random.chance(self.style.deaf)
     }
 
     /// No other running responder's; that of one that was cut, perhaps, whose answers may still be under way.
     fn free_address(&mut self, console: usize) -> Address {
         let mut free: Vec<Address> = (0..=self.seats.len()).map(address_of).collect();
         for other in self.others(console) {
-            free.retain(|address| *address != self.seats[other.console].address);
+            if self.link.runs(other.console) {
+                free.retain(|address| *address != self.seats[other.console].address);
+            }
         }
         let own = address_of(console);
         match free.contains(&own) && !self.random.chance(self.style.moves) {
@@ -388,7 +459,7 @@ impl<'a> Simulation<'a> {
         self.receive_from(to, source, packet)
     }
 
-    /// The responder that a console runs.
+    /// The responder that a console has, stopped or not.
     fn target(&self, console: usize) -> Option<Target> {
         let number = self.link.number(console)?;
         Some(Target { console, number })
@@ -429,7 +500,7 @@ impl<'a> Simulation<'a> {
         }
         // a truncated query that comes from the same address, before its probe or behind it
         let is_query = packet[2] & 0x80 == 0;
-        if is_query && self.random.chance(self.style.hostility) {
+        if is_query && self.random.chance(self.style.truncations) {
             self.plan_truncated(from);
         }
         // a responder's packet from a port that is not its own
@@ -534,7 +605,13 @@ impl<'a> Simulation<'a> {
             .flatten()
             .map(|due| due.saturating_sub(clock))
             .collect();
+        let change = match self.random.chance(30) {
+            // the data of another
+            true => self.data_of_another(),
+            false => setups::change(&mut self.random),
+        };
         let extras = [
+            (self.style.updates, Event::Update { to, change }),
             (self.style.extras, Event::EarlyTick { to }),
             (self.style.extras, Event::Refused { to, packet: None }),
             (self.style.hostility, Event::Hostile { to }),
@@ -552,6 +629,16 @@ impl<'a> Simulation<'a> {
         }
     }
 
+    /// What a seat has, as new data for another.
+    fn data_of_another(&mut self) -> Change {
+        let seat = self.random.place(self.seats.len());
+        match &self.seats[seat].setup {
+            Some(setup) if self.random.chance(50) => Change::Port(setup.port),
+            Some(setup) => Change::Txt(setup.txt.clone()),
+            None => setups::change(&mut self.random),
+        }
+    }
+
     /// A call that the table of refusals has a number for.
     fn refused(&mut self, to: Target, packet: Option<Packet>) -> io::Result<()> {
         let clock = self.clock(to.console);
@@ -560,6 +647,8 @@ impl<'a> Simulation<'a> {
         let call = match packet {
             Some(packet) => refused::receive(random, clock, last, packet),
             None if random.chance(20) => refused::start(random, clock),
+            None if random.chance(20) => refused::stop(random, clock, last),
+            None if random.chance(40) => refused::update(random, clock, last),
             None => refused::tick(random, clock, last),
         };
         self.play_call(to.console, call).map(|_| ())

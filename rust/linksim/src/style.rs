@@ -9,8 +9,17 @@ pub struct Style {
     pub extras: u64,
     /// In percent: how often a call brings a hostile packet soon after.
     pub hostility: u64,
+    /// In percent: how many probes have a truncated query beside them, from the same address, which the prober did not send.
+    pub truncations: u64,
     /// In percent: how many responders are cut.
     pub cuts: u64,
+    /// In percent: how many responders are stopped, and how often one has new data.
+    pub stops: u64,
+    pub updates: u64,
+    /// In percent: how often a start takes the set-up of another, as it is then.
+    pub twins: u64,
+    /// In percent: how often a responder that has stopped takes no packet.
+    pub deaf: u64,
     /// In percent: how often a start takes any address that is free, and not its console's.
     pub moves: u64,
 }
@@ -30,7 +39,12 @@ impl Style {
             lateness: Spread::draw(random),
             extras: random.pick(&[0, 5, 20]),
             hostility: random.pick(&[0, 0, 0, 3, 10, 20]),
+            truncations: random.pick(&[0, 0, 0, 100]),
             cuts: random.pick(&[0, 0, 20, 60]),
+            stops: random.pick(&[0, 0, 20, 60]),
+            updates: random.pick(&[0, 2, 5, 15]),
+            twins: random.pick(&[0, 0, 50]),
+            deaf: random.pick(&[0, 50, 100]),
             moves: random.pick(&[0, 50, 100]),
         }
     }

@@ -1,6 +1,7 @@
 //! A list as a person reads it: an entry a line, with the milliseconds since the first, the responder, its call and the answer.
 
 use reference::console::hex;
+use reference::responder::Change;
 use reference::setup::Setup;
 use reference::MDNS_PORT;
 
@@ -52,6 +53,11 @@ fn call_words(call: &Call) -> String {
             }
         }
         Call::Tick { .. } => "ticks".to_string(),
+        Call::Stop { .. } => "stops".to_string(),
+        Call::Update { change, .. } => match change {
+            Change::Port(port) => format!("has port {port} now"),
+            Change::Txt(txt) => format!("has TXT {} now", hex(txt)),
+        },
         Call::Cut => "is cut".to_string(),
     }
 }

@@ -1,5 +1,5 @@
-//! "Writing a packet": responses, unicast answers, replies to plain resolvers and
-//! probes, with their names compressed.
+//! "Writing a packet": responses, goodbyes, unicast answers, replies to plain
+//! resolvers and probes, with their names compressed.
 
 use crate::message::{Question, HEADER};
 use crate::name::Name;
@@ -12,6 +12,7 @@ const PROBE_FLAGS: u16 = 0;
 const NO_ID: u16 = 0;
 /// The TTL of a reply to a plain resolver.
 const PLAIN_TTL: u32 = 10;
+const GOODBYE_TTL: u32 = 0;
 const POINTER: u16 = 0xC000;
 
 struct Packet {
@@ -122,13 +123,25 @@ pub fn response(records: &[&OwnRecord]) -> Vec<u8> {
 pub fn response_with_id(id: u16, records: &[&OwnRecord]) -> Vec<u8> {
     let mut packet = Packet::new(id, RESPONSE_FLAGS, [0, records.len(), 0, 0]);
     for record in records {
-        let flush = match record.kind {
-            Kind::Ptr => 0,
-            _ => class::TOP_BIT,
-        };
-        packet.record(record, class::IN | flush, record.kind.ttl());
+        packet.record(record, class_in_response(record), record.kind.ttl());
     }
     packet.bytes
+}
+
+/// The records of a response "with TTL 0".
+pub fn goodbye(records: &[&OwnRecord]) -> Vec<u8> {
+    let mut packet = Packet::new(NO_ID, RESPONSE_FLAGS, [0, records.len(), 0, 0]);
+    for record in records {
+        packet.record(record, class_in_response(record), GOODBYE_TTL);
+    }
+    packet.bytes
+}
+
+fn class_in_response(record: &OwnRecord) -> u16 {
+    match record.kind {
+        Kind::Ptr => class::IN,
+        _ => class::IN | class::TOP_BIT,
+    }
 }
 
 /// "its ID and question bytes repeated, TTL 10, the records' top class bit clear,

@@ -7,7 +7,7 @@ use crate::message::{Message, Section};
 use crate::name::Labels;
 use crate::refusal::Refusal;
 use crate::responder::holds::Address;
-use crate::responder::{Arrival, Claim, Outs, Responder, LEAST_OUT};
+use crate::responder::{Arrival, Change, Claim, Outs, Responder, LEAST_OUT};
 use crate::setup::Setup;
 use crate::txt::{self, Answer, Source};
 
@@ -144,6 +144,7 @@ fn state_word(claim: Claim) -> &'static str {
     }
 }
 
+/// A time, or `-` for none.
 fn due_word(due: Option<u64>) -> String {
     due.map_or("-".to_string(), |due| due.to_string())
 }
@@ -196,6 +197,8 @@ impl Console {
             b"start" => self.start(fields),
             b"recv" => self.recv(fields),
             b"tick" => self.tick(fields),
+            b"stop" => self.stop(fields),
+            b"update" => self.update(fields),
             b"claims" => self.claims(fields),
             b"holds" => self.holds(fields),
             b"out" => part("out", &self.out, fields),
@@ -283,17 +286,49 @@ impl Console {
         })
     }
 
+    fn stop(&mut self, mut fields: Fields) -> Result<String, Trouble> {
+        let now = fields.number()?;
+        let lent = at_most(fields.optional_number(LEAST_OUT as u64)?, OUT_BUFFER)?;
+        fields.end()?;
+        let sent = self.responder.stop(now, &mut self.out[..lent])?;
+        Ok(self.sent_or_quiet(sent))
+    }
+
+    fn update(&mut self, mut fields: Fields) -> Result<String, Trouble> {
+        let now = fields.number()?;
+        let change = match fields.word()? {
+            b"port" => {
+                let port = u16::try_from(fields.number()?).map_err(|_| Trouble::BadLine)?;
+                Change::Port(port)
+            }
+            b"txt" => Change::Txt(fields.bytes()?),
+            _ => return Err(Trouble::BadLine),
+        };
+        let lent = at_most(fields.optional_number(LEAST_OUT as u64)?, OUT_BUFFER)?;
+        fields.end()?;
+        let sent = self.responder.update(now, change, &mut self.out[..lent])?;
+        Ok(self.sent_or_quiet(sent))
+    }
+
+    fn sent_or_quiet(&self, sent: Option<usize>) -> String {
+        match sent {
+            Some(length) => format!("sent {}", hex(&self.out[..length])),
+            None => "quiet".to_string(),
+        }
+    }
+
     fn claims(&self, fields: Fields) -> Result<String, Trouble> {
         fields.end()?;
         let responder = &self.responder;
         Ok(format!(
-            "{} instance {} {} host {} {} reply {}",
+            "{} instance {} {} host {} {} reply {} updated {}",
             responder.last,
             state_word(responder.instance),
             due_word(responder.instance.due()),
             state_word(responder.host),
             due_word(responder.host.due()),
             due_word(responder.reply),
+            due_word(responder.updated),
         ))
     }
 

@@ -12,6 +12,8 @@ pub enum Refusal {
     Setup = 7,
     Table = 8,
     Key = 9,
+    Lost = 10,
+    TooSoon = 11,
 }
 
 impl Refusal {

@@ -1,5 +1,6 @@
 //! "A claim's life" and "Which answers go out": start, packet received, tick.
 
+mod changes;
 pub mod holds;
 mod plain;
 #[cfg(test)]
@@ -7,6 +8,8 @@ mod tests;
 mod unicast;
 
 use std::cmp::Ordering;
+
+pub use changes::Change;
 
 use holds::{Address, Hold, LEAST_HOLD_DRAW, MOST_HOLD_DRAW};
 
@@ -70,6 +73,8 @@ pub struct Responder {
     pub multicast: [Option<u64>; KINDS],
     /// Held queries, in order of arrival.
     pub holds: Vec<Hold>,
+    /// "the time of last update, or none"
+    pub updated: Option<u64>,
 }
 
 /// A packet received, with its source and the two draws.
@@ -147,6 +152,7 @@ impl Default for Responder {
             reply: None,
             multicast: [None; KINDS],
             holds: Vec::new(),
+            updated: None,
         }
     }
 }
@@ -273,6 +279,7 @@ impl Responder {
         let kept_too_late = self
             .dues()
             .chain(multicasts)
+            .chain(self.updated)
             .chain([self.last])
             .any(|time| time > MOST_KEPT_TIME);
         if now > MOST_TIME || now < self.last || kept_too_late {

@@ -42,6 +42,11 @@ impl Tally {
         if call == "look" && answer.starts_with("slot") && line.split(' ').nth(3) == Some("47") {
             kinds.push("look slot of NSEC".to_string());
         }
+        if call == "update" && matches!(line.split(' ').nth(2), Some("port" | "txt")) {
+            let what = line.split(' ').nth(2).unwrap_or_default();
+            let answer = answer.split(' ').next().unwrap_or_default();
+            kinds.push(format!("update {what} {answer}"));
+        }
         if matches!(call, "recv" | "put") {
             kinds.extend(other_port(call, &line, answer));
         }
@@ -194,17 +199,22 @@ fn kinds(call: &str, answer: &str, entries: &str) -> Vec<String> {
         ("recv", ["unicast", packet]) => unicast_kinds(packet),
         ("holds", ["holds", "-"]) => vec!["holds none".to_string()],
         ("holds", ["holds", shown @ ..]) => vec![format!("holds of {}", shown.len() / 2)],
-        ("claims", [_, "instance", state, due, "host", host_state, host_due, "reply", reply]) => {
+        (
+            "claims",
+            [_, "instance", state, due, "host", host_state, host_due, "reply", reply, "updated", updated],
+        ) => {
             let step = |state: &str, due: &str| match (state, due) {
                 ("held", "-") => String::new(),
                 ("held", _) => " with second step".to_string(),
                 _ => String::new(),
             };
             let set = if *reply == "-" { "none" } else { "set" };
+            let ever = if *updated == "-" { "never" } else { "once" };
             vec![
                 format!("claims instance {state}{}", step(state, due)),
                 format!("claims host {host_state}{}", step(host_state, host_due)),
                 format!("claims reply {set}"),
+                format!("claims updated {ever}"),
             ]
         }
         ("put", ["cached", turned, passed]) => {

@@ -7,12 +7,13 @@
 use std::fmt;
 use std::io;
 use std::net::{IpAddr, Ipv4Addr, SocketAddrV4, UdpSocket};
+use std::os::fd::{AsFd, BorrowedFd};
 use std::time::Duration;
 
 mod datagram;
 mod error;
 mod interface;
-mod ready;
+pub mod ready;
 mod system;
 
 pub use datagram::Header;
@@ -110,9 +111,18 @@ impl Link {
 
     /// The next packet that may be taken, or nothing after a wait of so many milliseconds, at least 1, or where the packet was dropped.
     pub fn receive(&mut self, wait: u64) -> Result<Option<Packet<'_>>, LinkError> {
+        self.receive_unless(wait, None)
+    }
+
+    /// The same, or nothing as soon as there is something to read from another descriptor.
+    pub fn receive_unless(
+        &mut self,
+        wait: u64,
+        other: Option<BorrowedFd>,
+    ) -> Result<Option<Packet<'_>>, LinkError> {
         let failed = LinkError::at(Step::Receive);
         let wait = Duration::from_millis(wait.clamp(1, LONGEST_WAIT));
-        let received = self.next_datagram(wait).map_err(&failed)?;
+        let received = self.next_datagram(wait, other).map_err(&failed)?;
         let Some((length, header)) = received else {
             return Ok(None);
         };
@@ -125,16 +135,23 @@ impl Link {
     }
 
     /// The next datagram of either socket, in the buffer.
-    fn next_datagram(&mut self, wait: Duration) -> io::Result<Option<(usize, Header)>> {
+    fn next_datagram(
+        &mut self,
+        wait: Duration,
+        other: Option<BorrowedFd>,
+    ) -> io::Result<Option<(usize, Header)>> {
         let mut sockets: Vec<&UdpSocket> = self.unicast.iter().chain([&self.group]).collect();
         if !self.unicast_next {
             sockets.reverse();
         }
-        let Some(first) = pause_is_none(ready::first(&sockets, wait))?.flatten() else {
+        let descriptors = sockets.iter().map(|socket| socket.as_fd());
+        let descriptors: Vec<_> = descriptors.chain(other).collect();
+        let first = pause_is_none(ready::first(&descriptors, wait))?.flatten();
+        let Some(socket) = first.and_then(|first| sockets.get(first)) else {
             return Ok(None);
         };
-        self.unicast_next = std::ptr::eq(sockets[first], &self.group);
-        pause_is_none(datagram::receive(sockets[first], &mut self.buffer))
+        self.unicast_next = std::ptr::eq(*socket, &self.group);
+        pause_is_none(datagram::receive(socket, &mut self.buffer))
     }
 
     pub fn dropped(&self) -> Dropped {

@@ -23,6 +23,8 @@ fn meaning(refusal: Refusal) -> &'static str {
         }
         Refusal::Cache => "the cache table or its byte store has a wrong size",
         Refusal::Key => "a TXT key that is empty or has a byte that keys can't have",
+        Refusal::Lost => "the instance's name is lost, so its data can't be changed",
+        Refusal::TooSoon => "the last change is less than six seconds ago",
     }
 }
 

@@ -1,5 +1,6 @@
 //! The example responder.
 
+mod control;
 mod options;
 mod report;
 mod run;

@@ -11,23 +11,23 @@ use Rattle.capi_responder.specs.codec.Layout as layout
 use Rattle.capi_responder.specs.codec.Parts.{partAt, labelAt, serviceAt, stringsAt, setupAt}
 
 module _ (p q : List ℕ) where
-  part-front : (at n : ℕ) → at + n ≤ length p → partAt (p ++ q) at n ≡ partAt p at n
+  pub part-front : (at n : ℕ) → at + n ≤ length p → partAt (p ++ q) at n ≡ partAt p at n
   part-front at n h =
       let k : at ≤ length p = omega arith in
       let m : n ≤ length (drop at p) = rw (length-drop at p) (omega arith) in
       ap (take n) (drop-append-le at p q k) ∙ take-append-le n (drop at p) q m
 
-  byte-front : (at : ℕ) → at < length p → byteAt (p ++ q) at ≡ byteAt p at
+  pub byte-front : (at : ℕ) → at < length p → byteAt (p ++ q) at ≡ byteAt p at
   byte-front at h = List·getD-append p q 0 at h
 
-  word16-front : (at : ℕ) → at + 1 < length p → word16 (p ++ q) at ≡ word16 p at
+  pub word16-front : (at : ℕ) → at + 1 < length p → word16 (p ++ q) at ≡ word16 p at
   word16-front at h = omega (arith, byte-front at (omega arith), byte-front (at + 1) h)
 
-  label-front : (at : ℕ) → at + layout.labelSize ≤ length p → labelAt (p ++ q) at ≡ labelAt p at
+  pub label-front : (at : ℕ) → at + layout.labelSize ≤ length p → labelAt (p ++ q) at ≡ labelAt p at
   unfolding labelAt
   label-front at h = λ i. record { bytes = part-front at layout.mostLabel (omega arith) i; len = byte-front (at + layout.mostLabel) (omega arith) i }
 
-  service-front : (at : ℕ) → at + layout.serviceSize ≤ length p → serviceAt (p ++ q) at ≡ serviceAt p at
+  pub service-front : (at : ℕ) → at + layout.serviceSize ≤ length p → serviceAt (p ++ q) at ≡ serviceAt p at
   unfolding serviceAt
   service-front at h = λ i. record { bytes = part-front at layout.mostService (omega arith) i; len = byte-front (at + layout.mostService) (omega arith) i }
 

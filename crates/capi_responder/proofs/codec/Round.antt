@@ -38,7 +38,7 @@ module _ {b : List ℕ} {at : ℕ} where
     len = byte-read (l .len) [] (behind (l .bytes) _ s _ e) i;
   }
 
-  strings-read : (t : Strings) → length (t .bytes) ≡ layout.mostTxt → Stands b at (stringsBytes t) → stringsAt b at ≡ t
+  pub strings-read : (t : Strings) → length (t .bytes) ≡ layout.mostTxt → Stands b at (stringsBytes t) → stringsAt b at ≡ t
   unfolding stringsAt
   strings-read t e s = λ i. record {
     bytes = part-read (t .bytes) _ e (front _ _ s) i;
@@ -94,7 +94,8 @@ module _ {b : List ℕ} where
       let host = behind (claimBytes (progress .instance)) _ instance layout.caseSize refl in
       let sent = behind (claimBytes (progress .host)) _ host layout.caseSize refl in
       let reply = behind (multicastsBytes (progress .sent)) _ sent layout.multicastsSize refl in
-      let holds = behind (whenBytes (progress .reply)) _ reply layout.caseSize refl in
+      let updated = behind (whenBytes (progress .reply)) _ reply layout.caseSize refl in
+      let holds = behind (whenBytes (progress .updated)) _ updated layout.caseSize refl in
       let draw = behind (holdsBytes (progress .holds)) _ holds layout.holdsSize refl in
       let last = behind (bytes64 (progress .draw)) _ draw layout.numberSize refl in
       λ i. record {
@@ -103,6 +104,7 @@ module _ {b : List ℕ} where
         sent = multicasts-read (progress .sent) (h .sent) (front _ _ sent) i;
         reply = when-read (progress .reply) (h .reply) (front _ _ reply) i;
         holds = holds-read (progress .holds) (h .holds) (front _ _ holds) i;
+        updated = when-read (progress .updated) (h .updated) (front _ _ updated) i;
         draw = number-read (progress .draw) (h .draw) (front _ _ draw) i;
         last = number-read (progress .last) (h .last) last i;
       }

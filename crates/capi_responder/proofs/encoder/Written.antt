@@ -117,19 +117,21 @@ module _ (holds : Holds) {l₀ l₁ l₂ l₃ l₄ : List ℕ} where
     record { first = first .1; second = second .1; third = third .1; fourth = fourth .1 },
   )
 
-module _ (progress : Progress) {l₀ l₁ l₂ l₃ l₄ l₅ l₆ l₇ : List ℕ} where
+module _ (progress : Progress) {l₀ l₁ l₂ l₃ l₄ l₅ l₆ l₇ l₈ : List ℕ} where
   pub progress-laid : PutClaim l₀ layout.instanceClaim (progress .instance) l₁ → PutClaim l₁ layout.hostClaim (progress .host) l₂
       → Laid l₂ layout.multicasts (multicastsBytes (progress .sent)) l₃ × MulticastsFit (progress .sent) → PutWhen l₃ layout.reply (progress .reply) l₄
-      → Laid l₄ layout.holds (holdsBytes (progress .holds)) l₅ × HoldsFit (progress .holds)
-      → PutNumber l₅ layout.draw (progress .draw) l₆ → PutNumber l₆ layout.last (progress .last) l₇
-      → Laid l₀ layout.setupSize (progressBytes progress) l₇ × ProgressFits progress
+      → PutWhen l₄ layout.updated (progress .updated) l₅
+      → Laid l₅ layout.holds (holdsBytes (progress .holds)) l₆ × HoldsFit (progress .holds)
+      → PutNumber l₆ layout.draw (progress .draw) l₇ → PutNumber l₇ layout.last (progress .last) l₈
+      → Laid l₀ layout.setupSize (progressBytes progress) l₈ × ProgressFits progress
   unfolding progressBytes multicastsBytes lastBytes holdsBytes holdBytes setBytes bytes64
-  progress-laid instance host sent reply holds draw last = (
+  progress-laid instance host sent reply updated holds draw last = (
     laid-next (claimBytes (progress .instance)) _ refl (instance .0)
         (laid-next (claimBytes (progress .host)) _ refl (host .0)
         (laid-next (multicastsBytes (progress .sent)) _ refl (sent .0)
         (laid-next (whenBytes (progress .reply)) _ refl (reply .0)
+        (laid-next (whenBytes (progress .updated)) _ refl (updated .0)
         (laid-next (holdsBytes (progress .holds)) _ refl (holds .0)
-        (laid-next (bytes64 (progress .draw)) _ refl (draw .0) (last .0)))))),
-    record { instance = instance .1; host = host .1; sent = sent .1; reply = reply .1; holds = holds .1; draw = draw .1; last = last .1 },
+        (laid-next (bytes64 (progress .draw)) _ refl (draw .0) (last .0))))))),
+    record { instance = instance .1; host = host .1; sent = sent .1; reply = reply .1; holds = holds .1; updated = updated .1; draw = draw .1; last = last .1 },
   )

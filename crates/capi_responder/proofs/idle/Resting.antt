@@ -75,13 +75,13 @@ module _ (b : List ℕ) (bytes : Bytes b) (long : length b ≡ layout.stateSize)
         host-nsec = when-kept b bytes 651 (omega arith) (h₆ .0);
       }
 
-  module _ (instance : ClaimAtRest b 579 time) (host : ClaimAtRest b 588 time) (w : EachKept b) (reply : WhenAtRest b 660) (held : Unheld b) where
+  module _ (instance : ClaimAtRest b 579 time) (host : ClaimAtRest b 588 time) (w : EachKept b) (reply : WhenAtRest b 660) (updated : WhenAtRest b 669) (held : Unheld b) where
     -- the parts, one behind the other
     stands : drop layout.setupSize b ≡ progressBytes (progressAt b)
     unfolding progressAt progressBytes multicastsBytes lastBytes multicastsAt sentAt bytes64
     stands =
-        let done : length b ≤ 841 = omega arith in
-        let ended : drop 841 b ≡ [] = drop-of-length-le b done in
+        let done : length b ≤ 850 = omega arith in
+        let ended : drop 850 b ≡ [] = drop-of-length-le b done in
         instance .same
         ∙ ap (λ (l : List ℕ). claimBytes (claimAt b 579) ++ l) (host .same
         ∙ ap (λ (l : List ℕ). claimBytes (claimAt b 588) ++ l) (w .ptr .same
@@ -92,10 +92,11 @@ module _ (b : List ℕ) (bytes : Bytes b) (long : length b ≡ layout.stateSize)
         ∙ ap (λ (l : List ℕ). whenBytes (whenAt b 633) ++ l) (w .instance-nsec .same
         ∙ ap (λ (l : List ℕ). whenBytes (whenAt b 642) ++ l) (w .host-nsec .same
         ∙ ap (λ (l : List ℕ). whenBytes (whenAt b 651) ++ l) (reply .same
-        ∙ ap (λ (l : List ℕ). whenBytes (whenAt b 660) ++ l) (held .same
-        ∙ ap (λ (l : List ℕ). holdsBytes (holdsAt b) ++ l) (number-stands b bytes 825 (omega arith)
-        ∙ ap (λ (l : List ℕ). bytes64 (word64 b 825) ++ l) (number-stands b bytes 833 (omega arith)
-        ∙ ap (λ (l : List ℕ). bytes64 (word64 b 833) ++ l) ended))))))))))))
+        ∙ ap (λ (l : List ℕ). whenBytes (whenAt b 660) ++ l) (updated .same
+        ∙ ap (λ (l : List ℕ). whenBytes (whenAt b 669) ++ l) (held .same
+        ∙ ap (λ (l : List ℕ). holdsBytes (holdsAt b) ++ l) (number-stands b bytes 834 (omega arith)
+        ∙ ap (λ (l : List ℕ). bytes64 (word64 b 834) ++ l) (number-stands b bytes 842 (omega arith)
+        ∙ ap (λ (l : List ℕ). bytes64 (word64 b 842) ++ l) ended)))))))))))))
 
     sent-fits : (o : Own) → Fits64 (whenTime (sentOf o (multicastsAt b)))
     unfolding multicastsAt sentAt
@@ -117,12 +118,12 @@ module _ (b : List ℕ) (bytes : Bytes b) (long : length b ≡ layout.stateSize)
         also (w .ptr .kept) (also (w .srv .kept) (also (w .txt .kept) (also (w .a .kept) (also (w .aaaa .kept)
         (also (w .instance-nsec .kept) (also (w .host-nsec .kept) refl))))))
 
-    module _ (before : word64 b 833 ≤ time) (drawn : word64 b 825 ≤ 250) where
+    module _ (before : word64 b 842 ≤ time) (drawn : word64 b 834 ≤ 250) where
       all-kept : refusals.kept lastKept (progressAt b) ≡ true
       unfolding refusals.kept progressAt
       all-kept =
-          let k : word64 b 833 ≤ lastKept = omega arith in
-          also (instance .rests .kept) (also (host .rests .kept) (also sent-kept (also (reply .kept) (also (held .kept) (le-leb (word64 b 833) lastKept k)))))
+          let k : word64 b 842 ≤ lastKept = omega arith in
+          also (instance .rests .kept) (also (host .rests .kept) (also sent-kept (also (reply .kept) (also (held .kept) (also (updated .kept) (le-leb (word64 b 842) lastKept k))))))
 
       all-fits : ProgressFits (withLast time (progressAt b))
       unfolding progressAt
@@ -132,6 +133,7 @@ module _ (b : List ℕ) (bytes : Bytes b) (long : length b ≡ layout.stateSize)
         sent = sent-sized;
         reply = reply .fits;
         holds = held .fits;
+        updated = updated .fits;
         draw = omega (arith, drawn);
         last = omega (arith, early);
       }
@@ -146,21 +148,23 @@ module _ (b : List ℕ) (bytes : Bytes b) (long : length b ≡ layout.stateSize)
       let h₀ = both (claimRests b 579 time) _ .0 h in
       let h₁ = both (claimRests b 588 time) _ .0 (h₀ .1) in
       let h₂ = both (replyRests b 660 time) _ .0 (h₁ .1) in
-      let h₅ = both (noneHeld b) _ .0 (h₂ .1) in
-      let h₃ = both (leb (word64 b 825) 250) _ .0 (h₅ .1) in
-      let h₄ = both (leb (word64 b 833) time) _ .0 (h₃ .1) in
+      let h₆ = both (whenKept b 669) _ .0 (h₂ .1) in
+      let h₅ = both (noneHeld b) _ .0 (h₆ .1) in
+      let h₃ = both (leb (word64 b 834) 250) _ .0 (h₅ .1) in
+      let h₄ = both (leb (word64 b 842) time) _ .0 (h₃ .1) in
       let instance = claim-rests b bytes 579 (omega arith) time (h₀ .0) in
       let host = claim-rests b bytes 588 (omega arith) time (h₁ .0) in
       let reply = reply-rests b bytes 660 (omega arith) time (h₂ .0) in
+      let updated = when-kept b bytes 669 (omega arith) (h₆ .0) in
       let held = unheld b bytes long (h₅ .0) in
       let w = each-kept (h₄ .1) in
-      let drawn : word64 b 825 ≤ 250 = leb-true _ _ (h₃ .0) in
-      let before : word64 b 833 ≤ time = leb-true _ _ (h₄ .0) in
+      let drawn : word64 b 834 ≤ 250 = leb-true _ _ (h₃ .0) in
+      let before : word64 b 842 ≤ time = leb-true _ _ (h₄ .0) in
       record {
-        same = stands instance host w (reply .0) held;
-        kept = all-kept instance host w (reply .0) held before drawn;
+        same = stands instance host w (reply .0) updated held;
+        kept = all-kept instance host w (reply .0) updated held before drawn;
         before = before;
         drawn = drawn;
         quiet = none-due instance host reply held;
-        fits = all-fits instance host w (reply .0) held before drawn;
+        fits = all-fits instance host w (reply .0) updated held before drawn;
       }

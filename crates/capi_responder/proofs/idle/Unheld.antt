@@ -72,11 +72,11 @@ module _ (b : List ℕ) (bytes : Bytes b) where
   module _ (long : length b ≡ layout.stateSize) (h : noneHeld b ≡ true) where
     -- the first bytes of the draw
     abbrev behind : List ℕ
-    behind = 0 ∷ 0 ∷ 0 ∷ 0 ∷ drop 829 b
+    behind = 0 ∷ 0 ∷ 0 ∷ 0 ∷ drop 838 b
 
     all-zeros : drop layout.holds b ≡ holdsBytes noHolds ++ behind
     unfolding noneHeld eights holdsBytes holdBytes setBytes bytes64
-    all-zeros = zeros 669 20 (omega arith) h
+    all-zeros = zeros 678 20 (omega arith) h
 
     sized : length (holdsBytes noHolds) ≡ layout.holdsSize
     unfolding holdsBytes holdBytes setBytes bytes64

@@ -1,5 +1,5 @@
 use mathlib.Core.Path.{sym, _∙_}
-use Rattle.capi_responder.proofs.Calling.{of-tick, call-kept, call-taken}
+use Rattle.capi_responder.proofs.Calling.{of-tick, call-kept, tick-taken}
 use Rattle.capi_responder.proofs.Idling.{idle-call}
 use borrow.Author.Needs.{needs}
 use Rattle.capi_responder.proofs.kurgashel_tick.Statement.{statement}
@@ -73,8 +73,8 @@ returns-3 c =
     let tick = refusal .before .before .before in
     let read = tick .before .before in
     let a = read .before .before .before .before .before .before .before .args in
-    call-taken (a .state .now) (a .out .now) _ (read .read-state .ensures) (of-tick (tick .tick .ensures)) (refusal .refusal-of .ensures)
-    (c .answered3 .ensures) (if2 .if2 .left) (put .put-progress .ensures)
+    tick-taken (a .state .now) (a .out .now) _ (read .read-state .ensures) (refusal .refusal-of .ensures)
+    (c .answered3 .ensures) (of-tick (tick .tick .ensures)) (if2 .if2 .left) (put .put-progress .ensures)
 
 pub kurgashel-tick-spec : {M : Type 1} → statement M
 kurgashel-tick-spec =

@@ -110,9 +110,10 @@ progressBytes progress =
     ++ (claimBytes (progress .host)
     ++ (multicastsBytes (progress .sent)
     ++ (whenBytes (progress .reply)
+    ++ (whenBytes (progress .updated)
     ++ (holdsBytes (progress .holds)
     ++ (bytes64 (progress .draw)
-    ++ bytes64 (progress .last))))))
+    ++ bytes64 (progress .last)))))))
 
 -- Every number fits its eight bytes, as any number of 64 bits does; and the array has its length, as those of every program have.
 pub record MulticastsFit (sent : Multicasts) : Type 0 where
@@ -136,6 +137,7 @@ pub record ProgressFits (progress : Progress) : Type 0 where
   pub sent : MulticastsFit (progress .sent)
   pub reply : Fits64 (whenTime (progress .reply))
   pub holds : HoldsFit (progress .holds)
+  pub updated : Fits64 (whenTime (progress .updated))
   pub draw : Fits64 (progress .draw)
   pub last : Fits64 (progress .last)
 

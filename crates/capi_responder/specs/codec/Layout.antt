@@ -44,7 +44,7 @@ flagSize = 1
 abbrev pub aaaaSize : ℕ
 aaaaSize = 16
 
--- a number of 64 bits; and a case byte with its number: a claim, a last multicast, the reply
+-- a number of 64 bits; and a case byte with its number: a claim, a last multicast, the reply, the last update
 abbrev pub numberSize : ℕ
 numberSize = 8
 
@@ -115,8 +115,11 @@ multicasts = hostClaim + caseSize
 abbrev pub reply : ℕ
 reply = multicasts + multicastsSize
 
+abbrev pub updated : ℕ
+updated = reply + caseSize
+
 abbrev pub holds : ℕ
-holds = reply + caseSize
+holds = updated + caseSize
 
 abbrev pub draw : ℕ
 draw = holds + holdsSize
@@ -149,5 +152,5 @@ abbrev pub hold : ℕ → ℕ
 hold i = holds + i * holdSize
 
 -- the sizes that c/include/kurgashel.h tells its callers
-pub header : (setupSize ≡ 579) × (stateSize ≡ 841)
+pub header : (setupSize ≡ 579) × (stateSize ≡ 850)
 header = (refl, refl)

@@ -58,7 +58,7 @@ setupAt b = record {
   aaaa = partAt b layout.aaaa layout.aaaaSize;
 }
 
--- ---- what changes: a case byte and a number for each claim, each last multicast and the reply; the held queries; then the start draw and the time of the
+-- ---- what changes: a case byte and a number for each claim, each last multicast, the reply and the last update; the held queries; then the start draw and the time of the
 -- last call
 
 -- a claim by its case, where one beyond the last reads as lost
@@ -114,6 +114,7 @@ progressAt b = record {
   sent = multicastsAt b;
   reply = whenAt b layout.reply;
   holds = holdsAt b;
+  updated = whenAt b layout.updated;
   draw = word64 b layout.draw;
   last = word64 b layout.last;
 }

@@ -33,7 +33,7 @@ replyRest flag due time = cond (eqb flag 0) (eqb due 0) (eqb flag 1 && toCome du
 unfoldable pub replyRests : List ℕ → ℕ → ℕ → Bool
 replyRests b at time = replyRest (byteAt b at) (word64 b (at + 1)) time
 
--- a last multicast by its flag and its number
+-- a last multicast, or the last update, by its flag and its number
 abbrev pub lastKeeps : ℕ → ℕ → Bool
 lastKeeps flag last = cond (eqb flag 0) (eqb last 0) (eqb flag 1 && leb last lastKept)
 
@@ -59,10 +59,11 @@ nothingDue b time =
     claimRests b layout.instanceClaim time
     && (claimRests b layout.hostClaim time
     && (replyRests b layout.reply time
+    && (whenKept b layout.updated
     && (noneHeld b
     && (leb (word64 b layout.draw) 250
     && (leb (word64 b layout.last) time
-    && multicastsKept b)))))
+    && multicastsKept b))))))
 
 unfoldable pub isIdle : List ℕ → ℕ → ℕ → Bool
 isIdle b time room =

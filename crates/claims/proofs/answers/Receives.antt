@@ -210,7 +210,7 @@ module _ (c : Coming) (f : Facts) (aaaa : Bool) where
     pub receive-kept : (progress : Progress) → progress .draw ≤ 250 → kept most progress ≡ true → kept most (after progress) ≡ true
     unfolding heldBack judgedOf
     receive-kept progress s q =
-        let p : AllKept _ _ _ _ _ _ = parts most progress q in
+        let p : AllKept _ _ _ _ _ _ _ = parts most progress q in
         held-or-judged progress c f aaaa (λ b r. kept most (r .progress) ≡ true)
         (λ e.
         whole most _
@@ -220,6 +220,7 @@ module _ (c : Coming) (f : Facts) (aaaa : Bool) where
           sent = p .sent;
           reply = p .reply;
           holds = queued-kept most (holdOf c f) (progress .holds) (soon (c .hold) (omega arith)) (p .holds);
+          updated = p .updated;
           last = now-kept;
         }))
         (λ e.
@@ -230,6 +231,7 @@ module _ (c : Coming) (f : Facts) (aaaa : Bool) where
           sent = all-marked-kept most (atOnce (wantedOf progress (multicastAsks progress f (c .now)) (c .now) aaaa)) (progress .sent) (c .now) (p .sent) now-kept;
           reply = reply-kept (has Ptr (wantedOf progress (multicastAsks progress f (c .now)) (c .now) aaaa)) (progress .reply) (p .reply);
           holds = joined-kept (progress .holds) (p .holds);
+          updated = p .updated;
           last = now-kept;
         }))
 
@@ -275,8 +277,8 @@ module _ (now : ℕ) (f : Facts) (aaaa : Bool) where
       → kept most (plainOf progress now f aaaa .progress) ≡ true
   unfolding plainOf
   plain-kept most h l progress q =
-      let p : AllKept _ _ _ _ _ _ = parts most progress q in
-      whole most _ (record { instance = p .instance; host = p .host; sent = p .sent; reply = p .reply; holds = p .holds; last = le-leb now most (omega arith) })
+      let p : AllKept _ _ _ _ _ _ _ = parts most progress q in
+      whole most _ (record { instance = p .instance; host = p .host; sent = p .sent; reply = p .reply; holds = p .holds; updated = p .updated; last = le-leb now most (omega arith) })
 
 -- a start holds no query
 pub begun-holds : (now draw : ℕ) → begunAt now draw .holds ≡ noHolds

@@ -21,7 +21,7 @@ use Rattle.claims.specs.declared.holds.Place.{Place}
 use Rattle.claims.specs.declared.holds.Place.the-variants.{First, Second, Third, Fourth}
 use Rattle.claims.specs.declared.Progress.{Progress}
 use Rattle.claims.specs.steps.Steps.{holdDue, takenAction, unsentOf}
-use Rattle.claims.specs.steps.Tick.{withClaim, withoutReply, withoutHold, sends, ptrReply, replyTurn, holdAnswers, holdTurn, claimTurn, endedOf, tickOf}
+use Rattle.claims.specs.steps.Tick.{withClaim, withoutReply, withoutHold, sends, ptrReply, replyTurn, holdAnswers, holdTurn, claimTurn, withLast, endedOf, tickOf}
 use Rattle.claims.specs.declared.steps.Action.the-variants as action
 use Rattle.claims.specs.declared.steps.Output.{Output}
 use Rattle.claims.specs.declared.steps.Output.the-variants.{Nothing, Probe, Response}
@@ -171,7 +171,7 @@ module _ (place : Place) (aaaa : Bool) (now : ℕ) (start : Progress) where
   unfolding tickOf endedOf
   tick-hold = last (walk now Holding aaaa start (waits refl, record { sent = refl; instance = refl; host = refl }) turn reply hold .0)
     where
-      last : {l : Progress} {o : Output} → HoldMove l o → HoldMove (record { instance = l .instance; host = l .host; sent = l .sent; reply = l .reply; holds = l .holds; draw = l .draw; last = now }) o
+      last : {l : Progress} {o : Output} → HoldMove l o → HoldMove (withLast now l) o
       last (waits f) = waits f
       last (answered d f g) = answered d f g
       last (passes d f g) = passes d f g

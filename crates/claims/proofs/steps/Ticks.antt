@@ -250,18 +250,18 @@ module _ (now : ℕ) (aaaa : Bool) (most : ℕ) (h : now ≤ lastTime) (l : last
 
   with-claim-kept : (k : Claim) (c : ClaimState) (x : Progress) → kept most x ≡ true → claimKept most c ≡ true → kept most (withClaim k c x) ≡ true
   with-claim-kept Instance c x q e =
-      let p : AllKept _ _ _ _ _ _ = parts most x q in
-      whole most _ (record { instance = e; host = p .host; sent = p .sent; reply = p .reply; holds = p .holds; last = p .last })
+      let p : AllKept _ _ _ _ _ _ _ = parts most x q in
+      whole most _ (record { instance = e; host = p .host; sent = p .sent; reply = p .reply; holds = p .holds; updated = p .updated; last = p .last })
   with-claim-kept Host c x q e =
-      let p : AllKept _ _ _ _ _ _ = parts most x q in
-      whole most _ (record { instance = p .instance; host = e; sent = p .sent; reply = p .reply; holds = p .holds; last = p .last })
+      let p : AllKept _ _ _ _ _ _ _ = parts most x q in
+      whole most _ (record { instance = p .instance; host = e; sent = p .sent; reply = p .reply; holds = p .holds; updated = p .updated; last = p .last })
 
   now-kept : leb now most ≡ true
   now-kept = le-leb now most (omega arith)
 
   kept-sends : (set : Set) (x : Progress) → Keeps (quiet x) → Keeps (sends set now x)
   kept-sends set x q =
-      let p : AllKept _ _ _ _ _ _ = parts most x q in
+      let p : AllKept _ _ _ _ _ _ _ = parts most x q in
       sends-by now Keeps set x q
       (whole most _
       (record {
@@ -270,6 +270,7 @@ module _ (now : ℕ) (aaaa : Bool) (most : ℕ) (h : now ≤ lastTime) (l : last
         sent = all-marked-kept most set (x .sent) now (p .sent) now-kept;
         reply = p .reply;
         holds = p .holds;
+        updated = p .updated;
         last = p .last;
       }))
 
@@ -284,15 +285,15 @@ module _ (now : ℕ) (aaaa : Bool) (most : ℕ) (h : now ≤ lastTime) (l : last
 
   kept-reply : (x : Progress) → Keeps (quiet x) → Keeps (replyTurn now x)
   kept-reply x q =
-      let p : AllKept _ _ _ _ _ _ = parts most x q in
+      let p : AllKept _ _ _ _ _ _ _ = parts most x q in
       reply-by now Keeps x q
       (λ d.
       kept-sends (ptrReply now x) (withoutReply x)
-      (whole most _ (record { instance = p .instance; host = p .host; sent = p .sent; reply = refl; holds = p .holds; last = p .last })))
+      (whole most _ (record { instance = p .instance; host = p .host; sent = p .sent; reply = refl; holds = p .holds; updated = p .updated; last = p .last })))
 
   kept-hold : (place : Place) (x : Progress) → Keeps (quiet x) → Keeps (holdTurn place aaaa now x)
   kept-hold place x q =
-      let p : AllKept _ _ _ _ _ _ = parts most x q in
+      let p : AllKept _ _ _ _ _ _ _ = parts most x q in
       hold-by now Keeps place aaaa x q
       (λ d.
       kept-sends (holdAnswers place aaaa now x) (withoutHold place x)
@@ -303,6 +304,7 @@ module _ (now : ℕ) (aaaa : Bool) (most : ℕ) (h : now ≤ lastTime) (l : last
         sent = p .sent;
         reply = p .reply;
         holds = without-kept most place (x .holds) (p .holds);
+        updated = p .updated;
         last = p .last;
       })))
 
@@ -310,8 +312,8 @@ module _ (now : ℕ) (aaaa : Bool) (most : ℕ) (h : now ≤ lastTime) (l : last
   pub tick-kept : (progress : Progress) → kept most progress ≡ true → kept most (tickOf progress now aaaa .progress) ≡ true
   unfolding tickOf endedOf
   tick-kept progress q =
-      let p : AllKept _ _ _ _ _ _ = parts most _ (walk now Keeps aaaa progress q kept-turn kept-reply kept-hold) in
-      whole most _ (record { instance = p .instance; host = p .host; sent = p .sent; reply = p .reply; holds = p .holds; last = now-kept })
+      let p : AllKept _ _ _ _ _ _ _ = parts most _ (walk now Keeps aaaa progress q kept-turn kept-reply kept-hold) in
+      whole most _ (record { instance = p .instance; host = p .host; sent = p .sent; reply = p .reply; holds = p .holds; updated = p .updated; last = now-kept })
 
 -- ---- the PTR reply at its step
 

@@ -120,6 +120,7 @@ judgedOf progress c f aaaa =
             sent = markedAll (atOnce (wantedOf progress (multicastAsks progress f (c .now)) (c .now) aaaa)) (progress .sent) (c .now);
             reply = setReply (has Ptr (wantedOf progress (multicastAsks progress f (c .now)) (c .now) aaaa)) (progress .reply) (afterMs (c .now) (c .draw));
             holds = joined (progress .holds) c f;
+            updated = progress .updated;
             draw = progress .draw;
             last = c .now;
           };
@@ -142,6 +143,7 @@ plainOf progress now f aaaa = record {
     sent = progress .sent;
     reply = progress .reply;
     holds = progress .holds;
+    updated = progress .updated;
     draw = progress .draw;
     last = now;
   };

@@ -34,6 +34,7 @@ heldBack progress c f = record {
     sent = progress .sent;
     reply = progress .reply;
     holds = queued (holdOf c f) (progress .holds);
+    updated = progress .updated;
     draw = progress .draw;
     last = c .now;
   };

@@ -30,21 +30,66 @@ use Rattle.claims.specs.declared.steps.Ticked.{Ticked}
 -- the progress with one field changed
 abbrev pub withClaim : Claim → ClaimState → Progress → Progress
 withClaim Instance c progress =
-    record { instance = c; host = progress .host; sent = progress .sent; reply = progress .reply; holds = progress .holds; draw = progress .draw; last = progress .last }
+    record {
+      instance = c;
+      host = progress .host;
+      sent = progress .sent;
+      reply = progress .reply;
+      holds = progress .holds;
+      updated = progress .updated;
+      draw = progress .draw;
+      last = progress .last;
+    }
 withClaim Host c progress =
-    record { instance = progress .instance; host = c; sent = progress .sent; reply = progress .reply; holds = progress .holds; draw = progress .draw; last = progress .last }
+    record {
+      instance = progress .instance;
+      host = c;
+      sent = progress .sent;
+      reply = progress .reply;
+      holds = progress .holds;
+      updated = progress .updated;
+      draw = progress .draw;
+      last = progress .last;
+    }
 
 abbrev pub withSent : Multicasts → Progress → Progress
 withSent sent progress =
-    record { instance = progress .instance; host = progress .host; sent = sent; reply = progress .reply; holds = progress .holds; draw = progress .draw; last = progress .last }
+    record {
+      instance = progress .instance;
+      host = progress .host;
+      sent = sent;
+      reply = progress .reply;
+      holds = progress .holds;
+      updated = progress .updated;
+      draw = progress .draw;
+      last = progress .last;
+    }
 
 abbrev pub withoutReply : Progress → Progress
 withoutReply progress =
-    record { instance = progress .instance; host = progress .host; sent = progress .sent; reply = Never; holds = progress .holds; draw = progress .draw; last = progress .last }
+    record {
+      instance = progress .instance;
+      host = progress .host;
+      sent = progress .sent;
+      reply = Never;
+      holds = progress .holds;
+      updated = progress .updated;
+      draw = progress .draw;
+      last = progress .last;
+    }
 
 abbrev pub withLast : ℕ → Progress → Progress
 withLast now progress =
-    record { instance = progress .instance; host = progress .host; sent = progress .sent; reply = progress .reply; holds = progress .holds; draw = progress .draw; last = now }
+    record {
+      instance = progress .instance;
+      host = progress .host;
+      sent = progress .sent;
+      reply = progress .reply;
+      holds = progress .holds;
+      updated = progress .updated;
+      draw = progress .draw;
+      last = now;
+    }
 
 -- A set of records goes out in one response, and each is then multicast at `now`; an empty set sends nothing.
 unfoldable pub sends : Set → ℕ → Progress → Turn
@@ -81,6 +126,7 @@ withoutHold place progress =
       sent = progress .sent;
       reply = progress .reply;
       holds = withHold place noHold (progress .holds);
+      updated = progress .updated;
       draw = progress .draw;
       last = progress .last;
     }

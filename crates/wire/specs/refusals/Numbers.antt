@@ -1,5 +1,5 @@
--- Refusals (specification, 'Refusal numbers'): "Each call tests those that apply to it in the order 1, 2, 3, 8, 4, 5, 6, 7, 9" and answers the first. A call's
--- refusals are the list of its tests in that order, each with its number. Assumes nothing: these are definitions.
+-- Refusals (specification, 'Refusal numbers'): "Each call tests those that apply to it in the order 1, 2, 3, 8, 4, 5, 6, 7, 9" and answers the first; 10 is
+-- "tested after 9", 11 "after 10". A call's refusals are the list of its tests in that order, each with its number. Assumes nothing: these are definitions.
 use Prim.Native.Nat.{ℕ}
 use mathlib.Core.List.{List, [], _∷_}
 use mathlib.Core.Bool.{Bool, cond}
@@ -30,6 +30,12 @@ TABLE = 8
 
 abbrev pub KEY : ℕ
 KEY = 9
+
+abbrev pub LOST : ℕ
+LOST = 10
+
+abbrev pub TOO-SOON : ℕ
+TOO-SOON = 11
 
 -- the number of the first test that holds, 0 where none does
 abbrev pub firstRefusal : List (ℕ × Bool) → ℕ

@@ -30,10 +30,10 @@ use Rattle.writer.specs.declared.own_packets.Style.{Style}
 use Rattle.writer.specs.declared.own_packets.Written.{Written}
 use Rattle.writer.specs.declared.own_packets.Written.the-variants.{Sent, Nothing, Refused}
 use Rattle.writer.specs.own_packets.Packets.{headerBytes, header, putAll, packetOf}
-use Rattle.writer.specs.own_packets.Styles.{responseStyle, probeStyle, ownRecord, asked, styledMessage, packetIn}
-use Rattle.writer.specs.own_packets.Own.{refusalOf, lengthOf, responseRecords, probeRecords, noneIfEmpty, responsePacket, probePacket}
+use Rattle.writer.specs.own_packets.Styles.{probeStyle, ownRecord, asked, styledMessage, packetIn}
+use Rattle.writer.specs.own_packets.Own.{refusalOf, lengthOf, responseRecords, probeRecords, noneIfEmpty, probePacket}
 use Rattle.writer.specs.own_packets.Own.{refusal, unlessRefused, sentOf, writtenOf, laidOver}
-use Rattle.writer.specs.own_packets.Ready.{spotAfter, each, ListReady, listed, Picks, askedSize, askedLabels, AskReady, mostPlaces, PacketReady}
+use Rattle.writer.specs.own_packets.Ready.{spotAfter, TtlSmall, each, ListReady, listed, Picks, askedSize, askedLabels, AskReady, mostPlaces, PacketReady}
 use Rattle.writer.proofs.own_packets.Owned.{own-front, placed-grown, own-shaped}
 use Rattle.writer.proofs.own_packets.Room.{response-size, response-labels, probe-size, probe-labels, claim-size, claim-labels}
 
@@ -324,39 +324,42 @@ module _ (s : Setup) (o : List ℕ) where
       ok : Valid s
       ok = valid s (sym is ∙ t)
 
-      module _ (id : ℕ) (chosen : Set) (list : Picked) (p : Picks (responseRecords s chosen) list) where
-        pub empty-nothing : list .n ≡ 0 → Answered (refusal s o) (responsePacket s id chosen) o Nothing o
-        unfolding responsePacket
+      -- own records in a style that asks nothing
+      module _ (st : Style) (silent : st .asks ≡ false) (ttls : TtlSmall (st .ttl)) (chosen : Set) (list : Picked) (p : Picks (responseRecords s chosen) list) where
+        abbrev those : List ℕ
+        those = noneIfEmpty (responseRecords s chosen) (packetIn s st [] (responseRecords s chosen))
+
+        unasked : st .asks ≡ true → isName [] ≡ true
+        unasked f = let e : _≡_ {A = Bool} false true = sym silent ∙ f in let z : _≡_ {A = ℕ} 0 1 = cc in absurd (omega arith)
+
+        no-question : askedSize st [] ≡ 0
+        no-question = ap (λ (b : Bool). cond b (length {A = ℕ} [] + 4) 0) silent
+
+        no-labels : askedLabels st [] ≡ 0
+        no-labels = ap (λ (b : Bool). cond b (labelsIn []) 0) silent
+
+        pub empty-nothing : list .n ≡ 0 → Answered (refusal s o) those o Nothing o
         empty-nothing z =
             let e : responseRecords s chosen ≡ [] = sym (p .those) ∙ ap (λ (k : ℕ). map recordAt (take k (list .order))) z in
-            nothing (refusal s o) (responsePacket s id chosen) o accepted
-            (ap (λ (l : List Own). noneIfEmpty l (packetIn s (responseStyle id) [] (responseRecords s chosen))) e)
+            nothing (refusal s o) those o accepted (ap (λ (l : List Own). noneIfEmpty l (packetIn s st [] (responseRecords s chosen))) e)
 
-        pub response-ready : (style : Style) → style ≡ responseStyle id → PacketReady s style [] (listed list) o
+        pub response-ready : (style : Style) → style ≡ st → PacketReady s style [] (listed list) o
         response-ready style e = rw (e, p .those) (record {
           ok = sym is ∙ t;
-          named = λ f. let z : _≡_ {A = ℕ} 0 1 = cc in absurd (omega arith);
-          counts = each;
-          room = omega (arith, response-size s ok chosen);
-          small = omega (arith, response-size s ok chosen);
-          slots = omega (arith, response-labels s ok chosen);
+          named = unasked;
+          counts = ttls;
+          room = omega (arith, no-question, response-size s ok chosen);
+          small = omega (arith, no-question, response-size s ok chosen);
+          slots = omega (arith, no-labels, response-labels s ok chosen);
         })
 
-        pub response-sent : (list .n ≡ 0 → ⊥) → (style : Style) → style ≡ responseStyle id → (n : ℕ) (o₁ : List ℕ)
-            → n ≡ length (packetIn s style [] (listed list)) → o₁ ≡ laidOver (packetIn s style [] (listed list)) o
-            → Answered (refusal s o) (responsePacket s id chosen) o (Sent n) o₁
-        unfolding responsePacket
+        pub response-sent : (list .n ≡ 0 → ⊥) → (style : Style) → style ≡ st → (n : ℕ) (o₁ : List ℕ) → n ≡ length (packetIn s style [] (listed list))
+            → o₁ ≡ laidOver (packetIn s style [] (listed list)) o → Answered (refusal s o) those o (Sent n) o₁
         response-sent nz style e n o₁ en w =
-            sent (refusal s o) (responsePacket s id chosen) o n o₁ accepted
-            (omega (
-              arith,
-              ap length packet,
-              packet-some s ok (responseStyle id) [] (responseRecords s chosen)
-                  (λ f. let z : _≡_ {A = ℕ} 0 1 = cc in absurd (omega arith)),
-            ))
+            sent (refusal s o) those o n o₁ accepted (omega (arith, ap length packet, packet-some s ok st [] (responseRecords s chosen) unasked))
             (en ∙ ap length (as-listed ∙ sym packet)) (w ∙ ap (λ (l : List ℕ). laidOver l o) (as-listed ∙ sym packet))
           where
-            as-listed : packetIn s style [] (listed list) ≡ packetIn s (responseStyle id) [] (responseRecords s chosen)
+            as-listed : packetIn s style [] (listed list) ≡ packetIn s st [] (responseRecords s chosen)
             as-listed = ap₂ (λ (x : Style) (l : List Own). packetIn s x [] l) e (p .those)
 
             some : (l : List Own) → (length l ≡ 0 → ⊥) → (b : List ℕ) → noneIfEmpty l b ≡ b
@@ -368,7 +371,7 @@ module _ (s : Setup) (o : List ℕ) where
                 ap length (sym (p .those)) ∙ length-map (take (list .n) (list .order)) recordAt
                 ∙ length-take-le (list .n) (list .order) (omega (arith, p .few, p .sized))
 
-            packet : responsePacket s id chosen ≡ packetIn s (responseStyle id) [] (responseRecords s chosen)
+            packet : those ≡ packetIn s st [] (responseRecords s chosen)
             packet = some (responseRecords s chosen) (λ z. nz (sym many ∙ z)) _
 
       module _ (claim : Claim) (list : Picked) (p : Picks (probeRecords s claim) list) (k : Own) (ek : k ≡ firstOf claim) (n : OwnBytes)

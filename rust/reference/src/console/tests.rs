@@ -14,13 +14,13 @@ fn the_example_dialogue() {
     let mut console = Console::default();
     assert_eq!(
         ask(&mut console, "claims"),
-        "0 instance lost - host lost - reply -"
+        "0 instance lost - host lost - reply - updated -"
     );
     assert_eq!(ask(&mut console, "tick 0"), "refused 7");
     assert_eq!(ask(&mut console, START), "started");
     assert_eq!(
         ask(&mut console, "claims"),
-        "0 instance waiting 0 host waiting 0 reply -"
+        "0 instance waiting 0 host waiting 0 reply - updated -"
     );
     let first = ask(&mut console, "tick 0");
     assert!(first.starts_with("sent 000000000001000000020000"));
@@ -32,7 +32,7 @@ fn the_example_dialogue() {
     assert_eq!(ask(&mut console, "tick 0"), "quiet");
     assert_eq!(
         ask(&mut console, "claims"),
-        "0 instance probing 250 host probing 250 reply -"
+        "0 instance probing 250 host probing 250 reply - updated -"
     );
     assert_eq!(ask(&mut console, "out 12 6"), "out 04646f636b05");
 }
@@ -93,6 +93,40 @@ fn answers_by_unicast_and_both_ways() {
     }
     assert_eq!(ask(&mut console, "out 0 6"), "out 000084000000");
     assert_eq!(ask(&mut console, "unicast 0 6"), "unicast 123484000000");
+}
+
+#[test]
+fn stops_and_updates() {
+    let mut console = Console::default();
+    for (line, answer) in [
+        ("stop 0", "refused 7"),
+        ("update 0 port 80", "refused 7"),
+        ("stop 4611686018427387905 0", "refused 1"),
+        ("stop 0 1451", "refused 3"),
+        (START, "started"),
+        ("update 10 port 80", "quiet"),
+        (
+            "claims",
+            "10 instance waiting 10 host waiting 0 reply - updated 10",
+        ),
+        ("update 6009 txt 00", "refused 11"),
+        ("update 6010 txt -", "refused 7"),
+        ("update 6010 txt 0161 1451", "refused 3"),
+        ("update 6010 txt 0161 4096", "quiet"),
+        (
+            "claims",
+            "6010 instance waiting 6010 host waiting 0 reply - updated 6010",
+        ),
+        ("stop 6010", "quiet"),
+        (
+            "claims",
+            "6010 instance lost - host lost - reply - updated 6010",
+        ),
+        ("update 6010 port 1", "refused 10"),
+        ("stop 6011", "quiet"),
+    ] {
+        assert_eq!(ask(&mut console, line), answer, "{line}");
+    }
 }
 
 #[test]
@@ -171,6 +205,24 @@ fn bad_lines() {
         "recv 0 0a000001 5353 20 x -",
         "holds 0",
         "holds ",
+        "stop",
+        "stop ",
+        "stop -",
+        "stop 0 4097",
+        "stop 0 1452 0",
+        "update",
+        "update 0",
+        "update 0 port",
+        "update 0 port 65536",
+        "update 0 port 00 -",
+        "update 0 port 80 4097",
+        "update 0 port 80 1452 0",
+        "update 0 txt",
+        "update 0 txt 0",
+        "update 0 txt 00 4097",
+        "update 0 Port 80",
+        "update 0 a 0a000007",
+        "update port 80",
         "recv 0 0a000001 5353 20 400 - 1452 4097",
         "recv 0 0a000001 5353 20 400 - 1452 -",
         "recv 0 0a000001 5353 20 400 - 1452 1452 0",
@@ -326,6 +378,6 @@ fn start_refusals() {
     assert_eq!(ask(&mut console, &long), "refused 7");
     assert_eq!(
         ask(&mut console, "claims"),
-        "0 instance lost - host lost - reply -"
+        "0 instance lost - host lost - reply - updated -"
     );
 }

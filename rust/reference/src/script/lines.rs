@@ -174,6 +174,22 @@ impl Script {
                         b"unicast 0 0 0",
                         b"Unicast 0 0",
                         b"unicasts 0 0",
+                        b"stop",
+                        b"stop ",
+                        b"stop 0 4097",
+                        b"stop 0 1452 0",
+                        b"Stop 0",
+                        b"update",
+                        b"update 0",
+                        b"update 0 port",
+                        b"update 0 port 65536",
+                        b"update 0 port 18446744073709551615",
+                        b"update 0 port 80 4097",
+                        b"update 0 txt",
+                        b"update 0 txt 0",
+                        b"update 0 txt 00 1452 0",
+                        b"update 0 a 0a000007",
+                        b"update 0 TXT 00",
                         b"holds 0",
                         b"hold",
                         b"put 0 5353",
@@ -212,7 +228,10 @@ impl Script {
             .map(|entry| entry.received);
         let received = received.max().unwrap_or(0);
         let entries = self.model.cache.entries().len();
-        let line = match self.random.below(10) {
+        let line = match self.random.below(13) {
+            10 => format!("stop {last}"),
+            11 => format!("update {last} port 80 1452"),
+            12 => format!("update {last} txt 0161"),
             0 => format!("tick {last}"),
             1 => format!("tick {last} 1452"),
             2 => format!("recv {last} 0a000001 5353 20 400 000000000000000000000000"),

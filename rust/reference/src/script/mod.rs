@@ -1,6 +1,7 @@
 //! Long hostile console scripts from a seed. The writer of a script runs each
 //! line on a console of its own, and aims the next lines at the state it sees.
 
+mod changes;
 mod holds;
 mod lines;
 mod packet;
@@ -182,6 +183,23 @@ mod tests {
             "recv wanted unicast with PTR",
             "recv wanted unicast with NSEC",
             "recv sent and unicast",
+            "stop quiet",
+            "stop refused 1",
+            "stop refused 3",
+            "stop sent response of 1",
+            "stop sent response of 3",
+            "stop sent response of 4",
+            "stop sent response of 5",
+            "update port sent",
+            "update port quiet",
+            "update txt sent",
+            "update txt quiet",
+            "update refused 1",
+            "update refused 3",
+            "update refused 7",
+            "update refused 10",
+            "update refused 11",
+            "claims updated once",
             "unicast unicast",
             "recv quiet from another port",
             "recv refused 5 from another port",

@@ -106,6 +106,11 @@ impl Script {
             "recv 0 0a000001 5353 19 400 000000000001000000000000",
             "recv 0 0a000001 5353 20 399 000000000001000000000000",
             "holds",
+            "stop 0",
+            "stop 0 1451",
+            "update 0 port 80",
+            "update 0 txt 00",
+            "update 0 txt - 1451",
             "slot 0",
             "slot 63",
             "out 0 4096",
@@ -181,6 +186,10 @@ impl Script {
         }
         if self.random.chance(8) {
             self.recv_wanting_unicast();
+            return;
+        }
+        if self.random.chance(6) {
+            self.change();
             return;
         }
         match self.random.below(100) {

@@ -19,7 +19,7 @@ usage: browser --service TYPE [options]
   --verbose            also tell of each packet that the library refuses
   --help               this text
 
-An instance is shown when its host, port, TXT and an address are known, again when they change, and when it is gone.
+An instance is shown when its host, port, TXT and an address are known, again when they change, when it says goodbye, and a second later, when it is gone.
 Its first query asks for unicast answers, unless another program on this machine has port 5353.
 It ends with status 0 when stopped, 1 on an error, and 3 when it showed fewer than --count.
 ";

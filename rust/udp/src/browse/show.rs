@@ -16,7 +16,7 @@ impl Screen {
         self.shown.len()
     }
 
-    /// The lines for what is new, changed or gone.
+    /// The lines for what is new, changed, leaving or gone.
     pub fn changes(&mut self, instances: &[Instance], factory: &[u8]) -> Vec<String> {
         let mut lines = self.drop_gone(instances);
         for instance in instances.iter().filter(|instance| instance.is_complete()) {
@@ -24,8 +24,13 @@ impl Screen {
             match self.shown.iter_mut().find(same) {
                 Some(shown) if shown == instance => continue,
                 Some(shown) => {
+                    let left = instance.is_leaving && !shown.is_leaving;
                     *shown = instance.clone();
-                    lines.extend(block("changed", instance, factory));
+                    if left {
+                        lines.push(format!("leaving   {}", label(instance)));
+                    } else {
+                        lines.extend(block("changed", instance, factory));
+                    }
                 }
                 None => {
                     self.shown.push(instance.clone());
@@ -142,6 +147,7 @@ mod tests {
             txt: Some(b"\x06room=3\x07PassReq\x02e=\x06ROOM=4".to_vec()),
             addresses: vec![[10, 0, 0, 7].into()],
             no_ipv6: false,
+            is_leaving: false,
         }
     }
 
@@ -163,7 +169,10 @@ mod tests {
         assert!(screen.changes(&[instance()], b"").is_empty());
         let mut other = instance();
         other.addresses.push([10, 0, 0, 8].into());
-        assert_eq!(screen.changes(&[other], b"")[0], "changed   booth");
+        assert_eq!(screen.changes(&[other.clone()], b"")[0], "changed   booth");
+        other.is_leaving = true;
+        assert_eq!(screen.changes(&[other.clone()], b""), ["leaving   booth"]);
+        assert!(screen.changes(&[other], b"").is_empty());
         assert_eq!(screen.changes(&[], b""), ["gone      booth"]);
         assert_eq!(screen.count(), 0);
     }

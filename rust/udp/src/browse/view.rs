@@ -2,7 +2,7 @@
 
 use std::net::IpAddr;
 
-use kurgashel::{Cache, Data, Refusal};
+use kurgashel::{Cache, Data, Found, Refusal};
 
 use crate::rtype;
 
@@ -14,6 +14,8 @@ pub struct Instance {
     pub addresses: Vec<IpAddr>,
     /// The host says that it has no IPv6 address.
     pub no_ipv6: bool,
+    /// It said goodbye, or was not heard again for all the life of its PTR: unless it is heard within a second, it is gone.
+    pub is_leaving: bool,
 }
 
 /// Where an instance is served: its SRV.
@@ -29,27 +31,38 @@ impl Instance {
     }
 }
 
+/// A record that was said goodbye for, or that others took the place of, lives for a second more (RFC 6762 sections 10.1 and 10.2).
+const LAST_SECOND: u64 = 1000;
+
+/// Whether a record is in its last second.
+pub fn is_in_last_second(entry: &Found, now: u64) -> bool {
+    entry.expiry - now <= LAST_SECOND
+}
+
+/// Of records of which there is one at a time the one that was heard last: what it took the place of lives for a second more.
+pub fn latest<'a>(found: &[Found<'a>]) -> Option<Found<'a>> {
+    found.iter().copied().max_by_key(|entry| entry.received)
+}
+
 /// The instances that live PTR records point to, each name once with letters folded.
 pub fn instances(cache: &Cache, now: u64, service: &[u8]) -> Result<Vec<Instance>, Refusal> {
     let mut instances: Vec<Instance> = Vec::new();
     for pointer in cache.all(now, service, rtype::PTR)? {
         let known = |known: &Instance| known.name.eq_ignore_ascii_case(pointer.rdata);
         if !instances.iter().any(known) {
-            instances.push(instance(cache, now, pointer.rdata)?);
+            let is_leaving = is_in_last_second(&pointer, now);
+            instances.push(Instance {
+                is_leaving,
+                ..instance(cache, now, pointer.rdata)?
+            });
         }
     }
     Ok(instances)
 }
 
 fn instance(cache: &Cache, now: u64, name: &[u8]) -> Result<Instance, Refusal> {
-    let server = cache
-        .all(now, name, rtype::SRV)?
-        .first()
-        .and_then(|entry| server(entry.rdata));
-    let txt = cache
-        .all(now, name, rtype::TXT)?
-        .first()
-        .map(|entry| entry.rdata.to_vec());
+    let server = latest(&cache.all(now, name, rtype::SRV)?).and_then(|entry| server(entry.rdata));
+    let txt = latest(&cache.all(now, name, rtype::TXT)?).map(|entry| entry.rdata.to_vec());
     let addresses = match &server {
         Some(server) => addresses(cache, now, &server.host)?,
         None => Vec::new(),
@@ -64,6 +77,7 @@ fn instance(cache: &Cache, now: u64, name: &[u8]) -> Result<Instance, Refusal> {
         txt,
         addresses,
         no_ipv6,
+        is_leaving: false,
     })
 }
 
@@ -127,20 +141,50 @@ pub mod tests {
         [&[0, 0, 0, 0, 0x0f, 0xa0][..], &host_name()].concat()
     }
 
+    /// A record of class 1: owner, type, TTL and rdata.
+    pub type Told = (Vec<u8>, u16, u32, Vec<u8>);
+
     /// A cache that took a response with these records at time 0.
-    pub fn heard(records: &[(Vec<u8>, u16, u32, Vec<u8>)]) -> Cache {
+    pub fn heard(records: &[Told]) -> Cache {
+        let mut cache = Cache::default();
+        hear(&mut cache, 0, 0, records);
+        cache
+    }
+
+    /// Takes a response with these records, with the cache flush bit where `flush` is 0x80.
+    pub fn hear(cache: &mut Cache, now: u64, flush: u8, records: &[Told]) {
         let mut packet = vec![0, 0, 0x84, 0, 0, 0, 0, records.len() as u8, 0, 0, 0, 0];
         for (owner, rtype, ttl, rdata) in records {
             packet.extend(owner);
             packet.extend(rtype.to_be_bytes());
-            packet.extend([0, 1]);
+            packet.extend([flush, 1]);
             packet.extend(ttl.to_be_bytes());
             packet.extend((rdata.len() as u16).to_be_bytes());
             packet.extend(rdata);
         }
-        let mut cache = Cache::default();
-        cache.take(0, 5353, &packet).unwrap();
-        cache
+        cache.take(now, 5353, &packet).unwrap();
+    }
+
+    #[test]
+    fn changed_data_are_seen_at_once() {
+        let old = (instance_name(), rtype::TXT, 4500, b"\x06room=3".to_vec());
+        let mut cache = heard(&[(service_name(), rtype::PTR, 4500, instance_name()), old]);
+        let new = (instance_name(), rtype::TXT, 4500, b"\x06room=4".to_vec());
+        hear(&mut cache, 5000, 0x80, &[new]);
+        for now in [5000, 5999, 6000] {
+            let found = &instances(&cache, now, &service_name()).unwrap()[0];
+            assert_eq!(found.txt.as_deref(), Some(&b"\x06room=4"[..]), "{now}");
+        }
+    }
+
+    #[test]
+    fn a_goodbye_is_seen_at_once() {
+        let mut cache = heard(&[(service_name(), rtype::PTR, 4500, instance_name())]);
+        assert!(!instances(&cache, 4999, &service_name()).unwrap()[0].is_leaving);
+        let goodbye = (service_name(), rtype::PTR, 0, instance_name());
+        hear(&mut cache, 5000, 0, &[goodbye]);
+        assert!(instances(&cache, 5000, &service_name()).unwrap()[0].is_leaving);
+        assert!(instances(&cache, 6000, &service_name()).unwrap().is_empty());
     }
 
     #[test]

@@ -3,7 +3,7 @@
 
 use kurgashel::{Cache, Found, Refusal};
 
-use super::view::{is_denied, server};
+use super::view::{is_denied, is_in_last_second, latest, server};
 
 use crate::query::{KnownAnswer, Question};
 use crate::rtype;
@@ -54,7 +54,7 @@ fn need<'a>(
         if !is_denied(cache, now, name, rtype)? {
             wants.push(want(name, rtype, Reason::Missing));
         }
-    } else if found.iter().any(|entry| is_stale(entry, now)) {
+    } else if latest(&found).is_some_and(|entry| is_stale(&entry, now)) {
         wants.push(want(name, rtype, Reason::Refresh));
     }
     Ok(found)
@@ -66,9 +66,9 @@ fn want(name: &[u8], rtype: u16, reason: Reason) -> Want {
     Want { question, reason }
 }
 
-/// Four fifths of its life are over.
+/// Four fifths of its life are over, but not all but a second: that may be a goodbye, which is not to be asked about.
 fn is_stale(entry: &Found, now: u64) -> bool {
-    5 * (entry.expiry - now) <= entry.expiry - entry.received
+    5 * (entry.expiry - now) <= entry.expiry - entry.received && !is_in_last_second(entry, now)
 }
 
 /// The PTR records that need not be sent: those with more than half of their life left.
@@ -92,7 +92,9 @@ pub fn known_pointers(
 
 #[cfg(test)]
 mod tests {
-    use super::super::view::tests::{heard, host_name, instance_name, no_aaaa, service_name, srv};
+    use super::super::view::tests::{
+        hear, heard, host_name, instance_name, no_aaaa, service_name, srv,
+    };
     use super::*;
 
     fn types(cache: &Cache, now: u64, reason: Reason) -> Vec<u16> {
@@ -137,6 +139,17 @@ mod tests {
             (host_name(), rtype::NSEC, 120, no_aaaa()),
         ]);
         assert_eq!(types(&cache, 0, Reason::Missing), [rtype::A]);
+    }
+
+    #[test]
+    fn what_was_said_goodbye_for_or_replaced_is_not_asked_for() {
+        let pointer = |ttl| (service_name(), rtype::PTR, ttl, instance_name());
+        let txt = |ttl, data: &[u8]| (instance_name(), rtype::TXT, ttl, data.to_vec());
+        let mut cache = heard(&[pointer(4500), txt(4500, b"\x01a")]);
+        hear(&mut cache, 5000, 0x80, &[txt(4500, b"\x01b")]);
+        assert_eq!(types(&cache, 5000, Reason::Refresh), []);
+        hear(&mut cache, 9000, 0, &[pointer(0), txt(0, b"\x01b")]);
+        assert_eq!(types(&cache, 9000, Reason::Refresh), []);
     }
 
     #[test]

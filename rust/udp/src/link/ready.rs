@@ -1,8 +1,8 @@
-//! Waiting for several sockets at once: Linux's `poll`.
+//! Waiting for several descriptors at once: Linux's `poll`.
 
 use std::ffi::{c_int, c_ulong};
 use std::io;
-use std::os::fd::AsRawFd;
+use std::os::fd::{AsRawFd, BorrowedFd};
 use std::time::Duration;
 
 use super::system::check;
@@ -20,14 +20,14 @@ extern "C" {
     fn poll(polled: *mut Polled, count: c_ulong, wait: c_int) -> c_int;
 }
 
-/// The first of these from which there is something to read (or an error), if there is one before the wait is over.
-pub fn first(sockets: &[&impl AsRawFd], wait: Duration) -> io::Result<Option<usize>> {
-    let of = |socket: &&_| Polled {
-        descriptor: AsRawFd::as_raw_fd(*socket),
+/// The first of these from which there is something to read (or an end, or an error), if there is one before the wait is over.
+pub fn first(descriptors: &[BorrowedFd], wait: Duration) -> io::Result<Option<usize>> {
+    let of = |descriptor: &BorrowedFd| Polled {
+        descriptor: descriptor.as_raw_fd(),
         wanted: POLLIN,
         given: 0,
     };
-    let mut polled: Vec<Polled> = sockets.iter().map(of).collect();
+    let mut polled: Vec<Polled> = descriptors.iter().map(of).collect();
     // SAFETY: the list outlives the call, and its true length is given.
     check(unsafe {
         poll(

@@ -22,11 +22,15 @@ usage: responder --instance LABEL --service TYPE --host LABEL --port NUMBER [opt
   --interface ADDRESS  the interface to use, by its IPv4 address, which no other responder on this machine uses; else the one that multicasts leave by
   --draw NUMBER        wait this many milliseconds (0..250) before the first probe; else a random time
   --at MILLISECONDS    begin at this time of the wall clock (since 1970), so that several begin together
-  --seconds NUMBER     stop after this many seconds; else on Ctrl-C
+  --seconds NUMBER     stop after this many seconds; else on Ctrl-C or SIGTERM
+  --control            take lines from standard input: 'port NUMBER' changes the port, 'txt STRING ..' all TXT strings, such as
+                       txt room=4 \"note=third floor\"
   --verbose            also tell of each packet that the library refuses, and of unicast answers that can't be sent
   --help               this text
 
 It prints one line for each change of a claim: waiting, probing, deferred, held or lost. A lost name is lost for good: start again with another.
+When it stops, it says goodbye for the names that it holds, so that others forget them within a second.
+A changed port or TXT is announced at once where the name is held; else it is claimed anew with it. There may be one change every six seconds.
 Once a name is held, plain DNS clients are answered too, such as 'dig -p 5353 @ADDRESS dock.local A', if they are in a subnet of the interface.
 It hears what is sent to 224.0.0.251 and to ADDRESS, port 5353, also beside programs such as Avahi that are bound to all addresses.
 It ends with status 0 when stopped, 1 on an error, and 3 when both names are lost.
@@ -46,6 +50,7 @@ pub struct Options {
     pub draw: Option<u64>,
     pub at: Option<u64>,
     pub seconds: Option<u64>,
+    pub control: bool,
     pub verbose: bool,
 }
 
@@ -70,6 +75,7 @@ impl Options {
                 "--draw" => options.draw = Some(arguments.value(&option)?),
                 "--at" => options.at = Some(arguments.value(&option)?),
                 "--seconds" => options.seconds = Some(arguments.value(&option)?),
+                "--control" => options.control = true,
                 "--verbose" => options.verbose = true,
                 _ => return Err(unknown(&option)),
             }

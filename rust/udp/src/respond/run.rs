@@ -5,6 +5,7 @@ use std::io::{self, Write};
 
 use kurgashel::{Arrival, OutBuffers, Refusal, Responder, OUT_BYTES};
 
+use super::control::{Control, Order};
 use super::options::Options;
 use super::report::{all_lost, claims, Report};
 use crate::clock::{self, Clock};
@@ -12,7 +13,7 @@ use crate::command::End;
 use crate::draw::{self, Draws};
 use crate::link::{self, Header, Hears, Link, LinkError};
 use crate::refusal::{text, Tally};
-use crate::stop;
+use crate::{stop, strings};
 
 pub fn run(options: &Options) -> Result<End, Box<dyn Error>> {
     let interface = match options.interface {
@@ -47,6 +48,7 @@ pub fn run(options: &Options) -> Result<End, Box<dyn Error>> {
         draws,
         clock,
         responder,
+        control: Control::open(options.control)?,
         report: Report::new(options),
         refused: Tally::default(),
         verbose: options.verbose,
@@ -59,6 +61,7 @@ struct Session {
     draws: Draws,
     clock: Clock,
     responder: Responder,
+    control: Control,
     report: Report,
     refused: Tally,
     verbose: bool,
@@ -70,6 +73,7 @@ impl Session {
         self.tell(self.clock.now())?;
         while !stop::asked() && self.clock.now() < end {
             self.hear()?;
+            self.take_orders()?;
             self.take_due_steps()?;
             if all_lost(claims(&self.responder)) {
                 let advice = "both names are lost to others on this link: choose other names";
@@ -77,16 +81,18 @@ impl Session {
                 return Ok(End::Unmet);
             }
         }
+        self.say_goodbye()?;
         let (refused, dropped) = (&self.refused, self.link.dropped());
         write!(io::stdout(), "stopped\n{refused}{dropped}")?;
         Ok(End::Stopped)
     }
 
-    /// Waits for a packet, until a step is due, and has the library take it.
+    /// Waits for a packet, until a step is due or a line is there, and has the library take it.
     fn hear(&mut self) -> Result<(), Box<dyn Error>> {
         let due = self.responder.due().unwrap_or(u64::MAX);
         let wait = due.saturating_sub(self.clock.now());
-        let Some(packet) = self.link.receive(wait)? else {
+        let control = self.control.descriptor();
+        let Some(packet) = self.link.receive_unless(wait, control)? else {
             return Ok(());
         };
         let (now, header) = (self.clock.now(), packet.header);
@@ -159,6 +165,53 @@ impl Session {
                 return Ok(());
             }
         }
+    }
+
+    /// Takes the lines that are there on standard input.
+    fn take_orders(&mut self) -> Result<(), Box<dyn Error>> {
+        for line in self.control.lines()? {
+            match Order::read(&line) {
+                Ok(order) => self.update(&order)?,
+                Err(wrong) => writeln!(io::stdout(), "{wrong}")?,
+            }
+        }
+        Ok(())
+    }
+
+    /// Changes the data of a record, and announces it where the name is held.
+    fn update(&mut self, order: &Order) -> Result<(), Box<dyn Error>> {
+        let (now, mut out) = (self.clock.now(), [0; OUT_BYTES]);
+        let updated = match order {
+            Order::Port(port) => self.responder.update_port(now, *port, &mut out),
+            Order::Txt(strings) => match strings::encode(strings) {
+                Some(txt) => self.responder.update_txt(now, &txt, &mut out),
+                None => Err(Refusal::Setup),
+            },
+        };
+        match updated {
+            Ok(length) => {
+                self.send_to_all(&out[..length])?;
+                writeln!(io::stdout(), "{now:6} ms  updated   {order}")?;
+            }
+            Err(refusal) => {
+                let why = text(refusal);
+                writeln!(io::stdout(), "{now:6} ms  unchanged {order}: {why}")?;
+            }
+        }
+        self.tell(now)?;
+        Ok(())
+    }
+
+    /// Tells all that the names that are held are so no longer.
+    fn say_goodbye(&mut self) -> Result<(), Box<dyn Error>> {
+        let (now, mut out) = (self.clock.now(), [0; OUT_BYTES]);
+        let stopped = self.responder.stop(now, &mut out);
+        let length = stopped.map_err(|refusal| format!("a stop was refused: {}", text(refusal)))?;
+        self.send_to_all(&out[..length])?;
+        if length > 0 {
+            writeln!(io::stdout(), "{now:6} ms  goodbye")?;
+        }
+        Ok(())
     }
 
     fn tell(&mut self, now: u64) -> io::Result<()> {

@@ -18,6 +18,9 @@ when-at-requires c κs = search needs
 holds-at-requires : tie.Need-holds-at-requires
 holds-at-requires c κs = search needs
 
+when-at-requires-2 : tie.Need-when-at-requires-2
+when-at-requires-2 c κs = search needs
+
 be64-requires : tie.Need-be64-requires
 be64-requires c κs = search needs
 
@@ -37,6 +40,7 @@ progress-at-spec =
     multicasts-at-requires
     when-at-requires
     holds-at-requires
+    when-at-requires-2
     be64-requires
     be64-requires-2
     returns)

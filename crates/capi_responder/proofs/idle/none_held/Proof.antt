@@ -8,7 +8,7 @@ use Rattle.capi_responder.proofs.idle.none_held.Statement.{statement}
 use Rattle.capi_responder.proofs.idle.none_held.Tie as tie
 
 abbrev Inv-loop : tie.InvT-loop
-Inv-loop b at₀ left₀ at left = (at + left * 8 ≡ 829) × (noneHeld b ≡ zerosFrom b at left)
+Inv-loop b at₀ left₀ at left = (at + left * 8 ≡ 838) × (noneHeld b ≡ zerosFrom b at left)
 
 abbrev μ-loop : tie.MeasureT-loop
 μ-loop b at₀ left₀ at left = left

@@ -18,12 +18,15 @@ is-within-requires c κs = search needs
 holds-kept-requires : tie.Need-holds-kept-requires
 holds-kept-requires c κs = search needs
 
-all-six-requires : tie.Need-all-six-requires
-all-six-requires c κs = search needs
+is-within-requires-2 : tie.Need-is-within-requires-2
+is-within-requires-2 c κs = search needs
+
+all-seven-requires : tie.Need-all-seven-requires
+all-seven-requires c κs = search needs
 
 returns : tie.Need-returns
 unfolding kept
-returns c = simp (c .all-six .ensures, c .before .holds-kept .ensures, c .before .before .is-within .ensures, c .before .before .before .multicasts-kept .ensures, c .before .before .before .before .claim-kept2 .ensures, c .before .before .before .before .before .claim-kept .ensures)
+returns c = simp (c .all-seven .ensures, c .before .is-within2 .ensures, c .before .before .holds-kept .ensures, c .before .before .before .is-within .ensures, c .before .before .before .before .multicasts-kept .ensures, c .before .before .before .before .before .claim-kept2 .ensures, c .before .before .before .before .before .before .claim-kept .ensures)
 
 pub is-kept-spec : {M : Type 1} → statement M
 is-kept-spec =
@@ -34,5 +37,6 @@ is-kept-spec =
     multicasts-kept-requires
     is-within-requires
     holds-kept-requires
-    all-six-requires
+    is-within-requires-2
+    all-seven-requires
     returns)

@@ -1,4 +1,5 @@
-use Rattle.demand3.proofs.Seen.{tick-exported}
+use mathlib.Core.Path.{refl}
+use Rattle.demand3.proofs.Seen.{call-exported}
 use borrow.Author.Needs.{needs}
 use Rattle.demand3.proofs.exported.tick.Statement.{statement}
 use Rattle.demand3.proofs.exported.tick.Tie as tie
@@ -13,7 +14,7 @@ same-length-2 : tie.Need-same-length-2
 same-length-2 c = search needs
 
 returns : tie.Need-returns
-returns c = tick-exported _ _ _ _ _ _ (c .before .before .before .before .kurgashel-tick .ensures)
+returns c = call-exported _ _ _ _ _ _ refl (c .before .before .before .before .kurgashel-tick .ensures)
 
 pub tick-spec : {M : Type 1} → statement M
 tick-spec = tie.close (tie.spec kurgashel-tick-requires same-length same-length-2 returns)

@@ -1,4 +1,8 @@
+use mathlib.Core.Path.{refl}
 use borrow.Author.Tests.{not-true, not-false}
+use Rattle.writer.specs.own_packets.Styles.{responseStyle}
+use Rattle.writer.specs.own_packets.Own.{responsePacket}
+use Rattle.writer.specs.own_packets.Ready.{each}
 use Rattle.writer.proofs.own_packets.Answering.{refuse-3, refuse-7, empty-nothing, response-ready, response-sent}
 use borrow.Author.Needs.{needs}
 use Rattle.writer.proofs.own_packets.respond.Statement.{statement}
@@ -25,10 +29,11 @@ pick-requires : tie.Need-pick-requires
 pick-requires c κs = search needs
 
 returns-3 : tie.Need-returns-3
+unfolding responsePacket
 returns-3 c =
     let a = c .before .before .before .before .before .before .before .args in
     empty-nothing (a .s) (a .out .now) (c .before .before .before .before .before .if1 .left) _ (c .before .before .before .before .check-setup .ensures)
-    (not-false _ (c .before .before .before .if2 .left)) (a .id) _ _ (c .before .before .pick .ensures) (c .if3 .taken)
+    (not-false _ (c .before .before .before .if2 .left)) (responseStyle (a .id)) refl each _ _ (c .before .before .pick .ensures) (c .if3 .taken)
 
 response-style-requires : tie.Need-response-style-requires
 response-style-requires c κs = search needs
@@ -43,7 +48,7 @@ write-packet-requires c κs =
     let p = c .before .before .before .before .before .pick .ensures in (
       response-ready (a .s) (a .out .now) (c .before .before .before .before .before .before .before .before .if1 .left) _
           (c .before .before .before .before .before .before .before .check-setup .ensures)
-          (not-false _ (c .before .before .before .before .before .before .if2 .left)) (a .id) _ _ p _ (c .before .before .response-style .ensures),
+          (not-false _ (c .before .before .before .before .before .before .if2 .left)) (responseStyle (a .id)) refl each _ _ p _ (c .before .before .response-style .ensures),
       (p .few, p .sized),
     )
 
@@ -51,13 +56,14 @@ same-length : tie.Need-same-length
 same-length c = search needs
 
 returns-4 : tie.Need-returns-4
+unfolding responsePacket
 returns-4 c =
     let ten = c .before .before .before .before .before .before .before .before .before .before in
     let a = ten .before .before .before .args in
     let p = c .before .before .before .before .before .before .before .before .pick .ensures in
     let w = c .before .before .write-packet .ensures in
     response-sent (a .s) (a .out .now) (ten .before .if1 .left) _ (ten .check-setup .ensures)
-    (not-false _ (c .before .before .before .before .before .before .before .before .before .if2 .left)) (a .id) _ _ p
+    (not-false _ (c .before .before .before .before .before .before .before .before .before .if2 .left)) (responseStyle (a .id)) refl each _ _ p
     (c .before .before .before .before .before .before .if3 .left) _ (c .before .before .before .before .before .response-style .ensures) _ _ (w .0) (w .1)
 
 pub respond-spec : {M : Type 1} → statement M
