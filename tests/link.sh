@@ -2,7 +2,8 @@
 # Demand 3, tried: random hostile lists of several responders' calls, played through the proved console (rust/linksim).
 # With the premises kept no list may violate it. Then the check has to show that it can see: with packets up to 600 ms under way, or
 # those by unicast up to 1,000 ms, two responders hold one name, with steps up to 500 ms late one holds too late, and the reference
-# program with a planted fault is found out with the premises kept. Stops and updates are played too.
+# program with a planted fault is found out with the premises kept. Stops and updates are played too, and
+# a quarter of the lists are of groups that ran apart and are joined, which L13 is asked of.
 # Usage: tests/link.sh [SECONDS [SEED]], by default 60 s from seed 1.
 set -eu
 root=$(cd "$(dirname "$0")/.." && pwd)
@@ -14,6 +15,7 @@ linksim=$root/rust/target/release/linksim
 console=$root/target/bin/console
 two='hold .* at once with different data'
 late='does not hold .* 1,200 ms after its start'
+again='hold .* again with different data, though'
 
 # Succeeds if a violation with these words is found.
 finds() { # WHAT WORDS OPTION..
@@ -45,5 +47,5 @@ for fault in "$root"/rust/linksim/faults/*.patch; do
     echo "[workspace]" >>"$work/copy/Cargo.toml"
     patch --silent --strip=1 --directory="$work/copy" <"$fault"
     cargo build --quiet --bin reference --manifest-path "$work/copy/Cargo.toml" --target-dir "$work/target"
-    finds "fault $(basename "$fault" .patch)" "$two|$late" --console "$work/target/debug/reference" --lists 20000
+    finds "fault $(basename "$fault" .patch)" "$two|$late|$again" --console "$work/target/debug/reference" --lists 20000
 done

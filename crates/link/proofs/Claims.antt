@@ -19,7 +19,7 @@ use Rattle.link.proofs.Course.{Due, first, further, Link, Course, Move,
 use Rattle.link.proofs.Came as came
 use Rattle.link.proofs.Lists.{clash, and-both, or-right, any-of, is-of}
 use Rattle.link.proofs.States.{Calls, Event, idle, ends, begins, moves, event, called-accepted}
-use Rattle.link.proofs.From.{CallOf, PremisesFrom}
+use Rattle.link.specs.Joined.{CallOf, PremisesFrom}
 use Rattle.link.proofs.Order.{in-order}
 use Rattle.link.proofs.Steps.{Sends, act, sends, data-left}
 use Rattle.link.proofs.Stages.{stage-of, stage-before, stage-after, move-of, yielded, deferred}

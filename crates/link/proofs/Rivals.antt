@@ -21,7 +21,7 @@ use Rattle.link.proofs.Rivalry.{Rivalry}
 use Rattle.link.proofs.Parties.{Updated, unique, joined}
 use Rattle.link.proofs.Lists.{clash}
 use Rattle.link.proofs.States.{Calls, Event, idle, ends, begins, moves, event, start-owner, not-before, after-start, sender, calls-as, updater, starter, left, owned-data, data-passed}
-use Rattle.link.proofs.From.{PremisesFrom}
+use Rattle.link.specs.Joined.{PremisesFrom}
 use Rattle.link.proofs.Order.{taken-before}
 use Rattle.link.proofs.Data.{recordIn, Kin, kin}
 use Rattle.link.proofs.Steps.{Sends, Hears, hearer-calls, act, update-step, owned, of-state, sends, data-left, heard-step}

@@ -16,7 +16,8 @@ use Rattle.link.specs.Laws.{mostDraw, Stage, waiting, held, Step, update
 use Rattle.link.proofs.InTime.{Gained, in-time}
 use Rattle.link.proofs.Lists.{clash}
 use Rattle.link.proofs.States.{Calls, Event, idle, ends, begins, moves, event, after-start, not-before, ran-before, updater, calls-as, called-accepted}
-use Rattle.link.proofs.From.{CallOf, from-first}
+use Rattle.link.specs.Joined.{CallOf}
+use Rattle.link.proofs.From.{from-first}
 use Rattle.link.proofs.Steps.{act, update-step}
 use Rattle.link.proofs.Stages.{stage-of, ready-as, stage-before, stage-after}
 use Rattle.link.proofs.Held.{holds-held}

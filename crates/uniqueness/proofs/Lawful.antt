@@ -23,8 +23,9 @@ use Rattle.link.specs.Responder.{Claim, instance, host, everyone, unicast}
 use Rattle.link.specs.Premises.{Among}
 use Rattle.link.specs.Laws as law
 use Rattle.link.proofs.Demand3 as link
+use Rattle.link.proofs.Joined as joining
 use Rattle.uniqueness.specs.Responder.{ownClaim, halves, changes, revise, listed, dueTimes, due, rdata, name, conflicts, defeats, responder}
-use Rattle.uniqueness.specs.Statement.{Theorem}
+use Rattle.uniqueness.specs.Statement.{Theorem, JoinedTheorem, FloorsTheorem}
 use Rattle.uniqueness.specs.Rules.{stageOf, claimAt, Of, Ready, rules}
 use Rattle.uniqueness.proofs.Lists.{clash, in-append, in-tail}
 use Rattle.uniqueness.proofs.Owned.{owned, Has, has-data, one-claim}
@@ -138,3 +139,10 @@ lawful =
 -- Demand 3: for every list of starts, ticks, packets received and power cuts of our responders that meets the premises, both conclusions hold.
 pub demand-3 : Theorem
 demand-3 = link.demand-3 responder rules lawful
+
+-- Two links joined: who takes a multicast of a differing record from the other does not hold after that call, and both never hold together again.
+pub links-joined : JoinedTheorem
+links-joined = joining.joined responder rules lawful
+
+pub two-floors-joined : FloorsTheorem
+two-floors-joined = joining.two-floors-joined responder rules lawful

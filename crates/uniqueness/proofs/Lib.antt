@@ -15,3 +15,4 @@ pub mod Taken
 pub mod Settled
 pub mod Example
 pub mod Updating
+pub mod Joining

@@ -3,3 +3,4 @@ pub mod Statement
 pub mod Rules
 pub mod Example
 pub mod Updating
+pub mod Joining

@@ -2,7 +2,15 @@
 -- tick give outright (crates/responder/specs/Calls.antt): `startOf`, `receiveOf`, `tickOf`, and the packet that is laid over the out buffer. That `responder`
 -- is what a caller of those functions, and of the exported ones on a state in bytes, sees is what the functions of crates/demand3 ensure. Assumes nothing.
 use Rattle.link.specs.Demand3.{Demand3}
+use Rattle.link.specs.Joined.{Joined, TwoFloorsJoined}
 use Rattle.uniqueness.specs.Responder.{responder}
 
 abbrev pub Theorem : Type 0
 Theorem = Demand3 responder
+
+-- Two links joined, of the same responder: `links-joined` there, and in the request's own words `two-floors-joined`
+abbrev pub JoinedTheorem : Type 0
+JoinedTheorem = Joined responder
+
+abbrev pub FloorsTheorem : Type 0
+FloorsTheorem = TwoFloorsJoined responder

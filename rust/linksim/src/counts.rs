@@ -8,6 +8,10 @@ use crate::console::State;
 pub struct Counts {
     pub lists: u64,
     pub entries: u64,
+    /// Groups that were joined, with so many pairs of holders then, and pairs of which one heard the other since.
+    pub joined: u64,
+    pub pairs: u64,
+    pub met: u64,
     /// Entries of the longest list.
     pub longest: u64,
     pub starts: u64,
@@ -41,6 +45,9 @@ impl Counts {
         self.lists += other.lists;
         self.entries += other.entries;
         self.longest = self.longest.max(other.entries);
+        self.joined += other.joined;
+        self.pairs += other.pairs;
+        self.met += other.met;
         self.starts += other.starts;
         self.cuts += other.cuts;
         self.stops += other.stops;
@@ -75,6 +82,9 @@ impl fmt::Display for Counts {
         let Counts {
             lists,
             entries,
+            joined,
+            pairs,
+            met,
             longest,
             starts,
             cuts,
@@ -95,7 +105,7 @@ impl fmt::Display for Counts {
         } = self;
         writeln!(
             f,
-            "{lists} lists of {entries} entries, the longest of {longest}"
+            "{lists} lists of {entries} entries, the longest of {longest}; {joined} of groups that are joined, with {pairs} pairs of holders then, and {met} pairs of which one heard the other since"
         )?;
         writeln!(
             f,

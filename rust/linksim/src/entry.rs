@@ -54,6 +54,8 @@ pub enum Call {
         out: usize,
     },
     Cut,
+    /// Groups that ran apart are joined: no call. Demand 3's premises hold from here on.
+    Join,
 }
 
 /// What a call's refusal goes by, of the responder before it.
@@ -123,6 +125,7 @@ impl Call {
                 Change::Txt(txt) => format!("update {clock} txt {} {out}", hex(txt)),
             },
             Call::Cut => "# power cut".to_string(),
+            Call::Join => "# joined".to_string(),
         }
     }
 
@@ -133,7 +136,7 @@ impl Call {
             | Call::Stop { clock, .. }
             | Call::Update { clock, .. } => *clock,
             Call::Receive(receive) => receive.clock,
-            Call::Cut => 0,
+            Call::Cut | Call::Join => 0,
         }
     }
 
@@ -185,7 +188,7 @@ impl Call {
                 let soon = updated.is_some_and(|updated| *clock < updated + UPDATE_GAP);
                 test(!soon, Refusal::TooSoon)
             }
-            Call::Cut => Ok(()),
+            Call::Cut | Call::Join => Ok(()),
         }
     }
 }

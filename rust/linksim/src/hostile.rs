@@ -152,6 +152,14 @@ pub fn truncated(random: &mut Random, target: &Setup) -> Vec<u8> {
     query_with(random, TRUNCATED, target)
 }
 
+/// All records of one of the target's names, without the bit.
+pub fn question(random: &mut Random, target: &Setup) -> Vec<u8> {
+    let mut draft = Draft::new(QUERY);
+    let name = target.claim_name(claim(random)).into_wire();
+    draft.questions.push((name, rtype::ANY, class::IN));
+    draft.bytes()
+}
+
 fn query_with(random: &mut Random, flags: u16, target: &Setup) -> Vec<u8> {
     let mut draft = Draft::new(flags);
     for _ in 0..random.pick(&[0, 1, 1, 2, 3]) {

@@ -12,6 +12,7 @@ use reference::setup::{ClaimName, Setup};
 use reference::{class, rtype};
 
 use crate::describe::text_of;
+use crate::entry::Packet;
 
 /// "a dock holds each of its two names 1,200 ms after its start at the latest"
 const HOLDING_TIME: u64 = 1200;
@@ -23,8 +24,18 @@ pub struct Judge {
     responders: Vec<Responder>,
     /// How often the 1,200 ms were asked of a claim.
     pub asked: u64,
+    /// Of groups that are joined, from then on.
+    joined: Option<Joined>,
     /// After how many entries two held one name with different data, in the time after an update.
     pub excused: u64,
+}
+
+/// What was sent to all since groups were joined, and who heard of whom.
+#[derive(Default)]
+struct Joined {
+    sent: Vec<(usize, Packet)>,
+    /// Who heard, of whom, and of which claim.
+    heard: Vec<(usize, usize, usize)>,
 }
 
 struct Responder {
@@ -60,6 +71,13 @@ pub enum Violation {
     },
     /// "a dock holds each of its two names 1,200 ms after its start at the latest"
     NotInTime { name: String, responder: usize },
+    /// "From the first moment that one of them takes a multicast, sent since the joining, of a differing record, TTL not 0, from the
+    /// other, the two never again hold that name together with different data."
+    BothAgain {
+        name: String,
+        heard: usize,
+        other: usize,
+    },
     /// A call was refused that the table of refusals lets pass, or the other way round, or by another number.
     Refusal {
         expected: Option<u8>,
@@ -151,6 +169,19 @@ impl Claim {
         message.is_response() && message.records.iter().any(under)
     }
 
+    /// "a multicast [...] of a differing record, TTL not 0": a response that says, in one of these types, what we have.
+    fn tells(&self, message: &Message, types: &[u16]) -> bool {
+        let tells = |record: &Record| {
+            let own = self.records.iter().find(|own| own.rtype == record.rtype);
+            types.contains(&record.rtype)
+                && record.owner.equals(&self.name)
+                && record.class() == class::IN
+                && record.ttl != 0
+                && own.is_some_and(|own| own.rdata == record.rdata)
+        };
+        message.is_response() && message.records.iter().any(tells)
+    }
+
     fn hear(&mut self, message: &Message) {
         if self.conflicts(message) {
             self.holds = false;
@@ -221,6 +252,80 @@ impl Judge {
             }
         };
         claims[0].update(time, setup, rtype);
+    }
+
+    pub fn join(&mut self) {
+        self.joined = Some(Joined::default());
+    }
+
+    /// How many pairs hold one name with different data.
+    pub fn pairs(&self) -> u64 {
+        let mut pairs = 0;
+        for (at, one) in self.responders.iter().enumerate() {
+            for other in &self.responders[at + 1..] {
+                for (claim, others) in one.claims.iter().zip(&other.claims) {
+                    let both = claim.holds && others.holds;
+                    pairs += u64::from(both && !claim.differs_from(others).is_empty());
+                }
+            }
+        }
+        pairs
+    }
+
+    /// How many pairs of which one has heard the other.
+    pub fn met(&self) -> u64 {
+        let joined = self.joined.as_ref();
+        joined.map_or(0, |joined| joined.heard.len() as u64)
+    }
+
+    /// A packet that went to all.
+    pub fn send(&mut self, responder: usize, packet: &Packet) {
+        if let Some(joined) = &mut self.joined {
+            joined.sent.push((responder, packet.clone()));
+        }
+    }
+
+    /// A packet that was taken, of groups that are joined: does it say what another has, who sent it to all?
+    pub fn meet(&mut self, responder: usize, packet: &Packet, message: &Message) {
+        let Some(joined) = &mut self.joined else {
+            return;
+        };
+        let mut senders: Vec<usize> = Vec::new();
+        for (sender, sent) in &joined.sent {
+            if *sender != responder && sent == packet && !senders.contains(sender) {
+                senders.push(*sender);
+            }
+        }
+        for sender in senders {
+            for at in 0..2 {
+                let (own, theirs) = (
+                    &self.responders[responder].claims[at],
+                    &self.responders[sender].claims[at],
+                );
+                let pair = (responder, sender, at);
+                if theirs.tells(message, &own.differs_from(theirs)) && !joined.heard.contains(&pair)
+                {
+                    joined.heard.push(pair);
+                }
+            }
+        }
+    }
+
+    /// After an entry, of groups that are joined: two who hold one name with different data though one has heard the other.
+    pub fn both_again(&self) -> Option<Violation> {
+        let joined = self.joined.as_ref()?;
+        for (heard, other, at) in &joined.heard {
+            let claim = &self.responders[*heard].claims[*at];
+            let others = &self.responders[*other].claims[*at];
+            if claim.holds && others.holds && !claim.differs_from(others).is_empty() {
+                return Some(Violation::BothAgain {
+                    name: text_of(&claim.name),
+                    heard: *heard,
+                    other: *other,
+                });
+            }
+        }
+        None
     }
 
     pub fn hear(&mut self, responder: usize, message: &Message) {
@@ -318,6 +423,10 @@ impl fmt::Display for Violation {
             Violation::NotInTime { name, responder } => write!(
                 f,
                 "responder {responder} does not hold {name} 1,200 ms after its start, or its update"
+            ),
+            Violation::BothAgain { name, heard, other } => write!(
+                f,
+                "responders {heard} and {other} hold {name} again with different data, though {heard} heard {other} since the joining"
             ),
             Violation::Refusal { expected, given } => {
                 write!(f, "refusal {given:?}, expected {expected:?}")
@@ -562,6 +671,56 @@ mod tests {
         judge.end(1);
         assert_eq!(judge.two_holders(5000), None);
         assert_eq!(judge.not_in_time(5000), None);
+    }
+
+    #[test]
+    fn who_heard_the_other_since_the_joining_never_holds_with_it_again() {
+        let theirs = setup("dock", [10, 0, 0, 8], None);
+        let mut judge = Judge::default();
+        for setup in [plain(), theirs.clone()] {
+            let number = judge.start(0, &setup);
+            judge.write(number, &announcement(&setup));
+        }
+        let records = theirs.records();
+        let bytes: Packet = compose::response(&records.iter().collect::<Vec<_>>()).into();
+        let said = announcement(&theirs);
+        // sent before the joining
+        judge.send(1, &bytes);
+        judge.join();
+        assert_eq!(judge.pairs(), 1);
+        judge.meet(0, &bytes, &said);
+        assert_eq!((judge.met(), judge.both_again()), (0, None));
+        // and since
+        judge.send(1, &bytes);
+        judge.meet(0, &bytes, &said);
+        assert_eq!(judge.met(), 1);
+        assert!(judge.both_again().is_some());
+        judge.hear(0, &said);
+        assert_eq!(judge.both_again(), None);
+        judge.write(0, &announcement(&plain()));
+        assert!(judge.both_again().is_some());
+    }
+
+    #[test]
+    fn a_goodbye_or_what_both_have_tells_nothing() {
+        let theirs = Claim::new(
+            0,
+            &setup("dock", [10, 0, 0, 8], Some([9; 16])),
+            ClaimName::Host,
+        );
+        let types = theirs.differs_from(&host());
+        assert_eq!(types, [rtype::A]);
+        assert!(theirs.tells(&message(0x8400, 0, |_| ()), &types));
+        let silent: [fn(&mut Record); 4] = [
+            |record| record.ttl = 0,
+            |record| record.class = 3,
+            |record| record.rdata = vec![10, 0, 0, 9],
+            |record| (record.rtype, record.rdata) = (rtype::AAAA, vec![9; 16]),
+        ];
+        for change in silent {
+            assert!(!theirs.tells(&message(0x8400, 0, change), &types));
+        }
+        assert!(!theirs.tells(&message(0, 0, |_| ()), &types));
     }
 
     #[test]

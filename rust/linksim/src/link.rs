@@ -13,6 +13,7 @@ use crate::premises::{Limits, Premises};
 
 pub struct Link<'a> {
     consoles: &'a mut [Console],
+    kind: Kind,
     /// The responder that each console runs.
     running: Vec<Option<Running>>,
     judge: Judge,
@@ -21,6 +22,15 @@ pub struct Link<'a> {
     /// The list so far, each entry with its answer; none for a power cut, and where nothing runs.
     pub played: Vec<(Entry, Option<Answer>)>,
     pub violation: Option<Violation>,
+}
+
+/// What a list is held against.
+#[derive(Clone, Copy, PartialEq, Eq)]
+pub enum Kind {
+    /// Demand 3, from the first entry on.
+    Whole,
+    /// L13, from a joining on.
+    Joined,
 }
 
 #[derive(Clone, Copy)]
@@ -48,12 +58,13 @@ pub struct Outcome {
 }
 
 impl Link<'_> {
-    pub fn new(consoles: &mut [Console], limits: Limits) -> Link<'_> {
+    pub fn new(consoles: &mut [Console], limits: Limits, kind: Kind) -> Link<'_> {
         Link {
             running: vec![None; consoles.len()],
             consoles,
+            kind,
             judge: Judge::default(),
-            premises: Premises::new(limits),
+            premises: Premises::new(limits, kind == Kind::Joined),
             counts: Counts::default(),
             played: Vec::new(),
             violation: None,
@@ -83,15 +94,21 @@ impl Link<'_> {
     pub fn play(&mut self, entry: Entry) -> io::Result<Option<Outcome>> {
         self.counts.entries += 1;
         self.premises.before(entry.time);
-        let late = self.judge.not_in_time(entry.time);
-        self.counts.asked = self.judge.asked;
-        self.found(late);
-        let two = self.judge.two_holders(entry.time);
-        self.found(two);
+        if self.kind == Kind::Whole {
+            let late = self.judge.not_in_time(entry.time);
+            self.counts.asked = self.judge.asked;
+            self.found(late);
+            let two = self.judge.two_holders(entry.time);
+            self.found(two);
+        }
         let time = entry.time;
         let outcome = match &entry.call {
             Call::Cut => {
                 self.cut(entry.console);
+                None
+            }
+            Call::Join => {
+                self.join();
                 None
             }
             Call::Start { .. } => Some(self.call(&entry)?),
@@ -100,9 +117,13 @@ impl Link<'_> {
         };
         let (answer, outcome) = outcome.unzip();
         self.played.push((entry, answer));
-        let two = self.judge.two_holders(time);
+        let two = match self.kind {
+            Kind::Whole => self.judge.two_holders(time),
+            Kind::Joined => self.judge.both_again(),
+        };
         self.found(two);
         self.counts.excused = self.judge.excused;
+        self.counts.met = self.judge.met();
         Ok(outcome)
     }
 
@@ -110,6 +131,13 @@ impl Link<'_> {
         if self.violation.is_none() {
             self.violation = violation;
         }
+    }
+
+    fn join(&mut self) {
+        self.premises.join();
+        self.judge.join();
+        self.counts.joined += 1;
+        self.counts.pairs += self.judge.pairs();
     }
 
     fn cut(&mut self, console: usize) {
@@ -198,6 +226,7 @@ impl Link<'_> {
         if let Call::Update { clock, change, .. } = &entry.call {
             running.updated = Some(*clock);
             self.counts.updates += 1;
+            self.premises.updated();
             self.judge.update(entry.time, running.number, change);
         }
         self.running[entry.console] = Some(running);
@@ -240,6 +269,7 @@ impl Link<'_> {
         self.premises.heard(number, receive.from, &receive.packet);
         // one that can't be read was to be refused, and counts as found already
         if let Ok(message) = Message::read(&receive.packet) {
+            self.judge.meet(number, &receive.packet, &message);
             self.judge.hear(number, &message);
         }
     }
@@ -248,6 +278,7 @@ impl Link<'_> {
     fn sent(&mut self, number: usize, packet: &Packet, is_goodbye: bool) {
         self.counts.sent += 1;
         self.premises.sent(number, packet);
+        self.judge.send(number, packet);
         if !is_goodbye {
             self.written(number, packet);
         }

@@ -26,7 +26,7 @@ use std::time::{Duration, Instant};
 use console::Console;
 use counts::Counts;
 use entry::Entry;
-use link::Link;
+use link::{Kind, Link};
 use options::{Options, USAGE};
 use simulation::Simulation;
 
@@ -65,8 +65,12 @@ fn run(options: &Options) -> io::Result<bool> {
     let mut total = Counts::default();
     while !over(&total) {
         let seed = options.seed.wrapping_add(total.lists);
-        let link = Link::new(&mut consoles, options.limits);
-        let link = Simulation::play(link, options.limits, seed, CONSOLES)?;
+        let kind = match Simulation::joins(seed, options.joined) {
+            true => Kind::Joined,
+            false => Kind::Whole,
+        };
+        let link = Link::new(&mut consoles, options.limits, kind);
+        let link = Simulation::play(link, options.limits, seed, kind, CONSOLES)?;
         total.add(&link.counts);
         if let Some(premise) = link.broken_premise() {
             println!("list of seed {seed}: the simulation broke a premise: {premise}");
@@ -112,8 +116,8 @@ fn report(
         println!("violation: {violation}");
     }
     println!(
-        "the whole list: --seed {seed} --lists 1 --delay {} --unicast {} --late {}",
-        options.limits.delay, options.limits.unicast, options.limits.late
+        "the whole list: --seed {seed} --lists 1 --delay {} --unicast {} --late {} --joined {}",
+        options.limits.delay, options.limits.unicast, options.limits.late, options.joined
     );
     Ok(())
 }

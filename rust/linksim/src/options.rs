@@ -3,7 +3,7 @@
 use crate::premises::{Limits, DEMANDED};
 
 pub const USAGE: &str =
-    "usage: linksim [--console PATH] [--lists N | --seconds T] [--seed S] [--delay MS] [--unicast MS] [--late MS]
+    "usage: linksim [--console PATH] [--lists N | --seconds T] [--seed S] [--delay MS] [--unicast MS] [--late MS] [--joined PERCENT]
   --delay and --unicast (of packets by unicast) above 100, and --late above 50, break the premises of demand 3 on purpose";
 
 #[derive(Debug, PartialEq, Eq)]
@@ -14,6 +14,8 @@ pub struct Options {
     /// Of the first list; each next has the next seed.
     pub seed: u64,
     pub limits: Limits,
+    /// In percent: how many lists are of groups that ran apart and are joined.
+    pub joined: u64,
 }
 
 impl Options {
@@ -24,6 +26,7 @@ impl Options {
             seconds: None,
             seed: 1,
             limits: DEMANDED,
+            joined: 25,
         };
         while let Some(word) = words.next() {
             let value = words.next().ok_or(format!("{word} needs a value"))?;
@@ -38,6 +41,7 @@ impl Options {
                 "--seed" => options.seed = number()?,
                 "--delay" => options.limits.delay = number()?,
                 "--unicast" => options.limits.unicast = number()?,
+                "--joined" => options.joined = number()?,
                 "--late" => options.limits.late = number()?,
                 _ => return Err(format!("{word} is no option")),
             }

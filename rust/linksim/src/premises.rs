@@ -23,6 +23,8 @@ pub const DEMANDED: Limits = Limits {
 
 pub struct Premises {
     limits: Limits,
+    /// From when they are asked: from the beginning, or from a joining on. Before, none is asked.
+    from: Option<i64>,
     /// The time of the last entry.
     time: u64,
     /// By number; none after a cut.
@@ -48,9 +50,11 @@ struct Owed {
 }
 
 impl Premises {
-    pub fn new(limits: Limits) -> Premises {
+    /// A list of groups that are joined has to meet them from the joining on.
+    pub fn new(limits: Limits, joined: bool) -> Premises {
         Premises {
             limits,
+            from: (!joined).then_some(i64::MIN),
             time: 0,
             responders: Vec::new(),
             owed: Vec::new(),
@@ -64,9 +68,23 @@ impl Premises {
     }
 
     fn require(&mut self, met: bool, premise: &'static str) {
-        if !met {
+        if !met && self.from.is_some() {
             self.broken.get_or_insert(premise);
         }
+    }
+
+    /// "From the moment of joining, with demand 3's premises from then on".
+    pub fn join(&mut self) {
+        self.from = Some(self.time as i64);
+        let running = || self.responders.iter().flatten();
+        let alone = |one: &Responder| {
+            running()
+                .filter(|other| other.address == one.address)
+                .count()
+                == 1
+        };
+        let apart = running().all(alone);
+        self.require(apart, "an address is no other running responder's");
     }
 
     /// Before an entry: what was owed until a time before it has happened.
@@ -75,8 +93,9 @@ impl Premises {
         self.time = time;
         let delivered = self.owed.iter().all(|owed| time <= owed.by);
         self.require(delivered, "a packet is taken in time");
-        let late = self.limits.late as i64;
-        let taken = |due: &i64| time as i64 <= due + late;
+        // what was overdue at the joining has 50 ms from then
+        let (late, from) = (self.limits.late as i64, self.from.unwrap_or(i64::MIN));
+        let taken = |due: &i64| time as i64 <= from.max(*due) + late;
         let running = self.responders.iter().flatten();
         let on_time = running
             .flat_map(|responder| responder.due.iter())
@@ -99,6 +118,12 @@ impl Premises {
     pub fn cut(&mut self, responder: usize) {
         self.responders[responder] = None;
         self.owed.retain(|owed| owed.to != responder);
+    }
+
+    /// "L4's updates left out", from a joining on.
+    pub fn updated(&mut self) {
+        let joined = self.from.is_some_and(|from| from > i64::MIN);
+        self.require(!joined, "no update is taken after a joining");
     }
 
     /// "Calls carry their dock's clock, a fixed amount off the link's time".
@@ -140,7 +165,7 @@ impl Premises {
     }
 
     fn owe(&mut self, from: usize, to: usize, delay: u64, packet: &Packet) {
-        let Some(sender) = &self.responders[from] else {
+        let (Some(sender), Some(_)) = (&self.responders[from], self.from) else {
             return;
         };
         self.owed.push(Owed {
@@ -171,7 +196,7 @@ mod tests {
 
     /// Two responders from time 10 on, with clocks of 0 and 10.
     fn two() -> Premises {
-        let mut premises = Premises::new(DEMANDED);
+        let mut premises = Premises::new(DEMANDED, false);
         premises.before(10);
         premises.start(0, ONE);
         premises.start(10, TWO);
@@ -269,6 +294,31 @@ mod tests {
             premises.before(time);
             assert_eq!(premises.broken().is_some(), broken);
         }
+    }
+
+    #[test]
+    fn before_a_joining_nothing_is_asked_and_what_is_overdue_has_50_ms() {
+        let mut premises = Premises::new(DEMANDED, true);
+        premises.before(10);
+        premises.start(0, ONE);
+        premises.start(10, TWO);
+        premises.accepted(0, 0, dues(&[Some(20)]));
+        premises.sent(0, &packet());
+        premises.before(1000);
+        premises.join();
+        premises.before(1050);
+        assert_eq!(premises.broken(), None);
+        premises.accepted(0, 1040, dues(&[Some(1041)]));
+        premises.sent(0, &packet());
+        premises.before(1101);
+        assert_eq!(premises.broken(), None);
+        premises.before(1102);
+        assert!(premises.broken().is_some());
+        let mut premises = Premises::new(DEMANDED, true);
+        premises.start(0, ONE);
+        premises.start(10, ONE);
+        premises.join();
+        assert!(premises.broken().is_some());
     }
 
     #[test]

@@ -3,9 +3,9 @@
 use std::io;
 
 use crate::console::Console;
-use crate::entry::Entry;
+use crate::entry::{Call, Entry};
 use crate::judge::Violation;
-use crate::link::Link;
+use crate::link::{Kind, Link};
 use crate::premises::Limits;
 
 /// Plays a list as it stands, up to its first violation.
@@ -14,7 +14,12 @@ pub fn replay<'a>(
     limits: Limits,
     entries: &[Entry],
 ) -> io::Result<Link<'a>> {
-    let mut link = Link::new(consoles, limits);
+    let joins = |entry: &Entry| matches!(entry.call, Call::Join);
+    let kind = match entries.iter().any(joins) {
+        true => Kind::Joined,
+        false => Kind::Whole,
+    };
+    let mut link = Link::new(consoles, limits, kind);
     for entry in entries {
         link.play(entry.clone())?;
         if link.violation.is_some() {

@@ -13,7 +13,7 @@ use crate::console::Dues;
 use crate::entry::{Call, Entry, Packet, Receive};
 use crate::entry::{LEAST_OUT, LEAST_REPLY_DRAW, MOST_REPLY_DRAW, MOST_START_DRAW, UPDATE_GAP};
 use crate::hostile;
-use crate::link::{Link, Outcome};
+use crate::link::{Kind, Link, Outcome};
 use crate::premises::Limits;
 use crate::queue::Queue;
 use crate::random::Random;
@@ -43,9 +43,17 @@ pub struct Simulation<'a> {
     seen: Vec<Packet>,
     now: u64,
     end: u64,
+    /// Whether what is sent reaches all: not before groups are joined.
+    whole: bool,
+    /// When they were joined.
+    joined: Option<u64>,
 }
 
 enum Event {
+    /// The groups are joined.
+    Join,
+    /// All hear a query without the bit, from another device.
+    Ask,
     Start {
         console: usize,
     },
@@ -105,6 +113,8 @@ struct Seat {
     last: u64,
     /// For which due time a step is planned.
     planned: Dues,
+    /// Which of the groups it is in, until they are joined.
+    group: u64,
 }
 
 /// Addresses: the first are of responders, often each console's own, the others of other devices.
@@ -120,11 +130,17 @@ fn address_of(number: usize) -> Address {
 }
 
 impl<'a> Simulation<'a> {
+    /// Whether the list of a seed is one of groups that are joined.
+    pub fn joins(seed: u64, percent: u64) -> bool {
+        Random::new(!seed).chance(percent)
+    }
+
     /// Plays a whole list, or as much of it as comes before a violation.
     pub fn play(
         mut link: Link<'a>,
         limits: Limits,
         seed: u64,
+        kind: Kind,
         consoles: usize,
     ) -> io::Result<Link<'a>> {
         link.counts.lists += 1;
@@ -139,8 +155,13 @@ impl<'a> Simulation<'a> {
             seen: Vec::new(),
             now: BEGIN,
             end: BEGIN,
+            whole: kind == Kind::Whole,
+            joined: None,
         };
         simulation.plan_starts(consoles);
+        if kind == Kind::Joined {
+            simulation.plan_joining();
+        }
         simulation.run()?;
         Ok(simulation.link)
     }
@@ -161,6 +182,58 @@ impl<'a> Simulation<'a> {
         }
         self.end += apart + self.random.pick(&[1201, 1300, 2500, 4000, 8000]);
         assert!(self.end < BEGIN + MOST_LENGTH);
+    }
+
+    /// Two groups, or three, that are joined when all hold their names, or in the middle of it.
+    fn plan_joining(&mut self) {
+        let groups = self.random.pick(&[2, 2, 3]);
+        for seat in &mut self.seats {
+            seat.group = self.random.up_to(groups - 1);
+        }
+        let (least, most) = self
+            .random
+            .pick(&[(0, 500), (0, 1200), (1000, 3000), (1000, 3000)]);
+        let wait = least + self.random.up_to(most);
+        self.at(wait, Event::Join);
+        let length = wait + self.random.pick(&[1500, 3000, 6000]);
+        self.end = self.end.max(BEGIN + length);
+    }
+
+    /// What was overdue is taken within 50 ms; questions make holders speak.
+    fn join(&mut self) -> io::Result<()> {
+        self.play_call(0, Call::Join)?;
+        self.whole = true;
+        self.joined = Some(self.now);
+        for console in 0..self.seats.len() {
+            let planned = std::mem::take(&mut self.seats[console].planned);
+            if let Some(to) = self.target(console) {
+                for (step, due) in planned.into_iter().enumerate() {
+                    self.plan_step(to, step, due);
+                }
+            }
+        }
+        for _ in 0..self.random.up_to(4) {
+            let wait = self.random.up_to(1500);
+            self.at(wait, Event::Ask);
+        }
+        Ok(())
+    }
+
+    fn ask(&mut self) -> io::Result<()> {
+        let seat = self.random.place(self.seats.len());
+        let Some(setup) = self.seats[seat].setup.clone() else {
+            return Ok(());
+        };
+        let packet: Packet = hostile::question(&mut self.random, &setup).into();
+        let from = address_of(2 * self.seats.len());
+        for console in 0..self.seats.len() {
+            if let Some(to) = self.target(console) {
+                let packet = packet.clone();
+                let wait = self.random.up_to(100);
+                self.at(wait, Event::Delivery { to, from, packet });
+            }
+        }
+        Ok(())
     }
 
     fn run(&mut self) -> io::Result<()> {
@@ -186,6 +259,8 @@ impl<'a> Simulation<'a> {
 
     fn happen(&mut self, event: Event) -> io::Result<()> {
         match event {
+            Event::Join => self.join(),
+            Event::Ask => self.ask(),
             Event::Start { console } => self.start(console),
             Event::Cut { console } => self.cut(console),
             Event::Delivery { to, from, packet } if !self.lives(to) => {
@@ -204,6 +279,8 @@ impl<'a> Simulation<'a> {
             }
             Event::Step { to, step, due } => self.step(to, step, due),
             Event::Stop { to } => self.stop(to),
+            // "L4's updates left out"
+            Event::Update { .. } if self.joined.is_some() => Ok(()),
             Event::Update { to, change } => self.update(to, change),
             Event::Delivery { to, .. } if self.is_deaf(to) => Ok(()),
             Event::Delivery { to, from, packet } => self.receive(to, from, packet),
@@ -216,7 +293,12 @@ impl<'a> Simulation<'a> {
 
     /// The clock of a responder now.
     fn clock(&self, console: usize) -> u64 {
-        (self.now as i64 + self.seats[console].offset) as u64
+        self.clock_at(console, self.now)
+    }
+
+    /// Its clock at a time of the link's; 0 where it had not begun to run.
+    fn clock_at(&self, console: usize, time: u64) -> u64 {
+        (time as i64 + self.seats[console].offset).max(0) as u64
     }
 
     fn play_call(&mut self, console: usize, call: Call) -> io::Result<Option<Outcome>> {
@@ -257,6 +339,7 @@ impl<'a> Simulation<'a> {
             offset: clock as i64 - self.now as i64,
             last: clock,
             planned: Dues::default(),
+            group: self.seats[console].group,
         };
         let start = Call::Start {
             clock,
@@ -434,7 +517,7 @@ impl<'a> Simulation<'a> {
         let from = self.any_address();
         // now and then all hear it, within any time
         if self.random.chance(50) {
-            for other in self.others(to.console) {
+            for other in self.hearers(to.console) {
                 let wait = self.random.up_to(200);
                 let packet = packet.clone();
                 self.at(
@@ -472,6 +555,14 @@ impl<'a> Simulation<'a> {
             .collect()
     }
 
+    /// The others that a packet reaches.
+    fn hearers(&self, console: usize) -> Vec<Target> {
+        let group = |console: usize| self.seats[console].group;
+        let mut hearers = self.others(console);
+        hearers.retain(|other| self.whole || group(other.console) == group(console));
+        hearers
+    }
+
     /// After a call: its packet has to reach the others, that by unicast who runs where the message came from, due steps have to be
     /// taken, and other things may happen.
     fn follow(&mut self, console: usize, outcome: Option<Outcome>, source: Option<(Address, u64)>) {
@@ -495,7 +586,7 @@ impl<'a> Simulation<'a> {
     }
 
     fn plan_deliveries(&mut self, from: Target, packet: Packet) {
-        for to in self.others(from.console) {
+        for to in self.hearers(from.console) {
             self.plan_delivery(from, to, self.limits.delay, packet.clone());
         }
         // a truncated query that comes from the same address, before its probe or behind it
@@ -505,7 +596,7 @@ impl<'a> Simulation<'a> {
         }
         // a responder's packet from a port that is not its own
         if self.random.chance(self.style.extras) {
-            if let [first, ..] = self.others(from.console)[..] {
+            if let [first, ..] = self.hearers(from.console)[..] {
                 let wait = self.random.up_to(self.limits.delay);
                 let packet = packet.clone();
                 self.at(wait, Event::Astray { to: first, packet });
@@ -527,7 +618,7 @@ impl<'a> Simulation<'a> {
     /// All others hear a truncated query from a responder's address, which it did not send.
     fn plan_truncated(&mut self, from: Target) {
         let address = self.seats[from.console].address;
-        for to in self.others(from.console) {
+        for to in self.hearers(from.console) {
             let Some(setup) = self.seats[to.console].setup.clone() else {
                 continue;
             };
@@ -544,6 +635,9 @@ impl<'a> Simulation<'a> {
 
     /// One delivery in time; at times another one, too late or of a packet that is to be taken yet, or a refused call with it.
     fn plan_delivery(&mut self, from: Target, to: Target, most: u64, packet: Packet) {
+        if !self.whole && self.random.chance(self.style.losses) {
+            return;
+        }
         let address = self.seats[from.console].address;
         let delay = self.style.delays.time(&mut self.random, most);
         let delivery = || Event::Delivery {
@@ -567,11 +661,9 @@ impl<'a> Simulation<'a> {
     /// A packet by unicast reaches who runs at the address; where that is the sender itself, or nobody, it may be lost. Others may
     /// overhear it.
     fn plan_unicast(&mut self, from: Target, address: Address, packet: Packet) {
-        let consoles = 0..self.seats.len();
-        for to in consoles
-            .filter_map(|console| self.target(console))
-            .collect::<Vec<_>>()
-        {
+        let mut hearers = self.hearers(from.console);
+        hearers.push(from);
+        for to in hearers {
             let there = self.seats[to.console].address == address;
             let owed = there && to.console != from.console;
             if owed || there && self.random.chance(50) || self.random.chance(self.style.extras / 4)
@@ -582,7 +674,7 @@ impl<'a> Simulation<'a> {
         self.seen.push(packet);
     }
 
-    /// `due` is on the responder's clock.
+    /// `due` is on the responder's clock. What was overdue when groups were joined has its time from then.
     fn plan_step(&mut self, to: Target, step: usize, due: Option<u64>) {
         let seat = &mut self.seats[to.console];
         if seat.planned[step] == due {
@@ -592,8 +684,15 @@ impl<'a> Simulation<'a> {
         let Some(due) = due else {
             return;
         };
-        let late = self.style.lateness.time(&mut self.random, self.limits.late);
-        let wait = (due + late).saturating_sub(self.clock(to.console));
+        let late = match self.whole || !self.random.chance(self.style.overdue) {
+            true => self.style.lateness.time(&mut self.random, self.limits.late),
+            false => self.random.up_to(3000),
+        };
+        let from = match self.joined {
+            Some(joined) => due.max(self.clock_at(to.console, joined)),
+            None => due,
+        };
+        let wait = (from + late).saturating_sub(self.clock(to.console));
         self.at(wait, Event::Step { to, step, due });
     }
 

@@ -20,6 +20,9 @@ pub struct Style {
     pub twins: u64,
     /// In percent: how often a responder that has stopped takes no packet.
     pub deaf: u64,
+    /// In percent, before groups are joined: how many packets are lost, and how many steps are long overdue.
+    pub losses: u64,
+    pub overdue: u64,
     /// In percent: how often a start takes any address that is free, and not its console's.
     pub moves: u64,
 }
@@ -45,6 +48,8 @@ impl Style {
             updates: random.pick(&[0, 2, 5, 15]),
             twins: random.pick(&[0, 0, 50]),
             deaf: random.pick(&[0, 50, 100]),
+            losses: random.pick(&[0, 0, 10, 50]),
+            overdue: random.pick(&[0, 10, 50]),
             moves: random.pick(&[0, 50, 100]),
         }
     }

@@ -59,6 +59,7 @@ fn call_words(call: &Call) -> String {
             Change::Txt(txt) => format!("has TXT {} now", hex(txt)),
         },
         Call::Cut => "is cut".to_string(),
+        Call::Join => "sees the groups joined".to_string(),
     }
 }
 
