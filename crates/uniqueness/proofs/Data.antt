@@ -113,7 +113,7 @@ module _ (s t : Setup) (k : Claim) (same : sameName (name s k) (name t k) ≡ tr
   pub is-probe : isProbe (name t k) (probeOf s (ownClaim k)) ≡ true
   is-probe = sym (spelling-probe (name s k) (name t k) same (probeOf s (ownClaim k))) ∙ probes-self s k
 
-  later-by : theirsLater t (ownClaim k) (probeOf s (ownClaim k)) ≡ isLater (tie (ours s (ownClaim k)) (ours t (ownClaim k)))
+  pub later-by : theirsLater t (ownClaim k) (probeOf s (ownClaim k)) ≡ isLater (tie (ours s (ownClaim k)) (ours t (ownClaim k)))
   unfolding theirsLater
   later-by =
       ap (λ (l : List TieRecord). isLater (tie l (ours t (ownClaim k))))

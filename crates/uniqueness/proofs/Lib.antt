@@ -11,8 +11,11 @@ pub mod Moves
 pub mod Renewal
 pub mod Defence
 pub mod Lawful
+pub mod Outgoing
+pub mod Candid
 pub mod Taken
 pub mod Settled
 pub mod Example
 pub mod Updating
 pub mod Joining
+pub mod Contending

@@ -3,6 +3,7 @@
 use std::fmt;
 
 use crate::console::State;
+use crate::judge::Contentions;
 
 #[derive(Clone, Debug, Default)]
 pub struct Counts {
@@ -37,6 +38,7 @@ pub struct Counts {
     pub deferred: u64,
     /// Claims of which the 1,200 ms were asked.
     pub asked: u64,
+    pub contentions: Contentions,
 }
 
 impl Counts {
@@ -64,6 +66,7 @@ impl Counts {
         self.lost += other.lost;
         self.deferred += other.deferred;
         self.asked += other.asked;
+        self.contentions.add(&other.contentions);
     }
 
     pub fn turn(&mut self, before: State, after: State) {
@@ -102,6 +105,7 @@ impl fmt::Display for Counts {
             lost,
             deferred,
             asked,
+            contentions,
         } = self;
         writeln!(
             f,
@@ -111,9 +115,10 @@ impl fmt::Display for Counts {
             f,
             "{starts} responders started, {cuts} cut, {stops} stopped; {updates} updates, {excused} times with two holders in the 100 ms after one; {refused} calls refused; {sent} packets sent, {heard} heard, {truncated} of them held back, {unicast} answered by unicast, {replied} of plain resolvers"
         )?;
-        write!(
+        writeln!(
             f,
             "{held} times a name came to be held, {given_up} given up; {lost} claims lost, {deferred} deferred; the 1,200 ms asked of {asked} claims"
-        )
+        )?;
+        write!(f, "{contentions}")
     }
 }

@@ -82,6 +82,15 @@ pub fn packet(random: &mut Random, target: &Setup, seen: &[Packet]) -> Vec<u8> {
     }
 }
 
+/// The same, with no responses but copies of what was seen.
+pub fn query_or_copy(random: &mut Random, target: &Setup, seen: &[Packet]) -> Vec<u8> {
+    match random.up_to(99) {
+        0..=49 => probe(random, target),
+        50..=79 => query(random, target),
+        _ => replay(random, seen),
+    }
+}
+
 fn claim(random: &mut Random) -> ClaimName {
     random.pick(&[ClaimName::Instance, ClaimName::Host])
 }

@@ -1,8 +1,13 @@
 //! Demand 3's two conclusions, judged by the packets alone, from the specification, 'A claim's life'. Nothing here asks the console.
 //! A responder is known by the number of its start among the accepted ones.
 
+mod contention;
+
 use std::cmp::Ordering;
 use std::fmt;
+
+use contention::Contention;
+pub use contention::Counts as Contentions;
 
 use reference::message::{Message, Question, Record, Section};
 use reference::name::Name;
@@ -28,6 +33,7 @@ pub struct Judge {
     joined: Option<Joined>,
     /// After how many entries two held one name with different data, in the time after an update.
     pub excused: u64,
+    contention: Contention,
 }
 
 /// What was sent to all since groups were joined, and who heard of whom.
@@ -57,6 +63,15 @@ pub struct Claim {
     past: bool,
     /// A conflicting response or a probe with later records was heard since then.
     opposed: bool,
+    started: u64,
+    /// When a probe with later records was heard last.
+    later: Option<u64>,
+    /// A holder of the name was asked for since then.
+    answered: bool,
+    /// When a record under it went to all last.
+    multicast: Option<u64>,
+    /// A probe was heard that this very call has to answer.
+    challenged: bool,
     /// The times and types of the updates that were taken while it was held.
     updates: Vec<(u64, u16)>,
 }
@@ -78,6 +93,15 @@ pub enum Violation {
         heard: usize,
         other: usize,
     },
+    /// A name that is left alone is held by nobody, though this responder wants it since 1,200 ms, and no probe with later records was
+    /// heard by it, or none for 1,950 ms.
+    Unheld {
+        name: String,
+        responder: usize,
+        later: bool,
+    },
+    /// One who held a name that is left alone does so no longer.
+    GivenUp { name: String, responder: usize },
     /// A call was refused that the table of refusals lets pass, or the other way round, or by another number.
     Refusal {
         expected: Option<u8>,
@@ -96,6 +120,11 @@ impl Claim {
             begin: time,
             past: false,
             opposed: false,
+            started: time,
+            later: None,
+            answered: false,
+            multicast: None,
+            challenged: false,
             updates: Vec::new(),
         }
     }
@@ -182,13 +211,15 @@ impl Claim {
         message.is_response() && message.records.iter().any(tells)
     }
 
-    fn hear(&mut self, message: &Message) {
+    fn hear(&mut self, time: u64, message: &Message) {
         if self.conflicts(message) {
             self.holds = false;
             self.opposed = true;
         }
         if self.is_later(message) {
             self.opposed = true;
+            self.later = Some(time);
+            self.answered = false;
         }
     }
 
@@ -222,10 +253,14 @@ impl Judge {
     /// An accepted start; gives the responder's number.
     pub fn start(&mut self, time: u64, setup: &Setup) -> usize {
         let names = [ClaimName::Instance, ClaimName::Host];
+        let claims = names.map(|name| Claim::new(time, setup, name));
+        for claim in &claims {
+            self.contention.want(time, &claim.name);
+        }
         self.responders.push(Responder {
             setup: setup.clone(),
             runs: true,
-            claims: names.map(|name| Claim::new(time, setup, name)),
+            claims,
         });
         self.responders.len() - 1
     }
@@ -235,6 +270,7 @@ impl Judge {
         self.responders[responder].runs = false;
         for claim in &mut self.responders[responder].claims {
             claim.holds = false;
+            self.contention.disturb(&claim.name);
         }
     }
 
@@ -252,6 +288,7 @@ impl Judge {
             }
         };
         claims[0].update(time, setup, rtype);
+        self.contention.disturb(&claims[0].name);
     }
 
     pub fn join(&mut self) {
@@ -278,8 +315,19 @@ impl Judge {
         joined.map_or(0, |joined| joined.heard.len() as u64)
     }
 
+    /// How often a name that is left alone was asked to be held, and how long it was not.
+    pub fn contentions(&self) -> Contentions {
+        self.contention.counts()
+    }
+
+    /// A packet by unicast.
+    pub fn send_back(&mut self, packet: &Packet) {
+        self.contention.send(packet);
+    }
+
     /// A packet that went to all.
     pub fn send(&mut self, responder: usize, packet: &Packet) {
+        self.contention.send(packet);
         if let Some(joined) = &mut self.joined {
             joined.sent.push((responder, packet.clone()));
         }
@@ -328,9 +376,9 @@ impl Judge {
         None
     }
 
-    pub fn hear(&mut self, responder: usize, message: &Message) {
+    pub fn hear(&mut self, time: u64, responder: usize, message: &Message) {
         for claim in &mut self.responders[responder].claims {
-            claim.hear(message);
+            claim.hear(time, message);
         }
     }
 
@@ -340,6 +388,7 @@ impl Judge {
         for claim in &mut self.responders[responder].claims {
             if claim.is_answered_by(message) && !claim.holds {
                 claim.holds = true;
+                self.contention.hold(&claim.name);
                 began += 1;
             }
         }
@@ -411,6 +460,10 @@ impl Violation {
     pub fn same_kind(&self, other: &Violation) -> bool {
         std::mem::discriminant(self) == std::mem::discriminant(other)
     }
+
+    pub fn is_of_contention(&self) -> bool {
+        matches!(self, Violation::Unheld { .. } | Violation::GivenUp { .. })
+    }
 }
 
 impl fmt::Display for Violation {
@@ -428,6 +481,24 @@ impl fmt::Display for Violation {
                 f,
                 "responders {heard} and {other} hold {name} again with different data, though {heard} heard {other} since the joining"
             ),
+            Violation::Unheld {
+                name,
+                responder,
+                later: false,
+            } => write!(
+                f,
+                "nobody holds {name} 1,200 ms after the start of responder {responder}, which heard no later probe"
+            ),
+            Violation::Unheld {
+                name, responder, ..
+            } => write!(
+                f,
+                "nobody holds {name} 1,950 ms after the last later probe that responder {responder} heard"
+            ),
+            Violation::GivenUp { name, responder } => write!(
+                f,
+                "responder {responder} held {name}, which is left alone, and gives it up"
+            ),
             Violation::Refusal { expected, given } => {
                 write!(f, "refusal {given:?}, expected {expected:?}")
             }
@@ -444,7 +515,7 @@ mod tests {
     use crate::hostile::{Draft, Record};
     use reference::compose;
 
-    fn setup(host: &str, a: [u8; 4], aaaa: Option<[u8; 16]>) -> Setup {
+    pub fn setup(host: &str, a: [u8; 4], aaaa: Option<[u8; 16]>) -> Setup {
         Setup {
             instance: b"booth".to_vec(),
             service: b"_voice".to_vec(),
@@ -458,7 +529,7 @@ mod tests {
         }
     }
 
-    fn plain() -> Setup {
+    pub fn plain() -> Setup {
         setup("dock", [10, 0, 0, 7], None)
     }
 
@@ -466,12 +537,12 @@ mod tests {
         Message::read(bytes).unwrap()
     }
 
-    fn announcement(setup: &Setup) -> Message {
+    pub fn announcement(setup: &Setup) -> Message {
         let records = setup.records();
         read(&compose::response(&records.iter().collect::<Vec<_>>()))
     }
 
-    fn host_probe(setup: &Setup) -> Message {
+    pub fn host_probe(setup: &Setup) -> Message {
         read(&compose::probe(setup, ClaimName::Host))
     }
 
@@ -575,7 +646,7 @@ mod tests {
             judge.two_holders(0),
             Some(Violation::TwoHolders { .. })
         ));
-        judge.hear(one, &theirs);
+        judge.hear(0, one, &theirs);
         assert_eq!(judge.two_holders(0), None);
         judge.write(one, &announcement(&plain()));
         assert!(judge.two_holders(0).is_some());
@@ -620,7 +691,7 @@ mod tests {
         // who hears of it in time does not hold any more
         let mut twin = plain();
         twin.port = 80;
-        judge.hear(0, &announcement(&twin));
+        judge.hear(0, 0, &announcement(&twin));
         assert_eq!(judge.two_holders(1101), None);
     }
 
@@ -645,7 +716,7 @@ mod tests {
     #[test]
     fn an_update_while_not_holding_begins_the_1200_ms_anew_for_the_instance() {
         let later = |judge: &mut Judge, number| {
-            judge.hear(number, &host_probe(&setup("dock", [10, 0, 0, 8], None)));
+            judge.hear(0, number, &host_probe(&setup("dock", [10, 0, 0, 8], None)));
             judge.update(500, number, &Change::Port(80));
         };
         assert_eq!(unheld(1301, later), None);
@@ -660,7 +731,11 @@ mod tests {
         judge.write(number, &announcement(&plain()));
         assert_eq!(judge.not_in_time(1201), None);
         judge.update(2000, number, &Change::Port(80));
-        judge.hear(number, &announcement(&setup("dock", [10, 0, 0, 9], None)));
+        judge.hear(
+            0,
+            number,
+            &announcement(&setup("dock", [10, 0, 0, 9], None)),
+        );
         assert_eq!(judge.not_in_time(4000), None);
         assert_eq!(judge.asked, 2);
     }
@@ -695,7 +770,7 @@ mod tests {
         judge.meet(0, &bytes, &said);
         assert_eq!(judge.met(), 1);
         assert!(judge.both_again().is_some());
-        judge.hear(0, &said);
+        judge.hear(0, 0, &said);
         assert_eq!(judge.both_again(), None);
         judge.write(0, &announcement(&plain()));
         assert!(judge.both_again().is_some());
@@ -758,7 +833,7 @@ mod tests {
         // the host name is contested, the instance name is still asked for
         let host = |judge: &mut Judge, number| {
             let theirs = setup("dock", [10, 0, 0, 8], None);
-            judge.hear(number, &host_probe(&theirs));
+            judge.hear(0, number, &host_probe(&theirs));
         };
         let Some(Violation::NotInTime { name, .. }) = unheld(1301, host) else {
             panic!("the instance name is not held");
@@ -766,7 +841,7 @@ mod tests {
         assert_eq!(name, "booth._voice._tcp.local");
         let earlier = |judge: &mut Judge, number| {
             let theirs = setup("dock", [10, 0, 0, 6], None);
-            judge.hear(number, &host_probe(&theirs));
+            judge.hear(0, number, &host_probe(&theirs));
         };
         let Some(Violation::NotInTime { name, .. }) = unheld(1301, earlier) else {
             panic!("earlier records do not excuse");

@@ -14,6 +14,7 @@ use crate::premises::{Limits, Premises};
 pub struct Link<'a> {
     consoles: &'a mut [Console],
     kind: Kind,
+    asked: Asked,
     /// The responder that each console runs.
     running: Vec<Option<Running>>,
     judge: Judge,
@@ -31,6 +32,16 @@ pub enum Kind {
     Whole,
     /// L13, from a joining on.
     Joined,
+}
+
+/// Which violations count.
+#[derive(Clone, Copy, Debug, PartialEq, Eq)]
+pub enum Asked {
+    All,
+    /// Demand 3, and L13.
+    Demands,
+    /// That a name which is left alone comes to be held, and stays so.
+    Contention,
 }
 
 #[derive(Clone, Copy)]
@@ -58,11 +69,12 @@ pub struct Outcome {
 }
 
 impl Link<'_> {
-    pub fn new(consoles: &mut [Console], limits: Limits, kind: Kind) -> Link<'_> {
+    pub fn new(consoles: &mut [Console], limits: Limits, kind: Kind, asked: Asked) -> Link<'_> {
         Link {
             running: vec![None; consoles.len()],
             consoles,
             kind,
+            asked,
             judge: Judge::default(),
             premises: Premises::new(limits, kind == Kind::Joined),
             counts: Counts::default(),
@@ -95,6 +107,8 @@ impl Link<'_> {
         self.counts.entries += 1;
         self.premises.before(entry.time);
         if self.kind == Kind::Whole {
+            let nobody = self.judge.nobody_holds(entry.time);
+            self.found(nobody);
             let late = self.judge.not_in_time(entry.time);
             self.counts.asked = self.judge.asked;
             self.found(late);
@@ -123,13 +137,28 @@ impl Link<'_> {
         };
         self.found(two);
         self.counts.excused = self.judge.excused;
+        if self.kind == Kind::Whole {
+            self.counts.contentions = self.judge.contentions();
+        }
         self.counts.met = self.judge.met();
         Ok(outcome)
     }
 
     fn found(&mut self, violation: Option<Violation>) {
+        let asked = |violation: &Violation| match self.asked {
+            Asked::All => true,
+            Asked::Demands => !violation.is_of_contention(),
+            Asked::Contention => violation.is_of_contention(),
+        };
         if self.violation.is_none() {
-            self.violation = violation;
+            self.violation = violation.filter(asked);
+        }
+    }
+
+    /// Of a list that is held against demand 3 from its first entry on.
+    fn found_in_whole(&mut self, violation: Option<Violation>) {
+        if self.kind == Kind::Whole {
+            self.found(violation);
         }
     }
 
@@ -190,14 +219,16 @@ impl Link<'_> {
         }
         let is_goodbye = matches!(entry.call, Call::Stop { .. });
         if let (Some(packet), Some(number)) = (&sent, self.number(entry.console)) {
-            self.sent(number, packet, is_goodbye);
+            self.sent(entry.time, number, packet, is_goodbye);
         }
         if is_goodbye && given.is_none() {
             self.stopped(entry.console);
         }
         if let (Some(packet), Call::Receive(receive)) = (&unicast, &entry.call) {
-            self.sent_back(entry.console, receive, packet);
+            self.sent_back(entry.time, entry.console, receive, packet);
         }
+        let undefended = self.judge.undefended();
+        self.found_in_whole(undefended);
         let outcome = Outcome {
             accepted: given.is_none(),
             sent,
@@ -234,7 +265,7 @@ impl Link<'_> {
             .accepted(running.number, entry.call.clock(), claims.due);
         match &entry.call {
             Call::Receive(receive) if receive.port == MDNS_PORT => {
-                self.heard(running.number, receive);
+                self.heard(entry.time, running.number, receive);
             }
             _ => (),
         }
@@ -264,28 +295,31 @@ impl Link<'_> {
         });
     }
 
-    fn heard(&mut self, number: usize, receive: &Receive) {
+    fn heard(&mut self, time: u64, number: usize, receive: &Receive) {
         self.counts.heard += 1;
         self.premises.heard(number, receive.from, &receive.packet);
         // one that can't be read was to be refused, and counts as found already
         if let Ok(message) = Message::read(&receive.packet) {
+            let given_up = self.judge.gives_up(number, &receive.packet, &message);
+            self.found_in_whole(given_up);
+            self.judge.challenge(time, number, &message);
             self.judge.meet(number, &receive.packet, &message);
-            self.judge.hear(number, &message);
+            self.judge.hear(time, number, &message);
         }
     }
 
     /// A goodbye is owed to all as any packet, but begins no holding.
-    fn sent(&mut self, number: usize, packet: &Packet, is_goodbye: bool) {
+    fn sent(&mut self, time: u64, number: usize, packet: &Packet, is_goodbye: bool) {
         self.counts.sent += 1;
         self.premises.sent(number, packet);
         self.judge.send(number, packet);
         if !is_goodbye {
-            self.written(number, packet);
+            self.written(time, number, packet, true);
         }
     }
 
     /// By unicast, to where the message came from: of a reply to a plain resolver "demand 3 asks no delivery".
-    fn sent_back(&mut self, console: usize, receive: &Receive, packet: &Packet) {
+    fn sent_back(&mut self, time: u64, console: usize, receive: &Receive, packet: &Packet) {
         let Some(number) = self.number(console) else {
             return;
         };
@@ -296,13 +330,19 @@ impl Link<'_> {
             }
             _ => self.counts.replied += 1,
         }
-        self.written(number, packet);
+        self.judge.send_back(packet);
+        self.written(time, number, packet, false);
     }
 
     /// A holding begins with "the call that writes a response with a record under it".
-    fn written(&mut self, number: usize, packet: &[u8]) {
+    fn written(&mut self, time: u64, number: usize, packet: &[u8], to_all: bool) {
         match Message::read(packet) {
-            Ok(message) => self.counts.held += self.judge.write(number, &message),
+            Ok(message) => {
+                let given_up = self.judge.probes_again(number, &message);
+                self.found_in_whole(given_up);
+                self.judge.speak(time, number, &message, to_all);
+                self.counts.held += self.judge.write(number, &message);
+            }
             Err(_) => self.found(Some(Violation::Unreadable { responder: number })),
         }
     }

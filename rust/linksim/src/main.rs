@@ -69,8 +69,9 @@ fn run(options: &Options) -> io::Result<bool> {
             true => Kind::Joined,
             false => Kind::Whole,
         };
-        let link = Link::new(&mut consoles, options.limits, kind);
-        let link = Simulation::play(link, options.limits, seed, kind, CONSOLES)?;
+        let link = Link::new(&mut consoles, options.limits, kind, options.asked);
+        let alone = Simulation::is_left_alone(seed, options.alone);
+        let link = Simulation::play(link, options.limits, (seed, alone), kind, CONSOLES)?;
         total.add(&link.counts);
         if let Some(premise) = link.broken_premise() {
             println!("list of seed {seed}: the simulation broke a premise: {premise}");
@@ -101,13 +102,15 @@ fn report(
     seed: u64,
     entries: Vec<Entry>,
 ) -> io::Result<()> {
-    let Some(violation) = shrink::replay(consoles, options.limits, &entries)?.violation else {
+    let Some(violation) =
+        shrink::replay(consoles, options.limits, options.asked, &entries)?.violation
+    else {
         println!("list of seed {seed}: a violation that does not come again");
         return Ok(());
     };
     let most = entries.len();
-    let fewer = shrink::shrink(consoles, options.limits, entries, &violation)?;
-    let link = shrink::replay(consoles, options.limits, &fewer)?;
+    let fewer = shrink::shrink(consoles, options.limits, options.asked, entries, &violation)?;
+    let link = shrink::replay(consoles, options.limits, options.asked, &fewer)?;
     println!("{} of the {most} entries of the list:", fewer.len());
     for line in trace::lines(&link.played, CONSOLES) {
         println!("{line}");
@@ -116,8 +119,8 @@ fn report(
         println!("violation: {violation}");
     }
     println!(
-        "the whole list: --seed {seed} --lists 1 --delay {} --unicast {} --late {} --joined {}",
-        options.limits.delay, options.limits.unicast, options.limits.late, options.joined
+        "the whole list: --seed {seed} --lists 1 --delay {} --unicast {} --late {} --joined {} --alone {}",
+        options.limits.delay, options.limits.unicast, options.limits.late, options.joined, options.alone
     );
     Ok(())
 }

@@ -1,9 +1,11 @@
 //! The command line.
 
+use crate::link::Asked;
 use crate::premises::{Limits, DEMANDED};
 
 pub const USAGE: &str =
     "usage: linksim [--console PATH] [--lists N | --seconds T] [--seed S] [--delay MS] [--unicast MS] [--late MS] [--joined PERCENT]
+               [--alone PERCENT] [--asked all|demands|contention]
   --delay and --unicast (of packets by unicast) above 100, and --late above 50, break the premises of demand 3 on purpose";
 
 #[derive(Debug, PartialEq, Eq)]
@@ -16,6 +18,9 @@ pub struct Options {
     pub limits: Limits,
     /// In percent: how many lists are of groups that ran apart and are joined.
     pub joined: u64,
+    /// In percent: how many are left alone: nobody is cut, stopped or updated, and strangers send no responses of their own.
+    pub alone: u64,
+    pub asked: Asked,
 }
 
 impl Options {
@@ -27,6 +32,8 @@ impl Options {
             seed: 1,
             limits: DEMANDED,
             joined: 25,
+            alone: 35,
+            asked: Asked::All,
         };
         while let Some(word) = words.next() {
             let value = words.next().ok_or(format!("{word} needs a value"))?;
@@ -42,6 +49,19 @@ impl Options {
                 "--delay" => options.limits.delay = number()?,
                 "--unicast" => options.limits.unicast = number()?,
                 "--joined" => options.joined = number()?,
+                "--alone" => options.alone = number()?,
+                "--asked" => {
+                    options.asked = match value.as_str() {
+                        "all" => Asked::All,
+                        "demands" => Asked::Demands,
+                        "contention" => Asked::Contention,
+                        _ => {
+                            return Err(format!(
+                                "{word} needs all, demands or contention, not {value}"
+                            ))
+                        }
+                    }
+                }
                 "--late" => options.limits.late = number()?,
                 _ => return Err(format!("{word} is no option")),
             }
@@ -64,6 +84,8 @@ mod tests {
         let limits = options.limits;
         assert_eq!((limits.delay, limits.unicast, limits.late), (600, 7, 50));
         assert_eq!((options.seed, options.seconds), (7, None));
+        assert_eq!(read("--asked contention").unwrap().asked, Asked::Contention);
+        assert!(read("--asked nothing").is_err());
         assert!(read("--late").is_err());
         assert!(read("--late soon").is_err());
         assert!(read("--early 3").is_err());

@@ -5,13 +5,14 @@ use std::io;
 use crate::console::Console;
 use crate::entry::{Call, Entry};
 use crate::judge::Violation;
-use crate::link::{Kind, Link};
+use crate::link::{Asked, Kind, Link};
 use crate::premises::Limits;
 
 /// Plays a list as it stands, up to its first violation.
 pub fn replay<'a>(
     consoles: &'a mut [Console],
     limits: Limits,
+    asked: Asked,
     entries: &[Entry],
 ) -> io::Result<Link<'a>> {
     let joins = |entry: &Entry| matches!(entry.call, Call::Join);
@@ -19,7 +20,7 @@ pub fn replay<'a>(
         true => Kind::Joined,
         false => Kind::Whole,
     };
-    let mut link = Link::new(consoles, limits, kind);
+    let mut link = Link::new(consoles, limits, kind, asked);
     for entry in entries {
         link.play(entry.clone())?;
         if link.violation.is_some() {
@@ -32,6 +33,7 @@ pub fn replay<'a>(
 pub fn shrink(
     consoles: &mut [Console],
     limits: Limits,
+    asked: Asked,
     mut entries: Vec<Entry>,
     violation: &Violation,
 ) -> io::Result<Vec<Entry>> {
@@ -41,7 +43,7 @@ pub fn shrink(
         while at < entries.len() {
             let mut fewer = entries.clone();
             fewer.drain(at..(at + size).min(entries.len()));
-            let link = replay(consoles, limits, &fewer)?;
+            let link = replay(consoles, limits, asked, &fewer)?;
             let found = link.violation.as_ref();
             if found.is_some_and(|found| found.same_kind(violation))
                 && link.broken_premise().is_none()

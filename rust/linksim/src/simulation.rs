@@ -135,11 +135,16 @@ impl<'a> Simulation<'a> {
         Random::new(!seed).chance(percent)
     }
 
+    /// Whether the list of a seed is left alone.
+    pub fn is_left_alone(seed: u64, percent: u64) -> bool {
+        Random::new(seed.reverse_bits()).chance(percent)
+    }
+
     /// Plays a whole list, or as much of it as comes before a violation.
     pub fn play(
         mut link: Link<'a>,
         limits: Limits,
-        seed: u64,
+        (seed, alone): (u64, bool),
         kind: Kind,
         consoles: usize,
     ) -> io::Result<Link<'a>> {
@@ -148,7 +153,7 @@ impl<'a> Simulation<'a> {
         let mut simulation = Simulation {
             link,
             limits,
-            style: Style::draw(&mut random),
+            style: Style::draw(&mut random, alone),
             random,
             queue: Queue::new(),
             seats: (0..consoles).map(|_| Seat::default()).collect(),
@@ -513,7 +518,11 @@ impl<'a> Simulation<'a> {
         let Some(setup) = self.seats[to.console].setup.clone() else {
             return Ok(());
         };
-        let packet: Packet = hostile::packet(&mut self.random, &setup, &self.seen).into();
+        let packet: Packet = match self.style.responses {
+            true => hostile::packet(&mut self.random, &setup, &self.seen),
+            false => hostile::query_or_copy(&mut self.random, &setup, &self.seen),
+        }
+        .into();
         let from = self.any_address();
         // now and then all hear it, within any time
         if self.random.chance(50) {

@@ -9,6 +9,8 @@ pub struct Style {
     pub extras: u64,
     /// In percent: how often a call brings a hostile packet soon after.
     pub hostility: u64,
+    /// Hostile packets may be responses that no responder wrote.
+    pub responses: bool,
     /// In percent: how many probes have a truncated query beside them, from the same address, which the prober did not send.
     pub truncations: u64,
     /// In percent: how many responders are cut.
@@ -36,16 +38,19 @@ pub enum Spread {
 }
 
 impl Style {
-    pub fn draw(random: &mut Random) -> Style {
+    /// Of a list that is left alone nobody is cut, stopped or updated.
+    pub fn draw(random: &mut Random, alone: bool) -> Style {
+        let often = |percent: u64| if alone { 0 } else { percent };
         Style {
             delays: Spread::draw(random),
             lateness: Spread::draw(random),
             extras: random.pick(&[0, 5, 20]),
             hostility: random.pick(&[0, 0, 0, 3, 10, 20]),
             truncations: random.pick(&[0, 0, 0, 100]),
-            cuts: random.pick(&[0, 0, 20, 60]),
-            stops: random.pick(&[0, 0, 20, 60]),
-            updates: random.pick(&[0, 2, 5, 15]),
+            responses: !alone,
+            cuts: often(random.pick(&[0, 0, 20, 60])),
+            stops: often(random.pick(&[0, 0, 20, 60])),
+            updates: often(random.pick(&[0, 2, 5, 15])),
             twins: random.pick(&[0, 0, 50]),
             deaf: random.pick(&[0, 50, 100]),
             losses: random.pick(&[0, 0, 10, 50]),
