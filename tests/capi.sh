@@ -6,6 +6,12 @@ root=$(cd "$(dirname "$0")/.." && pwd)
 build() { cc -O2 -Wall -Wextra -I"$root/c/include" "$1" "$root/target/staticlib/libkurgashel.a" -o "$2"; }
 build "$root/c/tests/responder.c" "$root/target/responder"
 "$root/target/responder"
+build "$root/c/tests/browser.c" "$root/target/browser"
+"$root/target/browser"
+build "$root/c/tests/proxy.c" "$root/target/proxy"
+"$root/target/proxy"
+build "$root/c/tests/trace.c" "$root/target/trace"
+"$root/target/trace"
 
 # the examples say the same, but that C prints a claim's state as a number
 build "$root/c/examples/claim.c" "$root/target/claim"

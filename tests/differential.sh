@@ -15,6 +15,13 @@ for seed in $(seq 1 "${1:-40}"); do
         exit 1
     }
     cat "$work/report" >>"$work/all"
+    # the lives of a script as traces
+    "$programs/compare_players" "$root/target/bin/player" "$programs/player" "$seed" 4000 >"$work/report" || {
+        echo "seed $seed, players:"
+        cut -c1-400 "$work/report"
+        exit 1
+    }
+    cat "$work/report" >>"$work/all"
 done
 awk '/ answers compared/ { compared += $1; next }
     { n = $1; sub(/^ *[0-9]+  /, ""); count[$0] += n }
@@ -139,6 +146,33 @@ slot used
 slot used by NSEC
 slot unused
 clear cleared
+browse browsing
+browse refused 1
+browse refused 2
+browse refused 7
+ask quiet
+ask sent query
+ask sent query of no known answer
+ask sent query with TTL 0
+ask sent query of 1,452 bytes
+ask sent truncated query more
+ask sent truncated query of 1,452 bytes
+ask sent rest
+ask sent rest more
+ask sent rest of 1,452 bytes
+ask sent truncated rest more
+ask sent truncated rest of 1,452 bytes
+ask refused 1
+ask refused 3
+ask refused 7
+ask refused 8
+list of none
+list of 1
+list of several
+list refused 1
+list refused 7
+list refused 8
+slot with less than its TTL
 txt value received
 txt value factory
 read message with something
@@ -160,5 +194,136 @@ read NSEC next name of 2 to 126 labels
 read NSEC next name of 127 labels
 read another NSEC owner of no label
 read another NSEC owner of 2 to 126 labels
+trace of no event
+trace with tick
+trace with recv
+trace with claim
+trace with stop
+trace with port
+trace with txt
+trace refused 12 for an unknown kind
+trace refused 12 for a claim byte
+trace refused 12 for a state byte
+trace refused 12 for padding
+trace refused 12 for a kind 3 that is not owed
+trace refused 12 for a kind 5 that is left out
+trace refused 12 for the end where a kind 2 is owed
+trace refused 12 for the end where a kind 3 is owed
+trace refused 12 for a kind 1 cut short
+trace refused 12 for a kind 2 cut short
+trace refused 12 for a kind 3 cut short
+trace refused 12 for a kind 4 cut short
+trace refused 12 for a kind 5 cut short
+trace refused 12 for a kind 6 cut short
+trace refused 12 for a kind 7 cut short
+trace refused 12 for a kind 8 cut short
+trace refused 12 for a kind 1 where a kind 3 is owed
+trace refused 12 for a kind 2 where a kind 3 is owed
+trace refused 12 for a kind 4 where a kind 3 is owed
+trace refused 12 for a kind 5 where a kind 3 is owed
+trace refused 12 for a kind 6 where a kind 3 is owed
+trace refused 12 for a kind 7 where a kind 3 is owed
+trace refused 12 for a kind 8 where a kind 3 is owed
+trace refused 12 for a kind 1 behind a kind 5
+trace refused 12 for a kind 3 behind a kind 5
+trace refused 12 for a kind 4 behind a kind 5
+trace refused 12 for a kind 5 behind a kind 5
+trace refused 12 for a kind 6 behind a kind 5
+trace refused 12 for a kind 7 behind a kind 5
+trace refused 12 for a kind 8 behind a kind 5
+record of no event
+record with tick
+record with recv
+record with claim
+record with stop
+record with port
+record with txt
+record refused 3
+record refused 12 for a hold draw
+record refused 12 for a source port
+record refused 12 for a draw
+record refused 12 for a claim
+record refused 12 for a state
+record refused 12 for a port
+player instance waiting ok
+player instance waiting bad
+player instance probing ok
+player instance probing bad
+player instance deferred ok
+player instance deferred bad
+player instance held ok
+player instance held bad
+player instance lost ok
+player instance lost bad
+player host waiting ok
+player host waiting bad
+player host probing ok
+player host probing bad
+player host deferred ok
+player host deferred bad
+player host held ok
+player host held bad
+player host lost ok
+player host lost bad
+player of no claim
+player bad line
+player refused 1
+player refused 2
+player refused 7
+player refused 12
+proxy proxied
+proxy refused 7
+question ask as it is
+question ask as it is of 255 bytes
+question ask mapped
+question ask mapped of 255 bytes
+question negative for type 2
+question negative for type 6
+question negative for type 43
+question refused 6
+question refused 7
+question refused 13
+answer of type 1, owner as it is
+answer of type 1, owner mapped
+answer left of type 1
+answer of type 12, owner as it is
+answer of type 12, owner mapped
+answer left of type 12
+answer of type 16, owner as it is
+answer of type 16, owner mapped
+answer left of type 16
+answer of type 28, owner as it is
+answer of type 28, owner mapped
+answer left of type 28
+answer of type 33, owner as it is
+answer of type 33, owner mapped
+answer left of type 33
+answer of type 12, target mapped
+answer of type 33, target mapped
+answer left of type 47
+answer owner of 255 bytes
+answer of class 1
+answer of class 255
+answer TTL 9 is 9
+answer TTL 10 is 10
+answer TTL 11 is 10
+answer TTL 2147483647 is 10
+answer TTL 2147483648 is 0
+answer refused 7
+answer refused 13
+cached record of type 1
+cached record of type 12
+cached record of type 16
+cached record of type 28
+cached record of type 33
+cached record with TTL 0
+cached record with TTL 1
+cached record with TTL 9
+cached record with TTL 10
+cached left
+cached refused 1
+cached refused 7
+cached refused 8
+cached refused 13
 KINDS
 exit "$missing"

@@ -1,17 +1,23 @@
 #!/usr/bin/env python3
 """Fails if a public function of a crate has a `requires`, since every caller may call with anything (specification, R-GEN-8), or no `ensures`.
 
-Of what a function prints no contract can speak: the console's functions that do nothing else, in the files below, are proved safe and ending."""
+A function that is `pub(crate)` is not public. Of what a function prints no contract can speak: the console's functions that do nothing else, in the files
+below, are proved safe and ending."""
 import pathlib
 import re
 import sys
 
 PRINTING = {
+    "crates/console_browser/src/listing.rt",
     "crates/console_calls/src/output.rt",
     "crates/console_calls/src/reader_calls.rt",
     "crates/console_calls/src/reader_calls/pairs.rt",
     "crates/console_calls/src/reader_calls/reading.rt",
+    "crates/console_proxy/src/mapping.rt",
     "crates/console_responder/src/showing.rt",
+    "crates/console_trace/src/lib.rt",
+    "crates/console_trace/src/recording.rt",
+    "crates/console_trace/src/showing.rt",
 }
 root = pathlib.Path(__file__).resolve().parent.parent
 wrong, public, printing = [], 0, 0

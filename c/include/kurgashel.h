@@ -1,4 +1,4 @@
-/* Kurgashel: a Multicast DNS / DNS-SD responder, cache and TXT reader (RFC 6762, RFC 6763).
+/* Kurgashel: a Multicast DNS / DNS-SD responder, cache, browser and TXT reader (RFC 6762, RFC 6763).
  *
  * Every function is total: it takes any arguments and refuses bad ones by a number, and a refused call leaves every lent byte as it was. The caller
  * answers for the pointers alone: each points to as many bytes (or entries) as the count beside it says, a null pointer goes with a count of 0, a
@@ -20,12 +20,12 @@
 extern "C" {
 #endif
 
-/* Refusals; each call tests those that apply to it in the order 1, 2, 3, 8, 4, 5, 6, 7, 10, 11, and the TXT lookup 9, 6. */
+/* Refusals; each call tests those that apply to it in the order 1, 2, 3, 8, 4, 5, 6, 7, 10, 11, 12, 13, and the TXT lookup 9, 6. */
 enum {
     KURGASHEL_ACCEPTED = 0,
     KURGASHEL_TIME = 1,      /* time above 2^62, before the state's last time or an entry's receive time, or a kept time too late */
-    KURGASHEL_DRAW = 2,      /* draw outside 0..250 (start), or 20..120 or 400..500 (packet received) */
-    KURGASHEL_BUFFER = 3,    /* an out buffer under 1,452 bytes */
+    KURGASHEL_DRAW = 2,      /* draw outside 0..250 (start), 20..120 or 400..500 (packet received), or 20..120 or 0..20 (start of a browser) */
+    KURGASHEL_BUFFER = 3,    /* an out buffer under 1,452 bytes, or too small for an event of a trace */
     KURGASHEL_LENGTH = 4,    /* message under 12 or over 8,972 bytes */
     KURGASHEL_HEADER = 5,    /* opcode or RCODE not zero, or a response from a source port other than 5353 */
     KURGASHEL_MALFORMED = 6, /* malformed message, TXT or looked-up name */
@@ -33,7 +33,9 @@ enum {
     KURGASHEL_CACHE = 8,     /* not 1 to 512 entries, not 1,024 bytes of store for each, or an entry with a length too great */
     KURGASHEL_KEY = 9,       /* TXT key empty, or with a byte that no key has */
     KURGASHEL_NAME_LOST = 10, /* update of an instance whose name is lost */
-    KURGASHEL_TOO_SOON = 11  /* update less than 6,000 ms after the last one */
+    KURGASHEL_TOO_SOON = 11, /* update less than 6,000 ms after the last one */
+    KURGASHEL_TRACE = 12,    /* a trace that breaks the rules, or an event with a value that its field cannot hold */
+    KURGASHEL_TOO_LONG = 13  /* a mapped name of more than 255 bytes */
 };
 
 #define KURGASHEL_PORT 5353          /* the port that packets come from and go to */
@@ -124,6 +126,7 @@ struct kurgashel_entry {
     uint16_t rtype, owner; /* the type, and the length of the owner */
     uint32_t rdata;        /* the length of the rdata */
     uint64_t received, expiry;
+    uint64_t ttl; /* as received, in seconds: what cuts the expiry short leaves it */
 };
 
 /* A refusal or 0; the records that were turned away since all entries are live, and those passed over since their rdata is too long. */
@@ -147,6 +150,113 @@ struct kurgashel_looked {
 struct kurgashel_looked kurgashel_cache_look_up(const struct kurgashel_entry *table, size_t entries, const uint8_t *store, size_t store_bytes, uint64_t now,
                                                 const uint8_t *name, size_t name_bytes, uint16_t rtype, size_t from);
 
+/* ---- the browser: who offers a service, as the cache has heard it. It asks for the service's PTR records, first after a draw and then at gaps that double
+ * from one second to an hour, and once more when a record is about to lapse (RFC 6762, 5.2); its queries list what the cache knows (7.1), in further packets
+ * where one is too small (7.2). The cache hears the answers: hand each packet received to kurgashel_cache_take. A call reads the table and the store, and
+ * writes neither. */
+
+/* A browser, handed over and given back by value. All its fields are the library's; a copy of it may be kept, and zeros are a browser that every call
+ * refuses. */
+struct kurgashel_browser {
+    uint8_t service[16], protocol[4], domain[5];
+    uint64_t service_length, draw, refresh, series, count, query, owed, last;
+};
+
+/* A refusal or 0, and the browser. */
+struct kurgashel_browser_begun {
+    uint8_t refusal;
+    struct kurgashel_browser browser;
+};
+
+/* Begins a browser for a service, by its labels as bytes: "_voice", "_tcp" or "_udp", and "local". `draw` (a random 20..120) is how long in ms the first query
+ * waits, `refresh` (a random 0..20) how many thousandths of a TTL its queries for records about to lapse are late. Refusals 1, 2, 7. */
+struct kurgashel_browser_begun kurgashel_browse_start(const uint8_t *service, size_t service_bytes, const uint8_t *protocol, size_t protocol_bytes,
+                                                      const uint8_t *domain, size_t domain_bytes, uint64_t now, uint64_t draw, uint64_t refresh);
+
+/* A refusal or 0; whether more is due at the same time; the length of the packet to send to all, 0 for none; and the browser then, which takes the place of the
+ * one handed over. After a refusal it is the one handed over. */
+struct kurgashel_browser_asked {
+    uint8_t refusal;
+    bool more;
+    size_t length;
+    struct kurgashel_browser browser;
+};
+
+/* Sends what is due: what a query that was too small still owes, or a query. At most one packet, written to `out`. Call it when a step is due
+ * (kurgashel_browse_due), and again at once where `more`; calls between do no harm. Refusals 1, 3, 8, 7. */
+struct kurgashel_browser_asked kurgashel_browse_tick(const struct kurgashel_entry *table, size_t entries, const uint8_t *store, size_t store_bytes,
+                                                     struct kurgashel_browser browser, uint64_t now, uint8_t *out, size_t out_bytes);
+
+/* A refusal or 0; whether a slot is listed, and which. */
+struct kurgashel_browser_listed {
+    uint8_t refusal;
+    bool found;
+    size_t slot;
+};
+
+/* The list: the lowest slot from `from` on whose entry is a live PTR record of the service with a target that no lower such entry has, letters folded. The
+ * target, the instance's name, is the rdata in the slot. From 0 on, and each time from the slot behind the last, it gives every instance once.
+ * Refusals 1, 8, 7. */
+struct kurgashel_browser_listed kurgashel_browse_list(const struct kurgashel_entry *table, size_t entries, const uint8_t *store, size_t store_bytes,
+                                                      struct kurgashel_browser browser, uint64_t now, size_t from);
+
+/* A refusal or 0, and when the next step is due, with the table as it is: before `time` a tick sends nothing. A message taken into the cache may bring it
+ * forward. Refusals 1, 8, 7. */
+struct kurgashel_browser_due {
+    uint8_t refusal;
+    uint64_t time;
+};
+struct kurgashel_browser_due kurgashel_browse_due(const struct kurgashel_entry *table, size_t entries, const uint8_t *store, size_t store_bytes,
+                                                  struct kurgashel_browser browser, uint64_t now);
+
+/* ---- the proxy: names and records between a link, where names end in "local", and unicast DNS (RFC 8766, 5.5). Two domains are lent at every call, as
+ * uncompressed names: `rich` for rich text and `ldh` for letters, digits and hyphens. Nothing is kept. A name lies under a domain where some labels stand before
+ * it, letters folded. */
+
+/* Refusal 7, or 0: a domain is malformed, the two are equal, or one lies under the other. */
+uint8_t kurgashel_proxy_refusal(const uint8_t *rich, size_t rich_bytes, const uint8_t *ldh, size_t ldh_bytes);
+
+/* What becomes of a unicast question: a refusal, or 0; whether it is answered negatively at once, as SOA, NS and DS below a domain are; else the name to ask for
+ * on the link, with zeros behind it: one under a domain ends in "local" there, any other stays as it is. */
+struct kurgashel_proxy_question {
+    uint8_t refusal;
+    bool negative;
+    size_t length;
+    uint8_t name[255];
+};
+
+/* A question for a name (uncompressed, as on the wire) and a type. Refusals 6, 7, 13. */
+struct kurgashel_proxy_question kurgashel_proxy_question(const uint8_t *rich, size_t rich_bytes, const uint8_t *ldh, size_t ldh_bytes, const uint8_t *name,
+                                                         size_t name_bytes, uint16_t rtype);
+
+/* What becomes of a record of the link: a refusal, or 0; whether it is passed on. What is neither refused nor passed on is left out: it is malformed, of another
+ * type than A, PTR, TXT, AAAA and SRV, or a cached one that is not live. Passed on are its type, its class without the top bit, its TTL, at most 10, its owner,
+ * uncompressed and with zeros behind it, and rdata of `rdata_length` bytes: where `named` (PTR and SRV) it stands in `rdata`, its target uncompressed; else it
+ * is that of the record as it lies, not copied. Names under "local" go under `rich` (owners of PTR, SRV and TXT, targets of PTR) or `ldh` (owners of A and AAAA,
+ * targets of SRV); others stay. */
+struct kurgashel_proxy_record {
+    uint8_t refusal;
+    bool passed, named;
+    uint16_t rtype, class_;
+    uint32_t ttl;
+    size_t owner_length, rdata_length;
+    uint8_t owner[255], rdata[261];
+};
+
+/* The record at an offset of a message (see kurgashel_record). Refusals 7, 13. */
+struct kurgashel_proxy_record kurgashel_proxy_record(const uint8_t *rich, size_t rich_bytes, const uint8_t *ldh, size_t ldh_bytes, const uint8_t *message,
+                                                     size_t message_bytes, size_t at);
+
+/* A record of which owner and rdata are uncompressed. Refusals 7, 13. */
+struct kurgashel_proxy_record kurgashel_proxy_plain_record(const uint8_t *rich, size_t rich_bytes, const uint8_t *ldh, size_t ldh_bytes, const uint8_t *owner,
+                                                           size_t owner_bytes, uint16_t rtype, uint16_t class_, uint32_t ttl, const uint8_t *rdata,
+                                                           size_t rdata_bytes);
+
+/* The record of an entry of a cache and the 1,024 bytes of its slot; its TTL is what is left, in whole seconds. Refusals 1, 8, 7, 13: 1 and 8 of this entry
+ * alone. */
+struct kurgashel_proxy_record kurgashel_proxy_cached(const uint8_t *rich, size_t rich_bytes, const uint8_t *ldh, size_t ldh_bytes, uint64_t now,
+                                                     struct kurgashel_entry entry, const uint8_t *slot, size_t slot_bytes);
+
 /* ---- TXT pairs */
 
 enum { KURGASHEL_ABSENT = 0, KURGASHEL_PRESENT = 1, KURGASHEL_EMPTY = 2, KURGASHEL_VALUE = 3 };
@@ -162,6 +272,51 @@ struct kurgashel_pair {
 /* Looks a key up in the TXT that was received and, when it is absent there, in the factory TXT. Refusals 9, 6. */
 struct kurgashel_pair kurgashel_txt_lookup(const uint8_t *key, size_t key_bytes, const uint8_t *received, size_t received_bytes, const uint8_t *factory,
                                            size_t factory_bytes);
+
+/* ---- traces (docs/TRACE.md) */
+
+enum {
+    KURGASHEL_TRACE_END = 0,
+    KURGASHEL_TRACE_TICK = 1,
+    KURGASHEL_TRACE_PACKET = 2,
+    KURGASHEL_TRACE_CLAIM = 4,
+    KURGASHEL_TRACE_STOP = 6,
+    KURGASHEL_TRACE_PORT = 7,
+    KURGASHEL_TRACE_TXT = 8
+};
+#define KURGASHEL_TRACE_USUAL_HOLD 400 /* the hold draw of a packet whose source is not told; its address is 0, 0 */
+
+/* An event of a trace: refusal 12 or 0; its kind, END at the trace's end or where it is refused; the offset behind it, or that of the refusal; the time, of a claim
+ * the responder's last time; of a packet the first and last eight bytes of its source address as numbers, its port and draws; of an update of the port that port; the
+ * claim (0 the instance's, 1 the host's) and its state; and how many bytes it brings: a packet or TXT. All else is 0. */
+struct kurgashel_trace_event {
+    uint8_t refusal, kind;
+    size_t at;
+    uint64_t time, high, low, port, draw, hold, claim, state;
+    size_t length;
+};
+
+/* The event at an offset, which is 0 or the offset behind another event. Refusal 12, with the offset of the first record that is malformed or cannot stand where it
+ * does, or of the end where one is owed. The events before a refusal stand: a trace whose end is lost can be used. */
+struct kurgashel_trace_event kurgashel_trace_next(const uint8_t *trace, size_t trace_bytes, size_t at);
+
+/* Copies the bytes that the event at an offset brings to `out`, as many as fit, and gives how many they are. */
+size_t kurgashel_trace_bytes(const uint8_t *trace, size_t trace_bytes, size_t at, uint8_t *out, size_t out_bytes);
+
+/* A refusal or 0, and an offset. */
+struct kurgashel_trace_answer {
+    uint8_t refusal;
+    size_t at;
+};
+
+/* Whether a whole trace is read: 12 with the offset, or 0 and its length. */
+struct kurgashel_trace_answer kurgashel_trace_check(const uint8_t *trace, size_t trace_bytes);
+
+/* Writes an event at an offset of `out`, and gives the offset behind it. What is not of its kind is passed over. Refusal 12 for a value that its field cannot hold,
+ * or a kind that there is not, with the offset that its record would have; then 3 where `out` is too small for all of the event. Nothing is written then. */
+struct kurgashel_trace_answer kurgashel_trace_write(uint8_t *out, size_t out_bytes, size_t at, uint8_t kind, uint64_t time, uint64_t high, uint64_t low,
+                                                    uint64_t port, uint64_t draw, uint64_t hold, uint64_t claim, uint64_t state, const uint8_t *bytes,
+                                                    size_t bytes_bytes);
 
 /* ---- the reader */
 

@@ -35,7 +35,7 @@ static struct kurgashel_looked find(uint64_t now, const char *name, size_t len, 
 static const uint8_t ip[4] = { 10, 0, 0, 7 }, ip2[4] = { 10, 0, 0, 8 };
 static void put(size_t i, const char *owner, uint16_t type, const void *rd, size_t len, uint64_t received, uint64_t expiry) {
     memset(st + 1024 * i, 0, 1024); memcpy(st + 1024 * i, owner, LEN); memcpy(st + 1024 * i + 256, rd, len);
-    e[i] = (struct kurgashel_entry){ type, LEN, len, received, expiry };
+    e[i] = (struct kurgashel_entry){ type, LEN, len, received, expiry, 77 };
 }
 static int is(struct kurgashel_taken t, uint8_t refusal, uint32_t turned, uint32_t passed) { return t.refusal == refusal && t.turned_away == turned && t.passed_over == passed; }
 
@@ -51,7 +51,7 @@ static void sizes(void) {
         struct kurgashel_taken t = kurgashel_cache_take(e, k, st, bytes, 1000, 5353, m, n);
         struct kurgashel_looked l = kurgashel_cache_look_up(e, k, st, bytes, 1000, (uint8_t *)NAME, LEN, A, 0);
         if (!fits) { EACH(is(t, 8, 0, 0) && l.refusal == 8 && !l.found && !l.slot && same(), "8, and nothing changes"); continue; }
-        EACH(is(t, 0, 0, 0) && e[0].expiry == 10000 && !l.refusal && l.found && l.slot == 0, "taken and found"); keep();
+        EACH(is(t, 0, 0, 0) && e[0].expiry == 10000 && e[0].ttl == 9 && !l.refusal && l.found && l.slot == 0, "taken and found"); keep();
         EACH(is(kurgashel_cache_take(e, k, st, bytes - 1, 1000, 5353, m, n), 8, 0, 0) && same(), "a store short by one: 8");
         EACH(is(kurgashel_cache_take(e, k, st, bytes + 1, 1000, 5353, m, n), 8, 0, 0) && same(), "a store long by one: 8");
         EACH(kurgashel_cache_look_up(e, k, st, bytes + 1, 1000, (uint8_t *)NAME, LEN, A, 0).refusal == 8, "a lookup in a store long by one: 8");
@@ -71,7 +71,7 @@ static void sizes(void) {
         begin(0x8400); record(1, OTHER, LEN, A, 0x8001, 0, ip, 4); int all = 1;
         for (size_t j = 0; j < k; j++) put(j, OTHER, A, ip, 4, 900, 99000);
         EACH(is(kurgashel_cache_take(e, k, st, bytes, 2000, 5353, m, n), 0, 0, 0), "a flush is accepted");
-        for (size_t j = 0; j < k; j++) all &= e[j].expiry == 3000 && e[j].received == 900;
+        for (size_t j = 0; j < k; j++) all &= e[j].expiry == 3000 && e[j].received == 900 && e[j].ttl == 77;
         EACH(all && e[k].expiry == 0, "a flush reaches every entry, and none past the end");
         e[k - 1].owner = 256; EACH(kurgashel_cache_take(e, k, st, bytes, 2000, 5353, m, n).refusal == 8, "its last entry with a length too great: 8"); e[k - 1].owner = LEN;
         e[k - 1].received = 2001; EACH(kurgashel_cache_take(e, k, st, bytes, 2000, 5353, m, n).refusal == 1, "its last entry received later: 1");
@@ -88,7 +88,7 @@ int main(void) {
     // the 38 bytes of paper 01's announcement
     reset(); begin(0x8400); record(1, NAME, LEN, A, 0x8001, 120, ip, 4);
     expect(n == 38 && is(go(1000, 5353), 0, 0, 0), "announcement taken");
-    expect(e[0].rtype == A && e[0].owner == 12 && e[0].rdata == 4 && e[0].received == 1000 && e[0].expiry == 121000, "its entry");
+    expect(e[0].rtype == A && e[0].owner == 12 && e[0].rdata == 4 && e[0].received == 1000 && e[0].expiry == 121000 && e[0].ttl == 120, "its entry");
     uint8_t slot[1024] = { 0 }; memcpy(slot, NAME, LEN); memcpy(slot + 256, ip, 4);
     expect(!memcmp(st, slot, 1024) && st[1024] == 0, "its slot, unused bytes 0");
     struct kurgashel_looked l = find(1000, NAME, LEN, A, 0); expect(!l.refusal && l.found && l.slot == 0, "found");
@@ -107,26 +107,31 @@ int main(void) {
 
     // refresh: the owner's spelling stays
     begin(0x8400); record(1, UPPER, LEN, A, 1, 10, ip, 4); go(2000, 5353);
-    expect(!memcmp(st, slot, 1024) && e[0].received == 2000 && e[0].expiry == 12000 && e[1].expiry == 0, "refreshed, spelled as first stored");
+    expect(!memcmp(st, slot, 1024) && e[0].received == 2000 && e[0].expiry == 12000 && e[0].ttl == 10 && e[1].expiry == 0, "refreshed, with its TTL, spelled as first stored");
     // other rdata: its own entry
     begin(0x8400); record(1, NAME, LEN, A, 1, 10, ip2, 4); go(2000, 5353);
-    expect(e[1].expiry == 12000 && st[1024 + 259] == 8, "other rdata, another entry");
+    expect(e[1].expiry == 12000 && e[1].ttl == 10 && st[1024 + 259] == 8, "other rdata, another entry");
     l = find(2000, NAME, LEN, A, 1); expect(l.slot == 1 && l.found, "found from slot 1 on");
     // goodbye
     begin(0x8400); record(1, NAME, LEN, A, 1, 0, ip, 4); go(2500, 5353);
-    expect(e[0].expiry == 3500 && e[0].received == 2000 && e[1].expiry == 12000, "a goodbye: at most 1,000 ms more");
+    expect(e[0].expiry == 3500 && e[0].received == 2000 && e[0].ttl == 10 && e[1].expiry == 12000, "a goodbye: at most 1,000 ms more, and the TTL stays");
     go(3000, 5353); expect(e[0].expiry == 3500, "a goodbye lengthens nothing");
-    begin(0x8400); record(1, NAME, LEN, A, 1, 0x80000001u, ip2, 4); go(3000, 5353); expect(e[1].expiry == 4000, "a TTL with its top bit set is a goodbye");
+    begin(0x8400); record(1, NAME, LEN, A, 1, 0x80000001u, ip2, 4); go(3000, 5353); expect(e[1].expiry == 4000 && e[1].ttl == 10, "a TTL with its top bit set is a goodbye");
     keep(); begin(0x8400); record(1, OTHER, LEN, A, 1, 0, ip, 4); expect(is(go(3000, 5353), 0, 0, 0) && same(), "a goodbye of nothing: nothing, no count");
 
     // starred: at 5000, a flush leaves an entry received at 4000 and sets one received at 3999 to expire by 6000
     reset(); put(0, NAME, A, ip, 4, 4000, 99000); put(1, NAME, A, ip2, 4, 3999, 99000); put(2, NAME, PTR, "\0", 1, 1, 99000); put(3, OTHER, A, ip, 4, 1, 99000); put(4, NAME, A, "\1\1\1\1", 4, 1, 5500); put(5, NAME, A, "\2\2\2\2", 4, 1, 5000);
     begin(0x8400); record(1, UPPER, LEN, A, 0x8001, 120, "\11\11\11\11", 4); go(5000, 5353);
     expect(e[0].expiry == 99000, "flush at 5000: received at 4000, left");
-    expect(e[1].expiry == 6000 && e[1].received == 3999, "flush at 5000: received at 3999, expires at 6000");
+    expect(e[1].expiry == 6000 && e[1].received == 3999 && e[1].ttl == 77, "flush at 5000: received at 3999, expires at 6000, and the TTL stays");
     expect(e[2].expiry == 99000, "flush: another type, left"); expect(e[3].expiry == 99000, "flush: another name, left");
     expect(e[4].expiry == 5500, "flush: lengthens nothing");
-    expect(e[5].received == 5000 && e[5].expiry == 125000 && st[5 * 1024 + 256] == 9, "the lowest entry not live takes it");
+    expect(e[5].received == 5000 && e[5].expiry == 125000 && e[5].ttl == 120 && st[5 * 1024 + 256] == 9, "the lowest entry not live takes it");
+    // the TTL that stands in a table that is lent may be any number, and the greatest that is received is kept whole
+    reset(); put(0, NAME, A, ip, 4, 1, 99000); e[0].ttl = UINT64_MAX; begin(0x8400); record(1, NAME, LEN, A, 0x8001, 0, ip2, 4);
+    expect(is(go(5000, 5353), 0, 0, 0) && e[0].expiry == 6000 && e[0].ttl == UINT64_MAX, "any TTL in a table");
+    begin(0x8400); record(1, NAME, LEN, A, 1, 0x7fffffffu, ip, 4); go(5000, 5353);
+    expect(e[0].ttl == 0x7fffffffu && e[0].expiry == 5000 + 1000 * 0x7fffffffull, "the greatest TTL");
     // over-long rdata: passed over after rule 1
     uint8_t txt[770]; memset(txt, 'x', sizeof txt); txt[0] = 255; txt[256] = 255; txt[512] = 255; txt[768] = 0;
     reset(); put(0, NAME, TXT, "\0", 1, 1, 99000); begin(0x8400); record(1, NAME, LEN, TXT, 0x8001, 0, txt, 769);

@@ -23,7 +23,7 @@ static double take(size_t n) {
     static const uint8_t m[] = { 0, 0, 0x84, 0, 0, 0, 0, 1, 0, 0, 0, 0, 4, 'd', 'o', 'c', 'k', 5, 'l', 'o', 'c', 'a', 'l', 0, 0, 1, 0x80, 1, 0, 0, 0, 0x78, 0, 4, 10, 0, 0, 7 };
     double best = 1e9; uint64_t time = 2;
     memset(st, 0, sizeof st);
-    for (size_t i = 0; i < n; i++) { memcpy(st + 1024 * i, "\5booth\5local", 12); st[1024 * i + 256] = 10; e[i] = (struct kurgashel_entry){ 1, 13, 4, 1, 1ull << 50 }; }
+    for (size_t i = 0; i < n; i++) { memcpy(st + 1024 * i, "\5booth\5local", 12); st[1024 * i + 256] = 10; e[i] = (struct kurgashel_entry){ 1, 13, 4, 1, 1ull << 50, 120 }; }
     memcpy(st + 1024 * (n - 1), m + 12, 12); memcpy(st + 1024 * (n - 1) + 256, m + 34, 4); e[n - 1].owner = 12;
     for (int k = 0; k < 9; k++) {
         double a = now();
@@ -35,7 +35,7 @@ static double take(size_t n) {
 int main(void) {
     fill(name, 200, 'b'); fill(shorter, 100, 'b');
     for (size_t n = 64; n <= KURGASHEL_MOST_ENTRIES; n *= 8) {
-        for (size_t i = 0; i < n; i++) { fill(st + 1024 * i, 200, 'c'); e[i] = (struct kurgashel_entry){ 1, 200, 4, 1, 1000000 }; }
+        for (size_t i = 0; i < n; i++) { fill(st + 1024 * i, 200, 'c'); e[i] = (struct kurgashel_entry){ 1, 200, 4, 1, 1000000, 120 }; }
         double none = ask(n, shorter, 100, 28, 20000), all = ask(n, name, 200, 1, 2000);
         printf("%zu entries: lookup, none has the type and length %.3f us; all have both, a middle letter differs %.3f us; ratio %.3f\n", n, none, all, none / all);
     }

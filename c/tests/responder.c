@@ -5,7 +5,7 @@
 #include <string.h>
 
 _Static_assert(sizeof(struct kurgashel_setup) == KURGASHEL_SETUP_BYTES, "the set-up has no padding");
-_Static_assert(sizeof(struct kurgashel_entry) == 24, "an entry's layout");
+_Static_assert(sizeof(struct kurgashel_entry) == 32, "an entry's layout");
 
 static int failed, cases;
 static void expect(int ok, const char *what) { cases++; if (!ok) { failed++; printf("FAILED: %s\n", what); } }

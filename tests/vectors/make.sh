@@ -4,6 +4,11 @@
 set -eu
 here=$(dirname "$0")
 crates=$here/../../crates
-for part in reader txt responder plain truncated unicast changes cache form; do python3 "$here/$part.py"; done > "$crates/console/stdin"
+for part in reader txt responder plain truncated unicast changes cache browser trace proxy form; do python3 "$here/$part.py"; done > "$crates/console/stdin"
 "$1" < "$crates/console/stdin" > "$crates/console/stdout"
 "$(dirname "$1")/packets" | python3 "$here/subsets.py" > "$crates/readings/specs/Subsets.antt"
+# one play, for the player's own test
+if [ -d "$crates/player" ]; then
+    python3 "$here/player.py" > "$crates/player/stdin"
+    "$(dirname "$1")/player" < "$crates/player/stdin" > "$crates/player/stdout"
+fi

@@ -1,4 +1,4 @@
--- The theorems that specs/laws states: Slots, Flush, Found, Whole (found after the whole message), Evict, Counts. Lemmas: Steps, Changes.
+-- The theorems that specs/laws states: Slots, Flush, Found, Whole (found after the whole message), Evict, Counts, Order, Ttl. Lemmas: Steps, Changes.
 pub mod Slots
 pub mod Steps
 pub mod Changes
@@ -8,3 +8,4 @@ pub mod Evict
 pub mod Whole
 pub mod Counts
 pub mod Order
+pub mod Ttl

@@ -6,3 +6,4 @@ pub mod Found
 pub mod Evict
 pub mod Counts
 pub mod Order
+pub mod Ttl

@@ -6,8 +6,8 @@ ghost use Prim.Native.Nat.{_*_};
 ghost use Rattle.wire.specs.rdata.Answers.{startIn};
 ghost use Rattle.cache.specs.entries.Entries.{isLive, slotOf, isOf, liveOf, soon, heardAhead, tooLong};
 
-// "type, lengths, received, expiry"; the times are in milliseconds. The length of rdata has four bytes, so that the entry has no padding and its values are
-// all its bytes.
+// "type, lengths, received, expiry", and "the TTL as received"; the times are in milliseconds, the TTL in seconds. The length of rdata has four bytes and the
+// TTL eight, so that the entry has no padding and its values are all its bytes. No rule reads the TTL: any number may stand in a table that is lent.
 #[repr(C)]
 pub struct Entry {
     pub rtype: u16,
@@ -15,6 +15,7 @@ pub struct Entry {
     pub rdata: u32,
     pub received: u64,
     pub expiry: u64,
+    pub ttl: u64,
 }
 
 // A slot of the table, or that there is none.
@@ -86,6 +87,7 @@ pub fn to_expire(e: Entry, time: u64) -> Entry
         rdata: e.rdata,
         received: e.received,
         expiry: time + 1000,
+        ttl: e.ttl,
     }
 }
 

@@ -45,14 +45,14 @@ module _ (now : ℕ) (h : Heard) (c : Choice) (e : Entry) where
   expires k r is = is ∙ sym (simp (eq-eqb _ _ k))
 
   module _ (a : c .kind ≡ 1 → ⊥) where
-    pub refreshes : c .kind ≡ 2 → refreshed now (h .at .ttl) e ≡ changed now h c e
+    pub refreshes : c .kind ≡ 2 → (r : Entry) → r ≡ refreshed now (h .at .ttl) e → r ≡ changed now h c e
     unfolding changed
-    refreshes k = sym (simp (ne-eqb _ _ a, eq-eqb _ _ k))
+    refreshes k r is = is ∙ sym (simp (ne-eqb _ _ a, eq-eqb _ _ k))
 
     module _ (b : c .kind ≡ 2 → ⊥) where
-      pub fills : c .kind ≡ 3 → entryHeard now h ≡ changed now h c e
+      pub fills : c .kind ≡ 3 → (r : Entry) → r ≡ entryHeard now h → r ≡ changed now h c e
       unfolding changed
-      fills k = sym (simp (ne-eqb _ _ a, ne-eqb _ _ b, eq-eqb _ _ k))
+      fills k r is = is ∙ sym (simp (ne-eqb _ _ a, ne-eqb _ _ b, eq-eqb _ _ k))
 
       pub leaves : (c .kind ≡ 3 → ⊥) → e ≡ changed now h c e
       unfolding changed

@@ -1,8 +1,9 @@
 -- Laws that belong to no one function: calls as steps of a walk, and the lists and numbers that the walks rest on.
-mod Lent
-mod Calls
+pub mod Lent
+pub mod Calls
+mod CallsEntry
 mod Mixed
-mod Scan
+pub mod Scan
 mod Plain
 mod Looking
 mod CallsBytes

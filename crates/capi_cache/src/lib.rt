@@ -5,14 +5,14 @@ ghost use Prim.Native.Nat.{ℕ, _+_, _*_, _<_, _≤_, _^_};
 ghost use mathlib.Core.List.{List};
 ghost use lib.ListN.{length, set, getD};
 ghost use lib.Seq.{sets};
-ghost use Rattle.cache.specs.entries.Entries.{blank};
+ghost use Rattle.cache.specs.entries.Entries.{blank, refreshed};
 ghost use Rattle.cache.specs.declared.entries.Entry.{Entry};
 ghost use Rattle.cache.specs.declared.records.Choice.{Choice};
 ghost use Rattle.cache.specs.entries.Cache.{Cache, slotWith, takeRecords, entriesRefusal, takeIn};
 ghost use Rattle.cache.specs.lookup.Answers.{lookedOf};
 ghost use Rattle.cache.specs.Answers.{takenOf};
 ghost use Rattle.cache.specs.records.Heard.{heardAt};
-ghost use Rattle.cache.specs.records.Taking.{flushedIn, chosenIn, changed, changedIn, keptIn, counting};
+ghost use Rattle.cache.specs.records.Taking.{flushedIn, chosenIn, entryHeard, changed, changedIn, keptIn, counting};
 ghost use Rattle.capi_cache.specs.Refusals.{lateness, worse, ended};
 ghost use Rattle.capi_cache.specs.Numbers.{refusedLook, foundLook, nothingLook, refusedTake, countedTake, takenNumbers, lookedNumbers};
 ghost use Rattle.capi_cache.specs.Cursors.{Fits, Filling, Keeping, Taking, stillAt, beginOf, isMore, nextAt, sectionPast, pastOf, recordsFrom, cacheAt};
@@ -41,7 +41,7 @@ pub struct LookedNumbers {
 }
 
 // How many entries the table has.
-fn entry_count(table: &[Entry]) -> usize
+pub fn entry_count(table: &[Entry]) -> usize
     ensures { λ r. ⌜ r ≡ length (now (table .entry)) ⌝ }
 {
     table.len()
@@ -53,6 +53,31 @@ fn entry_at(table: &[Entry], i: usize) -> Entry
     ensures { λ r. ⌜ r ≡ getD (now (table .entry)) i blank ⌝ }
 {
     table[i]
+}
+
+// An entry of zeros.
+fn blank_entry() -> Entry
+    ensures { λ r. ⌜ r ≡ blank ⌝ }
+{
+    Entry {
+        rtype: 0,
+        owner: 0,
+        rdata: 0,
+        received: 0,
+        expiry: 0,
+        ttl: 0,
+    }
+}
+
+// The entry at `i`, by value; one of zeros past the table's end.
+pub fn entry_or_blank(table: &[Entry], i: usize) -> Entry
+    ensures { λ r. ⌜ r ≡ getD (now (table .entry)) i blank ⌝ }
+{
+    let n = entry_count(table);
+    if i < n {
+        return entry_at(table, i);
+    }
+    blank_entry()
 }
 
 // The entry at `i` is replaced, and the others stay.
@@ -109,7 +134,7 @@ fn at_end(refusal: u8, n: usize) -> u8
 }
 
 // The refusals 1 and 8 that a table's entries give, or 0: a table of any size, dead entries too.
-fn table_refusal(table: &[Entry], time: u64) -> u8
+pub fn table_refusal(table: &[Entry], time: u64) -> u8
     ensures { λ r. ⌜ r ≡ entriesRefusal time (now (table .entry)) ⌝ }
 {
     let n = entry_count(table);
@@ -229,6 +254,37 @@ fn choose(table: &[Entry], store: &[u8], time: u64, message: &[u8], h: Heard) ->
     cache::records::chosen(h, seen)
 }
 
+// Rule 3 on the lowest live equal entry: it has the times and the TTL of the record that is taken now.
+fn refresh_entry(e: Entry, time: u64, ttl: u32) -> Entry
+    requires { ⌜ time ≤ 2 ^ 62 ⌝ }
+    ensures { λ r. ⌜ r ≡ refreshed time ttl e ⌝ }
+{
+    Entry {
+        rtype: e.rtype,
+        owner: e.owner,
+        rdata: e.rdata,
+        received: time,
+        expiry: time + 1000 * ttl as u64,
+        ttl: ttl as u64,
+    }
+}
+
+// The entry of a record that is taken now.
+fn fill_entry(time: u64, h: Heard) -> Entry
+    requires { ⌜ (time ≤ 2 ^ 62) × ((h .at .span .len ≤ 255) × (h .len ≤ 768)) ⌝ }
+    ensures { λ r. ⌜ r ≡ entryHeard time h ⌝ }
+{
+    let f = h.at;
+    Entry {
+        rtype: f.rtype,
+        owner: f.span.len as u16,
+        rdata: h.len as u32,
+        received: time,
+        expiry: time + 1000 * f.ttl as u64,
+        ttl: f.ttl as u64,
+    }
+}
+
 // What a change makes of the entry in its slot.
 fn change_entry(e: Entry, time: u64, h: Heard, c: Choice) -> Entry
     requires { ⌜ (time ≤ 2 ^ 62) × Filling h c ⌝ }
@@ -239,22 +295,10 @@ fn change_entry(e: Entry, time: u64, h: Heard, c: Choice) -> Entry
         return cache::entries::to_expire(e, time);
     }
     if c.kind == cache::records::REFRESH {
-        return Entry {
-            rtype: e.rtype,
-            owner: e.owner,
-            rdata: e.rdata,
-            received: time,
-            expiry: time + 1000 * f.ttl as u64,
-        };
+        return refresh_entry(e, time, f.ttl);
     }
     if c.kind == cache::records::FILL {
-        return Entry {
-            rtype: f.rtype,
-            owner: f.span.len as u16,
-            rdata: h.len as u32,
-            received: time,
-            expiry: time + 1000 * f.ttl as u64,
-        };
+        return fill_entry(time, h);
     }
     e
 }

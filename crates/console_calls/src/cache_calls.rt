@@ -176,7 +176,7 @@ fn look(line: &[u8], table: Table, store: &[u8], text: &mut [u8; 4096]) {
     looked(numbers, table, store, text)
 }
 
-// The answer `slot K TYPE OWNERLEN RDATALEN RECEIVED EXPIRY BYTES`, of an entry and the bytes of its slot.
+// The answer `slot K TYPE OWNERLEN RDATALEN RECEIVED EXPIRY TTL BYTES`, of an entry and the bytes of its slot.
 fn whole(k: usize, e: Entry, slot: &[u8], text: &mut [u8; 4096]) {
     let used = first(text, b"slot");
     let used = crate::output::number(text, used, k as u64);
@@ -185,6 +185,7 @@ fn whole(k: usize, e: Entry, slot: &[u8], text: &mut [u8; 4096]) {
     let used = crate::output::number(text, used, e.rdata as u64);
     let used = crate::output::number(text, used, e.received);
     let used = crate::output::number(text, used, e.expiry);
+    let used = crate::output::number(text, used, e.ttl);
     let used = bytes(text, used, slot);
     finish(text, used);
 }

@@ -2,8 +2,8 @@
 // value, the out buffers are lent: one for what goes to all, one for what goes to the asker. What they are after a line is promised; what is written no
 // contract can say.
 mod changing;
-mod sending;
-mod setup;
+pub mod sending;
+pub mod setup;
 mod showing;
 
 ghost use mathlib.Core.Path.{_≡_};

@@ -67,7 +67,7 @@ fn domain(field: &[u8]) -> [u8; 5]
 }
 
 // The set-up that a line tells.
-fn told(line: &[u8]) -> Setup
+pub fn told(line: &[u8]) -> Setup
     ensures { λ r. ⌜ r ≡ setupTold (now (line .entry)) ⌝ }
 {
     let mut a = [0u8; 4];
@@ -140,7 +140,7 @@ fn is_aaaa(field: &[u8]) -> bool
 }
 
 // Whether a line is of the form of `start`.
-fn is_start(line: &[u8]) -> bool
+pub fn is_start(line: &[u8]) -> bool
     ensures { λ r. ⌜ r ≡ isStart (now (line .entry)) ⌝ }
 {
     if !has_arguments(line, 11) {

@@ -60,7 +60,7 @@ module _ (t : Table) (len : length (t .entries) ≡ 513) (store : List ℕ) (n m
   bytes-lent = take-least (t .room) (length store) store refl m m-is
 
   -- what holds of the parts that were cut holds of what is lent
-  lent : {X : Type 0} (f : List Entry → List ℕ → X) → f (take n (t .entries)) (take m store) ≡ f (lentEntries t) (lentBytes t store)
+  pub lent : {X : Type 0} (f : List Entry → List ℕ → X) → f (take n (t .entries)) (take m store) ≡ f (lentEntries t) (lentBytes t store)
   lent f = λ i. f (entries-lent i) (bytes-lent i)
 
   pub looked : (time : ℕ) (name : List ℕ) (rtype from : ℕ) (r : LookedNumbers)

@@ -36,7 +36,7 @@ pub struct AfterTake {
 }
 
 // The lesser of two numbers.
-fn least(a: usize, b: usize) -> usize
+pub fn least(a: usize, b: usize) -> usize
     ensures { λ r. ⌜ (r ≡ least a b) × ((r ≤ a) × (r ≤ b)) ⌝ }
 {
     if a < b {
@@ -97,6 +97,7 @@ fn unused() -> Entry
         rdata: 0,
         received: 0,
         expiry: 0,
+        ttl: 0,
     }
 }
 

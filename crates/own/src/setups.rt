@@ -136,7 +136,8 @@ fn instance_fits(l: Label) -> bool
     crate::utf8::is_shown(&bytes[..len])
 }
 
-fn service_fits(l: Service) -> bool
+// The rule for a service label with its length.
+pub fn service_fits(l: Service) -> bool
     ensures { λ r. ⌜ r ≡ serviceFits l ⌝ }
 {
     let bytes = l.bytes;
@@ -150,7 +151,8 @@ fn service_fits(l: Service) -> bool
     service_rule(&bytes[..len])
 }
 
-fn protocol_fits(p: [u8; 4]) -> bool
+// The rule for a protocol: one of the two fixed strings.
+pub fn protocol_fits(p: [u8; 4]) -> bool
     ensures { λ r. ⌜ r ≡ protocolFits p ⌝ }
 {
     if wire::expansion::same_bytes(&p, b"_tcp") {
@@ -159,7 +161,8 @@ fn protocol_fits(p: [u8; 4]) -> bool
     wire::expansion::same_bytes(&p, b"_udp")
 }
 
-fn domain_fits(d: [u8; 5]) -> bool
+// The rule for a domain: the fixed string.
+pub fn domain_fits(d: [u8; 5]) -> bool
     ensures { λ r. ⌜ r ≡ domainFits d ⌝ }
 {
     wire::expansion::same_bytes(&d, b"local")

@@ -97,7 +97,7 @@ hostName = 4 ∷ (100 ∷ (111 ∷ (99 ∷ (107 ∷ (5 ∷ (108 ∷ (111 ∷ (99
 
 -- a cache of one entry for the address, received at a time and expiring at 100,000
 unfoldable pub cached : ℕ → Cache
-cached received = atStart (record { rtype = 1; owner = 12; rdata = 4; received = received; expiry = 100000 } ∷ []) (padded 256 hostName ++ address)
+cached received = atStart (record { rtype = 1; owner = 12; rdata = 4; received = received; expiry = 100000; ttl = 100 } ∷ []) (padded 256 hostName ++ address)
 
 -- another address of that name, with the cache flush bit
 unfoldable pub announced : Record

@@ -5,3 +5,4 @@ pub mod Unicast
 pub mod Subsets
 pub mod Labels
 pub mod Changes
+pub mod Ttls

@@ -62,7 +62,7 @@ Starred =
     × (receivedPacket holder (asked A 59) ≡ announcement)
     -- "At 5000, a flush leaves an entry received at 4000, and sets one received at 3999 to expire by 6000."
     × (rule1 5000 announced (cached 4000) .entries ≡ cached 4000 .entries)
-    × (rule1 5000 announced (cached 3999) .entries ≡ record { rtype = 1; owner = 12; rdata = 4; received = 3999; expiry = 6000 } ∷ [])
+    × (rule1 5000 announced (cached 3999) .entries ≡ record { rtype = 1; owner = 12; rdata = 4; received = 3999; expiry = 6000; ttl = 100 } ∷ [])
     -- "Strings "PassReq", "PASSREQ=1": present without value."
     × (lookupOf (112 ∷ (97 ∷ (115 ∷ (115 ∷ (114 ∷ (101 ∷ (113 ∷ [])))))))
     (7 ∷ (80 ∷ (97 ∷ (115 ∷ (115 ∷ (82 ∷ (101 ∷ (113 ∷ (9 ∷ (80 ∷ (65 ∷ (83 ∷ (83 ∷ (82 ∷ (69 ∷ (81 ∷ (61 ∷ (49 ∷ [])))))))))))))))))) []

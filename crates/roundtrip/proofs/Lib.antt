@@ -1,9 +1,9 @@
 -- Theorems: Whole, Puts (with PutCase, calls to which it applies), Composed, OwnPackets, Goodbye, Cases. What they are made of: Names, Sound, Records, Questions, Lists.
 mod Names
-mod Sound
+pub mod Sound
 mod Records
 mod Questions
-mod Lists
+pub mod Lists
 pub mod Whole
 pub mod Puts
 pub mod Composed

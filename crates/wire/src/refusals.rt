@@ -1,5 +1,5 @@
 // The refusal numbers (specification, 'Refusal numbers'): a call that is refused answers the number of the first of its tests that holds, in the order
-// 1, 2, 3, 8, 4, 5, 6, 7, 9, 10, 11. Constants alone.
+// 1, 2, 3, 8, 4, 5, 6, 7, 9, 10, 11, 12, 13. Constants alone.
 // 1: a time above 2^62 ms, or before one that was handed in before.
 pub const TIME: u8 = 1;
 
@@ -32,3 +32,9 @@ pub const LOST: u8 = 10;
 
 // 11: an update less than 6,000 ms after the last.
 pub const TOO_SOON: u8 = 11;
+
+// 12: a trace that breaks the rules, or an event that cannot be written.
+pub const TRACE: u8 = 12;
+
+// 13: a mapped name of more than 255 bytes.
+pub const TOO_LONG: u8 = 13;

@@ -19,6 +19,7 @@ struct Entry {
     rdata: Vec<u8>,
     received: u64,
     expiry: u64,
+    ttl: u32,
 }
 
 pub struct OrdinaryCache {
@@ -41,6 +42,7 @@ pub struct Found<'a> {
     pub rdata: &'a [u8],
     pub received: u64,
     pub expiry: u64,
+    pub ttl: u32,
 }
 
 struct Record<'a> {
@@ -160,7 +162,7 @@ impl OrdinaryCache {
             if record.ttl == 0 {
                 entry.expiry = entry.expiry.min(now + LAST_SECOND);
             } else {
-                (entry.received, entry.expiry) = (now, expiry);
+                (entry.received, entry.expiry, entry.ttl) = (now, expiry, record.ttl);
             }
             return;
         }
@@ -174,7 +176,7 @@ impl OrdinaryCache {
                 entry.owner.extend_from_slice(record.owner);
                 entry.rdata.clear();
                 entry.rdata.extend_from_slice(record.rdata);
-                (entry.received, entry.expiry) = (now, expiry);
+                (entry.received, entry.expiry, entry.ttl) = (now, expiry, record.ttl);
             }
             None => counts.turned_away += 1,
         }
@@ -203,6 +205,7 @@ impl OrdinaryCache {
             rdata: &entry.rdata,
             received: entry.received,
             expiry: entry.expiry,
+            ttl: entry.ttl,
         }))
     }
 }

@@ -54,12 +54,13 @@ fn same_entries(now: u64, proved: &Cache, ordinary: &OrdinaryCache, reference: &
             .map(|found| {
                 found.map(|f| (f.slot, &f.entry.rdata[..], f.entry.received, f.entry.expiry))
             });
-        let ours = proved
-            .look_up(now, &name, rtype, from)
-            .map(|found| found.map(|f| (f.slot, f.rdata, f.received, f.expiry)));
-        let ordinary = ordinary
-            .look_up(now, &name, rtype, from)
-            .map(|found| found.map(|f| (f.slot, f.rdata, f.received, f.expiry)));
+        let ours = proved.look_up(now, &name, rtype, from);
+        let ordinary = ordinary.look_up(now, &name, rtype, from);
+        if let (Ok(ours), Ok(ordinary)) = (&ours, &ordinary) {
+            assert_eq!(ours.map(|f| f.ttl), ordinary.map(|f| f.ttl.into()));
+        }
+        let ours = ours.map(|found| found.map(|f| (f.slot, f.rdata, f.received, f.expiry)));
+        let ordinary = ordinary.map(|found| found.map(|f| (f.slot, f.rdata, f.received, f.expiry)));
         assert_eq!(ordinary, theirs);
         assert_eq!(
             ours.map_err(|refusal| refusal.number()),

@@ -11,12 +11,13 @@ const OWNER_BYTES: usize = 256;
 
 #[repr(C)]
 #[derive(Clone, Copy, Default)]
-struct Entry {
+pub(crate) struct Entry {
     rtype: u16,
     owner: u16,
     rdata: u32,
     received: u64,
-    expiry: u64,
+    pub(crate) expiry: u64,
+    ttl: u64,
 }
 
 #[repr(C)]
@@ -87,6 +88,8 @@ pub struct Found<'a> {
     pub received: u64,
     /// When it expires.
     pub expiry: u64,
+    /// The TTL as received, in seconds. A goodbye or a flush leaves it, and makes only the expiry earlier.
+    pub ttl: u64,
 }
 
 /// A cache, at first empty.
@@ -121,6 +124,11 @@ impl Cache {
     /// How many entries it has.
     pub fn entries(&self) -> usize {
         self.table.len()
+    }
+
+    /// What the browser is lent: the table and the store.
+    pub(crate) fn lent(&self) -> (&[Entry], &[u8]) {
+        (&self.table, &self.store)
     }
 
     /// Takes the records of a response that came from `port`.
@@ -182,6 +190,21 @@ impl Cache {
         Ok(records)
     }
 
+    /// The entry of a slot, if there is one, and the bytes of the slot.
+    pub(crate) fn slot(&self, slot: usize) -> Option<(Entry, &[u8])> {
+        let entry = *self.table.get(slot)?;
+        Some((
+            entry,
+            &self.store[SLOT_BYTES * slot..SLOT_BYTES * (slot + 1)],
+        ))
+    }
+
+    /// The rdata in a slot that there is, of a cache that is not refused.
+    pub(crate) fn rdata(&self, slot: usize) -> &[u8] {
+        let start = SLOT_BYTES * slot + OWNER_BYTES;
+        &self.store[start..start + self.table[slot].rdata as usize]
+    }
+
     fn found(&self, looked: &LookedNumbers) -> Found<'_> {
         let slot = looked.slot;
         let entry = self.table[slot];
@@ -195,6 +218,7 @@ impl Cache {
             rdata: &rdata[..entry.rdata as usize],
             received: entry.received,
             expiry: entry.expiry,
+            ttl: entry.ttl,
         }
     }
 }

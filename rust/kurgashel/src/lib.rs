@@ -1,4 +1,5 @@
-//! A Multicast DNS / DNS-SD responder, cache and TXT reader (RFC 6762, RFC 6763), proved in Rattle and called from Rust.
+//! A Multicast DNS / DNS-SD responder, cache, browser and TXT reader (RFC 6762, RFC 6763), traces of a responder, and the names and records of a discovery
+//! proxy (RFC 8766), proved in Rattle and called from Rust.
 //!
 //! Every call takes any arguments: the library itself tests them, and a refused call changes nothing. There are no sockets and no clock here; times are
 //! milliseconds of a clock that never goes back, and random draws are the caller's.
@@ -19,14 +20,19 @@
 
 #![warn(missing_docs)]
 
+mod browser;
 mod cache;
 mod pairs;
+mod proxy;
 mod reader;
 mod responder;
 mod setup;
+mod trace;
 
+pub use browser::{Browser, BrowserDraws, Instances, Listed};
 pub use cache::{Cache, Found, Taken, MOST_ENTRIES};
 pub use pairs::{txt_lookup, Pair};
+pub use proxy::{Asked, Passed, Proxy};
 pub use reader::{
     message_refusal, name_end, name_length, Data, Message, Name, Nsec, Question, Record, Section,
     Srv, Strings,
@@ -35,13 +41,14 @@ pub use responder::{
     Arrival, Claim, Draws, OutBuffers, Received, Responder, Ticked, OUT_BYTES, PORT, STATE_BYTES,
 };
 pub use setup::{Setup, SETUP_BYTES};
+pub use trace::{trace_check, Event, Events, Line, Player, Recorder, TraceRefusal, Which};
 
 /// Why a call was refused, by the specification's number.
 #[derive(Clone, Copy, Debug, PartialEq, Eq)]
 pub enum Refusal {
     /// 1: a time too late, or before one that is kept.
     Time,
-    /// 2: a draw outside 0..250 (start), or 20..120 or 400..500 (packet received).
+    /// 2: a draw outside 0..250 (start), 20..120 or 400..500 (packet received), or 20..120 or 0..20 (start of a browser).
     Draw,
     /// 3: an out buffer under 1,452 bytes.
     Buffer,
@@ -61,6 +68,10 @@ pub enum Refusal {
     Lost,
     /// 11: an update less than 6,000 ms after the last one.
     TooSoon,
+    /// 12: a trace that breaks the rules, or an event with a value that its field cannot hold ([`TraceRefusal`]).
+    Trace,
+    /// 13: a mapped name of more than 255 bytes.
+    TooLong,
 }
 
 impl Refusal {
@@ -84,7 +95,9 @@ impl Refusal {
             8 => Err(Cache),
             9 => Err(Key),
             10 => Err(Lost),
-            _ => Err(TooSoon),
+            11 => Err(TooSoon),
+            12 => Err(Trace),
+            _ => Err(TooLong),
         }
     }
 }

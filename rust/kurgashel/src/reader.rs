@@ -393,6 +393,25 @@ impl<'a> Message<'a> {
         })
     }
 
+    /// Where the records of a section start, and where their rdata lies.
+    pub(crate) fn places(
+        &self,
+        section: Section,
+    ) -> impl Iterator<Item = (usize, Range<usize>)> + '_ {
+        let index = section as usize + 1;
+        let mut at = self.sections.at[index];
+        (0..self.sections.counts[index]).map_while(move |_| {
+            let r = unsafe { kurgashel_record(self.bytes.as_ptr(), self.bytes.len(), at) };
+            let start = std::mem::replace(&mut at, r.next);
+            r.found.then(|| (start, r.rdata..r.rdata + r.rdata_length))
+        })
+    }
+
+    /// The bytes that were read.
+    pub(crate) fn bytes(&self) -> &'a [u8] {
+        self.bytes
+    }
+
     fn record(&self, r: &RecordAt) -> Option<Record<'a>> {
         let rdata = r.rdata..r.rdata + r.rdata_length;
         Some(Record {

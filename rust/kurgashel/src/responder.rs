@@ -168,7 +168,7 @@ pub struct Ticked {
 }
 
 /// A responder for one instance of a service. It can be copied and stored: its state is plain bytes.
-#[derive(Clone)]
+#[derive(Clone, Debug)]
 pub struct Responder {
     state: [u8; STATE_BYTES],
 }
@@ -344,6 +344,12 @@ impl Responder {
         // SAFETY: the pointer and the length are those of one array, which is only read.
         let next = unsafe { kurgashel_due(self.state.as_ptr(), self.state.len()) };
         next.due.then_some(next.time)
+    }
+
+    /// The time of the last call that was taken, or of the start.
+    pub fn last(&self) -> u64 {
+        let bytes = &self.state[STATE_BYTES - 8..];
+        bytes.iter().fold(0, |n, b| n << 8 | u64::from(*b))
     }
 
     /// How the claim to the instance's name stands.

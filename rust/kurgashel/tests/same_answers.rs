@@ -4,8 +4,8 @@ use std::collections::BTreeMap;
 use std::net::{IpAddr, SocketAddr};
 
 use kurgashel::{
-    txt_lookup, Arrival, Cache, Data, Draws, Message, Name, OutBuffers, Pair, Refusal, Responder,
-    Section, Setup, STATE_BYTES,
+    txt_lookup, Arrival, Asked, Browser, BrowserDraws, Cache, Data, Draws, Message, Name,
+    OutBuffers, Pair, Passed, Proxy, Refusal, Responder, Section, Setup, STATE_BYTES,
 };
 use reference::console::{hex, Console};
 use reference::script::script;
@@ -26,6 +26,9 @@ struct Exported {
     responder: Responder,
     /// None where the console's table has a size of which this crate makes no cache.
     cache: Option<Cache>,
+    /// None before the first set-up: this crate has no proxy then, and no browser before its first start.
+    proxy: Option<Proxy>,
+    browser: Option<Browser>,
     out: Vec<u8>,
     unicast: Vec<u8>,
 }
@@ -124,6 +127,21 @@ fn sent_or_quiet(packet: &[u8]) -> String {
     }
 }
 
+/// What becomes of a record at the proxy.
+fn passed_words(record: Option<Passed>) -> String {
+    match record {
+        None => "left".into(),
+        Some(r) => format!(
+            "record {} {} {} {} {}",
+            hex(r.owner.as_bytes()),
+            r.rtype,
+            r.class,
+            r.ttl,
+            hex(r.rdata())
+        ),
+    }
+}
+
 /// A part of an out buffer, as a line asks for it.
 fn part(word: &str, buffer: &[u8], fields: &[&str]) -> String {
     let at = number(fields[1]) as usize;
@@ -136,6 +154,8 @@ impl Exported {
         Exported {
             responder: blank(),
             cache: Some(Cache::default()),
+            proxy: None,
+            browser: None,
             out: vec![0; 4096],
             unicast: vec![0; 4096],
         }
@@ -221,6 +241,70 @@ impl Exported {
             "table" => {
                 self.cache = sized(&fields);
                 Ok("table".into())
+            }
+            "browse" => {
+                let text = |index: usize| String::from_utf8(bytes(fields[index])).ok();
+                let (service, protocol) = (text(4)?, text(5)?);
+                let draws = BrowserDraws {
+                    first: number(fields[2]),
+                    refresh: number(fields[3]),
+                };
+                // this crate's browsers are of the domain "local", as all are that are not refused
+                if bytes(fields[6]) != b"local" {
+                    return None;
+                }
+                let begun = Browser::start(&service, &protocol, number(fields[1]), draws);
+                begun.map(|browser| {
+                    self.browser = Some(browser);
+                    "browsing".into()
+                })
+            }
+            "ask" => {
+                let (browser, cache) = (self.browser.as_mut()?, self.cache.as_ref()?);
+                let asked = browser.tick(cache, number(fields[1]), &mut self.out[..lent(2)]);
+                asked.map(|asked| match asked.length {
+                    0 => "quiet".into(),
+                    length => format!(
+                        "sent {}{}",
+                        hex(&self.out[..length]),
+                        if asked.more { " more" } else { "" }
+                    ),
+                })
+            }
+            "list" => {
+                let (browser, cache) = (self.browser.as_ref()?, self.cache.as_ref()?);
+                let listed = browser.instances(cache, number(fields[1]));
+                listed.map(|listed| {
+                    let rows: String = listed
+                        .map(|one| format!(" {} {}", one.slot, hex(one.target)))
+                        .collect();
+                    format!("list{}", if rows.is_empty() { " -" } else { &rows })
+                })
+            }
+            "proxy" => Proxy::new(&bytes(fields[1]), &bytes(fields[2])).map(|proxy| {
+                self.proxy = Some(proxy);
+                "proxied".into()
+            }),
+            "question" => {
+                let rtype = u16::try_from(number(fields[2])).ok()?;
+                let asked = self.proxy.as_ref()?.question(&bytes(fields[1]), rtype);
+                asked.map(|asked| match asked {
+                    Asked::Name(name) => format!("ask {}", hex(name.as_bytes())),
+                    Asked::Negative => "negative".into(),
+                })
+            }
+            "answer" => {
+                let [rtype, class] = [2, 3].map(|index| u16::try_from(number(fields[index])));
+                let ttl = u32::try_from(number(fields[4])).ok()?;
+                let (owner, rdata) = (bytes(fields[1]), bytes(fields[5]));
+                let proxy = self.proxy.as_ref()?;
+                let record = proxy.plain_record(&owner, rtype.ok()?, class.ok()?, ttl, &rdata);
+                record.map(passed_words)
+            }
+            "cached" => {
+                let (proxy, cache) = (self.proxy.as_ref()?, self.cache.as_ref()?);
+                let record = proxy.cached(number(fields[1]), cache, number(fields[2]) as usize);
+                record.map(passed_words)
             }
             "read" => Message::read(&bytes(fields[1])).map(|message| read_words(&message)),
             "txt" => {
@@ -406,6 +490,13 @@ fn the_reference_program_answers_alike() {
         "put cached",
         "look slot",
         "table table",
+        "browse browsing",
+        "ask sent",
+        "ask quiet",
+        "list list",
+        "proxy proxied",
+        "question ask",
+        "answer record",
         "txt value",
         "read message",
     ] {

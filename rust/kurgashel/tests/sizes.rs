@@ -54,9 +54,14 @@ fn sizes() {
         assert_eq!(cache.look_up(1000, NAME, A, entries), Ok(None));
         assert_eq!(cache.look_up(1000, NAME, A, usize::MAX), Ok(None));
         assert_eq!(cache.all(1000, NAME, A).unwrap().len(), entries);
-        // a flush reaches every entry; the one that says it is refreshed
-        let flush = response(FLUSH, 120, &[address(0)]);
+        // a flush reaches every entry; the one that says it is refreshed, and has its TTL
+        let flush = response(FLUSH, 60, &[address(0)]);
         assert_eq!(cache.take(2001, PORT, &flush), turned_away(0));
+        let ttl = |slot| cache.look_up(2001, NAME, A, slot).unwrap().unwrap().ttl;
+        assert_eq!(
+            (0..entries).map(ttl).sum::<u64>(),
+            120 * entries as u64 - 60
+        );
         assert_eq!(cache.all(3000, NAME, A).unwrap().len(), entries);
         assert_eq!(cache.all(3001, NAME, A).unwrap().len(), 1);
         assert_eq!(
@@ -75,6 +80,7 @@ struct Entry {
     rdata: u32,
     received: u64,
     expiry: u64,
+    ttl: u64,
 }
 
 #[repr(C)]

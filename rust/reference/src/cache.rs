@@ -24,6 +24,8 @@ pub struct Entry {
     pub rdata: Vec<u8>,
     pub received: u64,
     pub expiry: u64,
+    /// "the TTL as received", in seconds
+    pub ttl: u64,
 }
 
 /// A table and a store. The store's bytes are kept with the entries; of sizes
@@ -53,11 +55,11 @@ pub struct Found<'a> {
 
 impl Entry {
     /// "Live means expiry after now."
-    fn is_live(&self, now: u64) -> bool {
+    pub fn is_live(&self, now: u64) -> bool {
         self.expiry > now
     }
 
-    fn has(&self, owner: &Name, rtype: u64) -> bool {
+    pub fn has(&self, owner: &Name, rtype: u64) -> bool {
         u64::from(self.rtype) == rtype && self.owner.eq_ignore_ascii_case(owner.wire())
     }
 
@@ -94,6 +96,12 @@ impl Cache {
         &self.entries
     }
 
+    /// Entries that no rule has written, for tests of what is lent.
+    #[cfg(test)]
+    pub fn entries_mut(&mut self) -> &mut [Entry] {
+        &mut self.entries
+    }
+
     /// The length of the store.
     pub fn store(&self) -> usize {
         self.store
@@ -121,7 +129,7 @@ impl Cache {
     }
 
     /// Refusal 1: "time above 2^62, [...] or before any entry's receive time".
-    fn check_time(&self, now: u64) -> Result<(), Refusal> {
+    pub fn check_time(&self, now: u64) -> Result<(), Refusal> {
         if now > MOST_TIME || self.entries.iter().any(|entry| now < entry.received) {
             return Err(Refusal::Time);
         }
@@ -179,6 +187,7 @@ impl Cache {
             Some(entry) => {
                 entry.received = now;
                 entry.expiry = expiry;
+                entry.ttl = record.ttl.into();
             }
             None => match self.entries.iter_mut().find(|entry| !entry.is_live(now)) {
                 Some(entry) => {
@@ -188,6 +197,7 @@ impl Cache {
                         rdata: record.rdata.clone(),
                         received: now,
                         expiry,
+                        ttl: record.ttl.into(),
                     }
                 }
                 None => counts.turned_away += 1,

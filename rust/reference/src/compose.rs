@@ -3,17 +3,37 @@
 
 use crate::message::{Question, HEADER};
 use crate::name::Name;
+use crate::responder::LEAST_OUT;
 use crate::setup::{srv_numbers, ClaimName, Data, Kind, OwnRecord, Setup};
 use crate::{class, rtype};
 
 const RESPONSE_FLAGS: u16 = 0x8400;
 const PROBE_FLAGS: u16 = 0;
+const QUERY_FLAGS: u16 = 0;
+const TRUNCATED: u16 = 0x0200;
 /// "ID 0"
 const NO_ID: u16 = 0;
 /// The TTL of a reply to a plain resolver.
 const PLAIN_TTL: u32 = 10;
 const GOODBYE_TTL: u32 = 0;
 const POINTER: u16 = 0xC000;
+/// "until one would pass 1,452 bytes"
+const MOST_QUERY: usize = LEAST_OUT;
+
+/// A PTR record of the cache, as a browser lists it in a query.
+#[derive(Clone, Debug)]
+pub struct KnownAnswer {
+    pub slot: usize,
+    pub owner: Name,
+    pub ttl: u32,
+    pub target: Name,
+}
+
+/// A browser's packet, and the slot of the known answer that did not fit.
+pub struct Query {
+    pub packet: Vec<u8>,
+    pub stopped: Option<usize>,
+}
 
 struct Packet {
     bytes: Vec<u8>,
@@ -85,6 +105,23 @@ impl Packet {
         self.u16(wire_class);
     }
 
+    fn known_answer(&mut self, answer: &KnownAnswer) {
+        self.name(&answer.owner);
+        self.u16(rtype::PTR);
+        self.u16(class::IN);
+        self.bytes.extend(answer.ttl.to_be_bytes());
+        let length_at = self.bytes.len();
+        self.u16(0);
+        self.name(&answer.target);
+        self.set_length(length_at);
+    }
+
+    /// Sets the length of the rdata, which ends here, behind its length field.
+    fn set_length(&mut self, length_at: usize) {
+        let length = (self.bytes.len() - length_at - 2) as u16;
+        self.bytes[length_at..length_at + 2].copy_from_slice(&length.to_be_bytes());
+    }
+
     fn record(&mut self, record: &OwnRecord, wire_class: u16, ttl: u32) {
         self.name(&record.owner);
         self.u16(record.kind.rtype());
@@ -108,8 +145,34 @@ impl Packet {
                 self.bytes.extend(window);
             }
         }
-        let length = (self.bytes.len() - length_at - 2) as u16;
-        self.bytes[length_at..length_at + 2].copy_from_slice(&length.to_be_bytes());
+        self.set_length(length_at);
+    }
+}
+
+/// A question of type PTR and class 1, or none, and known answers "in entry order
+/// until one would pass 1,452 bytes. Then TC is set".
+pub fn query(question: Option<&Name>, known: &[KnownAnswer]) -> Query {
+    let mut packet = Packet::new(NO_ID, QUERY_FLAGS, [question.iter().len(), 0, 0, 0]);
+    if let Some(name) = question {
+        packet.question(name, rtype::PTR, class::IN);
+    }
+    let mut listed: u16 = 0;
+    let mut stopped = None;
+    for answer in known {
+        let length = packet.bytes.len();
+        packet.known_answer(answer);
+        if packet.bytes.len() > MOST_QUERY {
+            packet.bytes.truncate(length);
+            packet.bytes[2..4].copy_from_slice(&TRUNCATED.to_be_bytes());
+            stopped = Some(answer.slot);
+            break;
+        }
+        listed += 1;
+    }
+    packet.bytes[6..8].copy_from_slice(&listed.to_be_bytes());
+    Query {
+        packet: packet.bytes,
+        stopped,
     }
 }
 

@@ -1,13 +1,18 @@
 //! The line protocol: one line a call, one line an answer.
 
+mod proxy;
+pub mod trace;
+
 use std::fmt::Write;
 
+use crate::browser::Browser;
 use crate::cache::{Cache, Found, MOST_ENTRIES, SLOT};
 use crate::message::{Message, Section};
 use crate::name::Labels;
+use crate::proxy::Proxy;
 use crate::refusal::Refusal;
 use crate::responder::holds::Address;
-use crate::responder::{Arrival, Change, Claim, Outs, Responder, LEAST_OUT};
+use crate::responder::{Arrival, Change, Claim, Outs, Responder, Sent, LEAST_OUT};
 use crate::setup::Setup;
 use crate::txt::{self, Answer, Source};
 
@@ -18,10 +23,13 @@ const FIRST_ENTRIES: usize = 64;
 /// One entry more than is legal can be had, to be refused.
 const MOST_TABLE: usize = MOST_ENTRIES + 1;
 
-/// One responder, one cache and two out buffers.
+/// One responder, one cache, one browser and one proxy of it, and two out buffers.
 pub struct Console {
     pub responder: Responder,
     pub cache: Cache,
+    pub browser: Browser,
+    /// None before the first that is not refused.
+    proxy: Option<Proxy>,
     out: Vec<u8>,
     /// The second buffer, of packets by unicast.
     unicast: Vec<u8>,
@@ -134,7 +142,7 @@ pub fn hex(bytes: &[u8]) -> String {
     text
 }
 
-fn state_word(claim: Claim) -> &'static str {
+pub fn state_word(claim: Claim) -> &'static str {
     match claim {
         Claim::Waiting { .. } => "waiting",
         Claim::Probing { .. } => "probing",
@@ -162,13 +170,24 @@ fn section_word(section: Section) -> &'static str {
     }
 }
 
+/// An answer, or the words for why there is none.
+fn shown(answer: Result<String, Trouble>) -> String {
+    match answer {
+        Ok(answer) => answer,
+        Err(Trouble::BadLine) => "bad line".to_string(),
+        Err(Trouble::Refused(refusal)) => format!("refused {}", refusal.number()),
+    }
+}
+
 impl Default for Console {
     fn default() -> Console {
         Console {
             responder: Responder::default(),
             cache: Cache::new(FIRST_ENTRIES, SLOT * FIRST_ENTRIES),
+            proxy: None,
             out: vec![0; OUT_BUFFER],
             unicast: vec![0; OUT_BUFFER],
+            browser: Browser::default(),
         }
     }
 }
@@ -185,11 +204,7 @@ impl Console {
         } else {
             self.call(Fields::new(line))
         };
-        Some(match answer {
-            Ok(answer) => answer,
-            Err(Trouble::BadLine) => "bad line".to_string(),
-            Err(Trouble::Refused(refusal)) => format!("refused {}", refusal.number()),
-        })
+        Some(shown(answer))
     }
 
     fn call(&mut self, mut fields: Fields) -> Result<String, Trouble> {
@@ -208,8 +223,17 @@ impl Console {
             b"slot" => self.slot(fields),
             b"clear" => self.clear(fields),
             b"table" => self.table(fields),
+            b"browse" => self.browse(fields),
+            b"ask" => self.ask(fields),
+            b"list" => self.list(fields),
             b"txt" => txt_answer(fields),
             b"read" => read(fields),
+            b"trace" => trace::trace_answer(fields),
+            b"record" => trace::record_answer(fields),
+            b"proxy" => self.proxy(fields),
+            b"question" => self.question(fields),
+            b"answer" => self.proxied_answer(fields),
+            b"cached" => self.proxied_entry(fields),
             _ => Err(Trouble::BadLine),
         }
     }
@@ -277,13 +301,18 @@ impl Console {
         let lent = at_most(fields.optional_number(LEAST_OUT as u64)?, OUT_BUFFER)?;
         fields.end()?;
         let sent = self.responder.tick(now, &mut self.out[..lent])?;
-        Ok(match sent {
+        Ok(self.ticked(sent))
+    }
+
+    /// The answer to a tick, of a responder or of a browser.
+    fn ticked(&self, sent: Option<Sent>) -> String {
+        match sent {
             None => "quiet".to_string(),
             Some(sent) => {
                 let more = if sent.more { " more" } else { "" };
                 format!("sent {}{more}", hex(&self.out[..sent.length]))
             }
-        })
+        }
     }
 
     fn stop(&mut self, mut fields: Fields) -> Result<String, Trouble> {
@@ -388,12 +417,13 @@ impl Console {
             .and_then(|slot| self.cache.whole_slot(slot))
             .ok_or(Trouble::BadLine)?;
         Ok(format!(
-            "slot {slot} {} {} {} {} {} {}",
+            "slot {slot} {} {} {} {} {} {} {}",
             entry.rtype,
             entry.owner.len(),
             entry.rdata.len(),
             entry.received,
             entry.expiry,
+            entry.ttl,
             hex(&entry.slot())
         ))
     }
@@ -411,6 +441,38 @@ impl Console {
         fields.end()?;
         self.cache = Cache::new(entries, store);
         Ok("table".to_string())
+    }
+
+    fn browse(&mut self, mut fields: Fields) -> Result<String, Trouble> {
+        let now = fields.number()?;
+        let draw = fields.number()?;
+        let refresh_draw = fields.number()?;
+        let labels = [fields.bytes()?, fields.bytes()?, fields.bytes()?];
+        fields.end()?;
+        self.browser = Browser::start(now, draw, refresh_draw, labels)?;
+        Ok("browsing".to_string())
+    }
+
+    fn ask(&mut self, mut fields: Fields) -> Result<String, Trouble> {
+        let now = fields.number()?;
+        let lent = at_most(fields.optional_number(LEAST_OUT as u64)?, OUT_BUFFER)?;
+        fields.end()?;
+        let sent = self.browser.tick(now, &self.cache, &mut self.out[..lent])?;
+        Ok(self.ticked(sent))
+    }
+
+    /// ` K TARGET` of each, in entry order.
+    fn list(&self, mut fields: Fields) -> Result<String, Trouble> {
+        let now = fields.number()?;
+        fields.end()?;
+        let list = self.browser.list(now, &self.cache)?;
+        if list.is_empty() {
+            return Ok("list -".to_string());
+        }
+        let shown = list
+            .iter()
+            .map(|(slot, target)| format!(" {slot} {}", hex(target.wire())));
+        Ok(format!("list{}", shown.collect::<String>()))
     }
 }
 

@@ -1,17 +1,21 @@
-//! A Multicast DNS / DNS-SD responder, cache and TXT reader, written from
+//! A Multicast DNS / DNS-SD responder, cache, browser and TXT reader, written from
 //! the specification (docs/SPECIFICATION.md), RFC 6762 and RFC 6763. Comments quote the specification.
 
+pub mod browser;
 pub mod cache;
 pub mod compose;
 pub mod console;
 pub mod message;
 pub mod name;
 pub mod order;
+pub mod player;
+pub mod proxy;
 pub mod refusal;
 pub mod responder;
 pub mod script;
 pub mod setup;
 pub mod tally;
+pub mod trace;
 pub mod txt;
 
 /// Record types. The five of the specification are A, PTR, TXT, AAAA and SRV;

@@ -14,6 +14,9 @@ pub enum Refusal {
     Key = 9,
     Lost = 10,
     TooSoon = 11,
+    /// Given with an offset.
+    Trace = 12,
+    NameLength = 13,
 }
 
 impl Refusal {

@@ -21,7 +21,7 @@ use crate::{class, compose, rtype, MDNS_PORT, MOST_TIME};
 
 pub const LEAST_OUT: usize = 1452;
 /// Refusal 1: "a time kept in the state above 2^62 + 2,000"
-const MOST_KEPT_TIME: u64 = MOST_TIME + 2000;
+pub const MOST_KEPT_TIME: u64 = MOST_TIME + 2000;
 const MOST_START_DRAW: u64 = 250;
 const LEAST_REPLY_DRAW: u64 = 20;
 const MOST_REPLY_DRAW: u64 = 120;
@@ -521,7 +521,7 @@ impl Responder {
     }
 }
 
-fn check_out(out: &[u8]) -> Result<(), Refusal> {
+pub fn check_out(out: &[u8]) -> Result<(), Refusal> {
     if out.len() < LEAST_OUT {
         return Err(Refusal::OutBuffer);
     }
@@ -529,7 +529,7 @@ fn check_out(out: &[u8]) -> Result<(), Refusal> {
 }
 
 /// "Out bytes beyond a written packet are also kept."
-fn write(packet: &[u8], out: &mut [u8]) -> usize {
+pub fn write(packet: &[u8], out: &mut [u8]) -> usize {
     out[..packet.len()].copy_from_slice(packet);
     packet.len()
 }

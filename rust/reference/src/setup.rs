@@ -153,6 +153,12 @@ fn is_service_label(label: &[u8]) -> bool {
         && !service.windows(2).any(|pair| pair == b"--")
 }
 
+/// "The next label is exactly "_tcp" or "_udp", and every own name ends in the
+/// label "local"."
+pub fn is_service_name(service: &[u8], protocol: &[u8], domain: &[u8]) -> bool {
+    is_service_label(service) && (protocol == b"_tcp" || protocol == b"_udp") && domain == b"local"
+}
+
 /// The length of the UTF-8 form that `bytes` begin with, by the syntax of RFC
 /// 3629, section 4: no overlong form, no surrogate, nothing past U+10FFFF.
 fn utf8_form(bytes: &[u8]) -> Option<usize> {
@@ -191,9 +197,7 @@ impl Setup {
         (1..=MOST_LABEL).contains(&self.instance.len())
             && can_be_shown(&self.instance)
             && (1..=MOST_LABEL).contains(&self.host.len())
-            && is_service_label(&self.service)
-            && (self.protocol == b"_tcp" || self.protocol == b"_udp")
-            && self.domain == b"local"
+            && is_service_name(&self.service, &self.protocol, &self.domain)
             && (1..=MOST_TXT).contains(&self.txt.len())
             && txt::is_well_formed(&self.txt)
     }

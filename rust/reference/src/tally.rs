@@ -1,10 +1,14 @@
 //! Counts how often each kind of answer came, so that a script of nothing but
 //! refusals shows.
 
+mod proxies;
+mod traces;
+
 use std::collections::{BTreeMap, BTreeSet};
 use std::fmt;
 
 use crate::message::{Message, Record, Section};
+use crate::responder::LEAST_OUT;
 use crate::{class, rtype, MDNS_PORT};
 
 pub struct Tally {
@@ -31,7 +35,13 @@ impl Tally {
             let entries = words.next().and_then(|entries| entries.parse().ok());
             self.entries = entries.expect("a number of entries");
         }
-        let mut kinds = kinds(call, answer, entries_kind(self.entries));
+        let mut kinds = match (call, answer) {
+            ("trace" | "record", answer) if answer != "bad line" => traces::kinds(&line, answer),
+            ("proxy" | "question" | "answer" | "cached", answer) if answer != "bad line" => {
+                proxies::kinds(&line, answer)
+            }
+            _ => kinds(call, answer, entries_kind(self.entries)),
+        };
         if call == "start" && matches!(answer, "started" | "refused 7") {
             let label = line.split(' ').nth(3).unwrap_or_default();
             kinds.push(format!("start {answer} with {}", label_kind(label)));
@@ -50,6 +60,15 @@ impl Tally {
         if matches!(call, "recv" | "put") {
             kinds.extend(other_port(call, &line, answer));
         }
+        self.add(kinds);
+    }
+
+    /// Counts what a player wrote to standard output and standard error.
+    pub fn count_play(&mut self, output: &str, errors: &str) {
+        self.add(traces::player_kinds(output, errors));
+    }
+
+    fn add(&mut self, kinds: Vec<String>) {
         for kind in kinds {
             *self.counts.entry(kind).or_insert(0) += 1;
         }
@@ -181,6 +200,10 @@ fn kinds(call: &str, answer: &str, entries: &str) -> Vec<String> {
             kinds.push("recv sent and unicast".to_string());
             kinds
         }
+        ("ask", ["sent", packet, more @ ..]) => query_kinds(packet, !more.is_empty()),
+        ("list", ["list", "-"]) => vec!["list of none".to_string()],
+        ("list", ["list", _, _]) => vec!["list of 1".to_string()],
+        ("list", ["list", ..]) => vec!["list of several".to_string()],
         (_, ["sent", packet, more @ ..]) => {
             let more = more
                 .iter()
@@ -228,13 +251,20 @@ fn kinds(call: &str, answer: &str, entries: &str) -> Vec<String> {
             kinds
         }
         ("txt", ["value", source, ..]) => vec![format!("txt value {source}")],
-        ("slot", ["slot", _, rtype, ..]) => {
+        ("slot", ["slot", _, rtype, _, _, received, expiry, ttl, _]) => {
             let use_of = match *rtype {
                 "0" => "unused",
                 "47" => "used by NSEC",
                 _ => "used",
             };
-            vec![format!("slot {use_of}")]
+            let mut kinds = vec![format!("slot {use_of}")];
+            let numbers = [received, expiry, ttl].map(|number| number.parse::<u64>());
+            if let [Ok(received), Ok(expiry), Ok(ttl)] = numbers {
+                if expiry - received < 1000 * ttl {
+                    kinds.push("slot with less than its TTL".to_string());
+                }
+            }
+            kinds
         }
         ("read", ["message", _, _, shown @ ..]) => {
             let records = if shown.is_empty() {
@@ -259,6 +289,33 @@ fn kinds(call: &str, answer: &str, entries: &str) -> Vec<String> {
         (_, [first, ..]) => vec![format!("{call} {first}")],
         (_, []) => vec![],
     }
+}
+
+/// The kinds of a browser's packet: a query, or the rest of one, which has no
+/// question; truncated or not, and how long.
+fn query_kinds(packet: &str, more: bool) -> Vec<String> {
+    let message = bytes_of(packet).and_then(|bytes| Message::read(&bytes).ok());
+    let Some(message) = message else {
+        return vec!["ask sent no message".to_string()];
+    };
+    let what = match (message.questions.is_empty(), message.is_truncated()) {
+        (false, false) => "query",
+        (false, true) => "truncated query",
+        (true, false) => "rest",
+        (true, true) => "truncated rest",
+    };
+    let more = if more { " more" } else { "" };
+    let mut kinds = vec![format!("ask sent {what}{more}")];
+    if message.records.is_empty() {
+        kinds.push(format!("ask sent {what} of no known answer"));
+    }
+    if message.records.iter().any(|record| record.ttl == 0) {
+        kinds.push(format!("ask sent {what} with TTL 0"));
+    }
+    if packet.len() == 2 * LEAST_OUT {
+        kinds.push(format!("ask sent {what} of 1,452 bytes"));
+    }
+    kinds
 }
 
 /// The kinds of the names in an answer to `read`, each once.

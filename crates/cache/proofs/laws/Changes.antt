@@ -20,7 +20,7 @@ pub data Change (now : ℕ) (x : Record) (c : Cache) (i : ℕ) (e : Entry) : Typ
   as-was : e ≡ entryAt c i → Change now x c i e
   aged : e ≡ soon now (entryAt c i) → Change now x c i e
   again : equalSlot now x c ≡ At i → (x .ttl ≡ 0 → ⊥) → e ≡ refreshed now (x .ttl) (entryAt c i) → Change now x c i e
-  fresh : freeSlot now c ≡ At i → e ≡ entryFor now x → Change now x c i e
+  fresh : freeSlot now c ≡ At i → (x .ttl ≡ 0 → ⊥) → e ≡ entryFor now x → Change now x c i e
 
 module _ (now : ℕ) (x : Record) (c : Cache) (i : ℕ) (h : i < length (c .entries)) where
   of-goodbye : (s : Slot) → Change now x c i (entryAt (goodbye now c s) i)
@@ -32,14 +32,14 @@ module _ (now : ℕ) (x : Record) (c : Cache) (i : ℕ) (h : i < length (c .entr
       go (inr k) = as-was k
   of-goodbye Nowhere = as-was refl
 
-  of-taken : (s : Slot) → freeSlot now c ≡ s → Change now x c i (entryAt (taken now x c s) i)
-  of-taken (At j) f = go (at-set (c .entries) i j (entryFor now x) h)
+  of-taken : (x .ttl ≡ 0 → ⊥) → (s : Slot) → freeSlot now c ≡ s → Change now x c i (entryAt (taken now x c s) i)
+  of-taken z (At j) f = go (at-set (c .entries) i j (entryFor now x) h)
     where
       go : ((j ≡ i) × (getD (set (c .entries) j (entryFor now x)) i blank ≡ entryFor now x)) ⊎ (getD (set (c .entries) j (entryFor now x)) i blank ≡ entryAt c i)
           → Change now x c i (getD (set (c .entries) j (entryFor now x)) i blank)
-      go (inl k) = fresh (f ∙ ap At (k .0)) (k .1)
+      go (inl k) = fresh (f ∙ ap At (k .0)) z (k .1)
       go (inr k) = as-was k
-  of-taken Nowhere f = as-was refl
+  of-taken z Nowhere f = as-was refl
 
   of-renewed : (x .ttl ≡ 0 → ⊥) → (s : Slot) → equalSlot now x c ≡ s → Change now x c i (entryAt (renewed now x c s) i)
   of-renewed z (At j) f = go (at-set (c .entries) i j (refreshed now (x .ttl) (entryAt c j)) h)
@@ -48,7 +48,7 @@ module _ (now : ℕ) (x : Record) (c : Cache) (i : ℕ) (h : i < length (c .entr
           → Change now x c i (getD (set (c .entries) j (refreshed now (x .ttl) (entryAt c j))) i blank)
       go (inl k) = again (f ∙ ap At (k .0)) z (k .1 ∙ ap (λ (m : ℕ). refreshed now (x .ttl) (entryAt c m)) (k .0))
       go (inr k) = as-was k
-  of-renewed z Nowhere f = of-taken (freeSlot now c) refl
+  of-renewed z Nowhere f = of-taken z (freeSlot now c) refl
 
   pub change : Change now x c i (entryAt (afterRule1 now x c) i)
   unfolding afterRule1 rule23

@@ -93,7 +93,7 @@ module _ (now : ℕ) (x : Record) (c : Cache) (i : ℕ) (h : i < length (c .entr
       go (again f z k) =
           let later : now < now + 1000 * x .ttl = still now (x .ttl) z in
           made now c (afterRule1 now x c) i (refreshed now (x .ttl) (entryAt c i)) k refl refl refl bytes-after (lt-ltb _ _ later)
-      go (fresh f k) = absurd (not-free i f refl)
+      go (fresh f z k) = absurd (not-free i f refl)
 
   rule1-stays : Stays now c (rule1 now x c) i
   unfolding soon

@@ -64,7 +64,7 @@ flush-done now x c cached top i h live old = go (change now x (rule1 now x c) i 
     go (as-was k) = inl (by (entryAt c i) (after-is (soon now (entryAt c i)) (k ∙ flushed-is)))
     go (aged k) = inl (by (entryAt (rule1 now x c) i) (after-is (soon now (entryAt (rule1 now x c) i)) k))
     go (again f z k) = inr (equal-holds now x c i (sym (rule1-equal now x c) ∙ f) .1)
-    go (fresh f k) =
+    go (fresh f z k) =
         let dead : isLive now (entryAt c i) ≡ false = free-dead now c i (sym (rule1-free now x c) ∙ f) .1 in
         let alive : isLive now (entryAt c i) ≡ true = live-first now (c .store) (x .owner) (x .rtype) i (entryAt c i) live .0 in
         let z : _≡_ {A = ℕ} 0 1 = cc in absurd (omega arith)

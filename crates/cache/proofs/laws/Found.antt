@@ -46,16 +46,17 @@ of-again : (now ttl : ℕ) (store name : List ℕ) (rtype i : ℕ) (e : Entry) �
 unfolding isOf
 of-again now ttl store name rtype i e = refl
 
-holds-of : (now : ℕ) (store name : List ℕ) (rtype : ℕ) (d : List ℕ) (i : ℕ) (e : Entry) → holds now store name rtype d i e ≡ true → isOf store name rtype i e ≡ true
+pub holds-of : (now : ℕ) (store name : List ℕ) (rtype : ℕ) (d : List ℕ) (i : ℕ) (e : Entry) → holds now store name rtype d i e ≡ true → isOf store name rtype i e ≡ true
 unfolding holds
 holds-of now store name rtype d i e h = live-first now store name rtype i e (both (liveOf now store name rtype i e) (eqb (e .rdata) (length d) && sameBytes (rdataHeld store i e) d) .0 h .0) .1
 
 module _ (now : ℕ) (x : Record) (c : Cache) (i : ℕ) (owner : length (x .owner) ≤ 255) (rdata : length (x .rdata) ≤ 768) (slots : 1024 * length (c .entries) ≤ length (c .store)) where
-  of-entry : (d : Cache) (e : Entry) → i < length (d .entries) → entryAt d i ≡ e → e .received ≡ now → e .expiry ≡ now + 1000 * x .ttl → isOf (d .store) (x .owner) (x .rtype) i e ≡ true → Entered now x i d
-  of-entry d e h k r y o =
+  of-entry : (d : Cache) (e : Entry) → i < length (d .entries) → entryAt d i ≡ e → e .received ≡ now → e .expiry ≡ now + 1000 * x .ttl → e .ttl ≡ x .ttl → isOf (d .store) (x .owner) (x .rtype) i e ≡ true → Entered now x i d
+  of-entry d e h k r y t o =
       record {
         received = ap (λ (z : Entry). z .received) k ∙ r;
         expiry = ap (λ (z : Entry). z .expiry) k ∙ y;
+        ttl = ap (λ (z : Entry). z .ttl) k ∙ t;
         found = λ t l. look-here t (d .entries) (d .store) (x .owner) (x .rtype) i h (lt-ltb t (entryAt d i .expiry) l) (ap (isOf (d .store) (x .owner) (x .rtype) i) k ∙ o);
       }
 
@@ -64,7 +65,7 @@ module _ (now : ℕ) (x : Record) (c : Cache) (i : ℕ) (owner : length (x .owne
       let same : j ≡ i = cc in
       let h : i < length (c .entries) = free-dead now c i (f ∙ e) .0 in
       let at-i : Entered now x i (taken now x c (At i)) =
-      of-entry (taken now x c (At i)) (entryFor now x) (omega (arith, length-set (c .entries) i (entryFor now x))) (getD-set-same (c .entries) i (entryFor now x) blank h) refl refl
+      of-entry (taken now x c (At i)) (entryFor now x) (omega (arith, length-set (c .entries) i (entryFor now x))) (getD-set-same (c .entries) i (entryFor now x) blank h) refl refl refl
       (of-fresh now x (c .store) i owner rdata (omega arith)) in
       subst (λ (k : ℕ). Entered now x i (taken now x c (At k))) (sym same) at-i
   of-taken Nowhere f e = let z : _≡_ {A = ℕ} 0 1 = cc in absurd (omega arith)
@@ -75,7 +76,7 @@ module _ (now : ℕ) (x : Record) (c : Cache) (i : ℕ) (owner : length (x .owne
       let k = equal-holds now x c i (f ∙ e) in
       let at-i : Entered now x i (renewed now x c (At i)) =
       of-entry (renewed now x c (At i)) (refreshed now (x .ttl) (entryAt c i)) (omega (arith, length-set (c .entries) i (refreshed now (x .ttl) (entryAt c i)), k .0))
-      (getD-set-same (c .entries) i (refreshed now (x .ttl) (entryAt c i)) blank (k .0)) refl refl
+      (getD-set-same (c .entries) i (refreshed now (x .ttl) (entryAt c i)) blank (k .0)) refl refl refl
       (of-again now (x .ttl) (c .store) (x .owner) (x .rtype) i (entryAt c i) ∙ holds-of now (c .store) (x .owner) (x .rtype) (x .rdata) i (entryAt c i) (k .1)) in
       subst (λ (m : ℕ). Entered now x i (renewed now x c (At m))) (sym same) at-i
   of-renewed Nowhere f e = of-taken (freeSlot now c) refl e

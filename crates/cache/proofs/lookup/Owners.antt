@@ -70,7 +70,7 @@ found-numbers now es store name rtype from m h = go (lookRefusal now es store na
 
 -- lookups for which the premises hold: the entry has the owner "A", the name is "a"
 abbrev kept : List Entry
-kept = record { rtype = 1; owner = 3; rdata = 0; received = 0; expiry = 1000 } ∷ []
+kept = record { rtype = 1; owner = 3; rdata = 0; received = 0; expiry = 1000; ttl = 1 } ∷ []
 
 abbrev bytes : List ℕ
 bytes = 1 ∷ 65 ∷ 0 ∷ replicate 1021 0

@@ -180,7 +180,7 @@ module _ (now : ℕ) (p : List ℕ) (at : ℕ) (f : RecordAt) (met : RecordMet p
   fills-slot : (c : Cache) (i : ℕ) → changedCache now p h (change 3 i) c ≡ taken now x c (At i)
   unfolding changedIn changed keptIn counting
   fills-slot c i =
-      ap (λ (n : ℕ). record { entries = set (c .entries) i (record { rtype = f .rtype; owner = n; rdata = h .len; received = now; expiry = entryHeard now h .expiry }); store = taken now x c (At i) .store; turned = c .turned; passed = c .passed }) (met .span)
+      ap (λ (n : ℕ). record { entries = set (c .entries) i (record { rtype = f .rtype; owner = n; rdata = h .len; received = now; expiry = entryHeard now h .expiry; ttl = f .ttl }); store = taken now x c (At i) .store; turned = c .turned; passed = c .passed }) (met .span)
 
   turns-away : (c : Cache) → changedCache now p h (change 4 0) c ≡ taken now x c Nowhere
   unfolding changedIn changed keptIn counting

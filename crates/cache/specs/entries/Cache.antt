@@ -58,7 +58,14 @@ goodbye now c Nowhere = c
 
 -- the entry of a record that is taken now
 abbrev pub entryFor : ℕ → Record → Entry
-entryFor now r = record { rtype = r .rtype; owner = length (r .owner); rdata = length (r .rdata); received = now; expiry = now + 1000 * r .ttl }
+entryFor now r = record {
+  rtype = r .rtype;
+  owner = length (r .owner);
+  rdata = length (r .rdata);
+  received = now;
+  expiry = now + 1000 * r .ttl;
+  ttl = r .ttl;
+}
 
 -- "256 bytes owner, 768 rdata, names expanded, unused bytes 0"
 abbrev pub slotWith : List ℕ → List ℕ → List ℕ

@@ -11,7 +11,7 @@ use Rattle.cache.specs.declared.entries.Entry.{Entry}
 
 -- an entry of zeros
 abbrev pub blank : Entry
-blank = record { rtype = 0; owner = 0; rdata = 0; received = 0; expiry = 0 }
+blank = record { rtype = 0; owner = 0; rdata = 0; received = 0; expiry = 0; ttl = 0 }
 
 -- "slot i of the store at 1,024 times i: 256 bytes owner, 768 rdata"
 abbrev pub slotOf : List ℕ → ℕ → List ℕ
@@ -47,9 +47,9 @@ matches now store name rtype from i e = leb from i && liveOf now store name rtyp
 unfoldable pub holds : ℕ → List ℕ → List ℕ → ℕ → List ℕ → ℕ → Entry → Bool
 holds now store name rtype d i e = liveOf now store name rtype i e && (eqb (e .rdata) (length d) && sameBytes (rdataHeld store i e) d)
 
--- the entry with another expiry
+-- the entry with another expiry: nothing else of it changes, its TTL neither
 abbrev pub until : ℕ → Entry → Entry
-until t e = record { rtype = e .rtype; owner = e .owner; rdata = e .rdata; received = e .received; expiry = t }
+until t e = record { rtype = e .rtype; owner = e .owner; rdata = e .rdata; received = e .received; expiry = t; ttl = e .ttl }
 
 abbrev pub lesser : ℕ → ℕ → ℕ
 lesser a b = cond (leb a b) a b
@@ -66,9 +66,9 @@ isOld now e = ltb (e .received + 1000) now
 unfoldable pub flushed : ℕ → List ℕ → List ℕ → ℕ → ℕ → Entry → Entry
 flushed now store name rtype i e = cond (liveOf now store name rtype i e && isOld now e) (soon now e) e
 
--- rule 3 on an entry: "received now and expiry now plus 1,000 times TTL"
+-- rule 3 on an entry: "received now and expiry now plus 1,000 times TTL", and "the TTL as received"
 abbrev pub refreshed : ℕ → ℕ → Entry → Entry
-refreshed now ttl e = record { rtype = e .rtype; owner = e .owner; rdata = e .rdata; received = now; expiry = now + 1000 * ttl }
+refreshed now ttl e = record { rtype = e .rtype; owner = e .owner; rdata = e .rdata; received = now; expiry = now + 1000 * ttl; ttl = ttl }
 
 -- refusal 1: now "before any entry's receive time"
 abbrev pub heardAhead : ℕ → Entry → Bool

@@ -25,6 +25,7 @@ FoundUntilExpiry x i c = (t : ℕ) → t < entryAt c i .expiry → lookIn t (c .
 pub record Entered (now : ℕ) (x : Record) (i : ℕ) (c : Cache) : Type 0 where
   pub received : entryAt c i .received ≡ now
   pub expiry : entryAt c i .expiry ≡ now + 1000 * x .ttl
+  pub ttl : entryAt c i .ttl ≡ x .ttl
   pub found : FoundUntilExpiry x i c
 
 -- `taken-found`: so it is right after the rules for a record with a TTL that goes to slot i

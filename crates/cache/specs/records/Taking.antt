@@ -28,7 +28,14 @@ chosenIn now store p h es = chosenFrom now store p h es (firstSlot (isSought h) 
 
 -- the entry of a record that is taken now
 abbrev pub entryHeard : ℕ → Heard → Entry
-entryHeard now h = record { rtype = h .at .rtype; owner = h .at .span .len; rdata = h .len; received = now; expiry = now + 1000 * h .at .ttl }
+entryHeard now h = record {
+  rtype = h .at .rtype;
+  owner = h .at .span .len;
+  rdata = h .len;
+  received = now;
+  expiry = now + 1000 * h .at .ttl;
+  ttl = h .at .ttl;
+}
 
 -- what a change makes of the entry in its slot, of the entries, of the store, and of a count
 unfoldable pub changed : ℕ → Heard → Choice → Entry → Entry

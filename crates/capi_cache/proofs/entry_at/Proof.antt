@@ -1,5 +1,5 @@
--- `capi_cache::entry_at` meets its contract: a walk of its MIR, by hand. The place of `table[i]` is 24 bytes past the pointer for each entry before it; the slice is looked into, entry i is taken out of the row, copied whole, and put back.
--- The code has no check of the bound: it is the contract's to ask. That i * 24 does not wrap follows from the room that a slice has.
+-- `capi_cache::entry_at` meets its contract: a walk of its MIR, by hand. The place of `table[i]` is 32 bytes past the pointer for each entry before it; the slice is looked into, entry i is taken out of the row, copied whole, and put back.
+-- The code has no check of the bound: it is the contract's to ask. That i * 32 does not wrap follows from the room that a slice has.
 -- Assumes nothing.
 use mathlib.Core.Path.{refl, sym}
 use Prim.Native.Nat.{ℕ, _<_, _^_, _*_}
@@ -87,22 +87,22 @@ module _ {M : Type 1} (𝓤 : URA M) (H : Heap 𝓤) (A : Atoms 𝓤) (W : Given
         -- [_5; …; _4; …; _3; …; _2; …; _1; …; room for _0; …; the token; what table and i own]
         assigns ! (bin ! (load ! (from ! (stop !)) (look ! 6 refl)) (lit ! tt) (record { fits = in-room })) (from ! (stop !)) (init ! 4 refl (tt, record { fits = in-room })) $
         assigns ! (bin ! (load ! (from ! (fld ! refl (stop !))) (look-in ! 8 (sub ! 0 refl (whole !)))) (load ! (from ! (stop !)) (look ! 4 refl)) tt) (from ! (stop !)) (init ! 2 refl (tt, tt)) $
-        rewrite ! 2 (λ (p : ℕ). ‵ (fat fullShare tyPtr l₄ 0 (vptr b p))) (sym (place-is 24 o i)) refl $
+        rewrite ! 2 (λ (p : ℕ). ‵ (fat fullShare tyPtr l₄ 0 (vptr b p))) (sym (place-is 32 o i)) refl $
         move ! (13 ∷ []) $ fsplit ! $ fsplit ! $ move ! (1 ∷ []) $ fsplit ! $ move ! (16 ∷ []) $ split ! $ move ! (3 ∷ 0 ∷ []) $
         looks-slice ! tt T.the-row (Is T.the-row) (shows 𝓤 H A T.the-row) vals (LL.tells T.the-type T′.the-laws) (LL.copy T.the-type T′.the-copy 𝓤 H A W) ys b o (λ q′.
         elem-out ! T.the-row (Is T.the-row) (shows 𝓤 H A T.the-row) vals (LL.tells T.the-type T′.the-laws) q′ ys i blank b o l (λ g.
         -- [table[i]; what it owns; the others; what shuts; the fractured borrow; true; res; table's fact; i's; _5; …; _4; …; _3; …; _2; …; _1; …; room for _0; …]
         -- the entry's cell, of the row's type, is read at the type that the MIR has, and is of the row's type again after it
-        use1 W (‵ (fat q′ T′.mir b (place 24 o i) mach)) (W .laws .raw-at q′ T′.mir b (place 24 o i) mach) $
+        use1 W (‵ (fat q′ T′.mir b (place 32 o i) mach)) (W .laws .raw-at q′ T′.mir b (place 32 o i) mach) $
         assigns ! (of-opd ! (load ! (from ! (hop ! (look ! 11 refl) (stop !))) (look ! 0 refl))) (from ! (stop !)) (init ! 9 refl (LL.lawful T.the-type T′.the-laws 𝓤 H A W .typed elem _ g .0)) $
         assigns ! (of-opd ! (load ! (from ! (stop !)) (look ! 9 refl))) (from ! (stop !)) (init ! 19 refl (LL.lawful T.the-type T′.the-laws 𝓤 H A W .typed elem _ g .0)) $
-        use1 W (‵ (cellAt q′ (T.the-row .mir) (mach ∷ []) b (place 24 o i))) (W .laws .at-raw q′ T′.mir b (place 24 o i) mach) $
+        use1 W (‵ (cellAt q′ (T.the-row .mir) (mach ∷ []) b (place 32 o i))) (W .laws .at-raw q′ T′.mir b (place 32 o i) mach) $
         elem-back ! T.the-row q′ ys i blank (mach ∷ []) b o l $ shuts-slice ! tt T.the-row q′ ys b o $
         returns ! (look ! 16 refl) $ forget ! 6 refl $ forget ! 8 refl $ forget ! 10 refl $ forget ! 12 refl $ forget ! 14 refl $ forget ! 16 refl $
         move ! (16 ∷ 17 ∷ []) $ free1 ! $ move ! (14 ∷ 15 ∷ []) $ free1 ! $ move ! (12 ∷ 13 ∷ []) $ free1 ! $ move ! (10 ∷ 11 ∷ []) $ free1 ! $ move ! (8 ∷ 9 ∷ []) $ free1 ! $ move ! (6 ∷ 7 ∷ []) $ free1 ! $ free0 ! $
         move ! (3 ∷ 1 ∷ []) $ fjoin ! $ move ! (3 ∷ 0 ∷ []) $ fjoin ! $ move ! (3 ∷ []) $ fsplit ! $ keep ! (3 ∷ 2 ∷ 0 ∷ []) $ by ! (exits g)))))))))
       where
-        in-room : i * 24 < 2 ^ 64
+        in-room : i * 32 < 2 ^ 64
         in-room = omega (arith, room .1, l)
 
 module _ {M : Type 1} (𝓤 : URA M) (H : Heap 𝓤) (A : Atoms 𝓤) (W : Given 𝓤 H A) (mem : Memory → SProp 𝓤) (run : Routine → Fun 𝓤) where

@@ -1,5 +1,5 @@
 -- `capi_cache::put_entry` meets its contract: a walk of its MIR, by hand. The borrow is opened, entry i is taken out of the row and stored to whole, and the borrow is closed at the list with the new entry in it.
--- The code has no check of the bound: it is the contract's to ask. That i * 24 does not wrap follows from the room that a slice has.
+-- The code has no check of the bound: it is the contract's to ask. That i * 32 does not wrap follows from the room that a slice has.
 -- Assumes nothing.
 use mathlib.Core.Path.{refl, sym, ap, subst}
 use Prim.Native.Nat.{ℕ, _<_, _^_, _*_}
@@ -105,15 +105,15 @@ module _ {M : Type 1} (𝓤 : URA M) (H : Heap 𝓤) (A : Atoms 𝓤) (W : Given
         -- [_5; …; _4; …; _3; …; _2; …; _1; …; room for _0; …; the token; what table, i and e own]
         assigns ! (bin ! (load ! (from ! (stop !)) (look ! 6 refl)) (lit ! tt) (record { fits = in-room })) (from ! (stop !)) (init ! 2 refl (tt, record { fits = in-room })) $
         assigns ! (bin ! (load ! (from ! (fld ! refl (stop !))) (look-in ! 8 (sub ! 0 refl (whole !)))) (load ! (from ! (stop !)) (look ! 2 refl)) tt) (from ! (stop !)) (init ! 0 refl (tt, tt)) $
-        rewrite ! 0 (λ (p : ℕ). ‵ (fat fullShare tyPtr l₅ 0 (vptr b p))) (sym (place-is 24 o i)) refl $
+        rewrite ! 0 (λ (p : ℕ). ‵ (fat fullShare tyPtr l₅ 0 (vptr b p))) (sym (place-is 32 o i)) refl $
         -- the borrow is opened, and entry i is taken out
         move ! (13 ∷ []) $ fsplit ! $ fsplit ! $ drop ! $ fsplit ! $ move ! (15 ∷ []) $ split ! $ move ! (2 ∷ 3 ∷ 0 ∷ []) $
         opens-slice ! tt T.the-row ys b o $ elem-out ! T.the-row (Is T.the-row) (shows 𝓤 H A T.the-row) vals (LL.tells T.the-type T′.the-laws) fullShare ys i blank b o l (λ _.
         -- [table[i]; what it owns; the others; the open borrow; obs; auth; true; what i and e own; _5; …; _4; …; _3; …; _2; …; _1; …; room for _0; …]
         -- the entry's cell, of the row's type, is stored to at the type that the MIR has, and is of the row's type again after it
-        use1 W (‵ (fat fullShare T′.mir b (place 24 o i) was)) (W .laws .raw-at fullShare T′.mir b (place 24 o i) was) $
+        use1 W (‵ (fat fullShare T′.mir b (place 32 o i) was)) (W .laws .raw-at fullShare T′.mir b (place 32 o i) was) $
         assigns ! (of-opd ! (load ! (from ! (stop !)) (look ! 12 refl))) (from ! (hop ! (look ! 8 refl) (stop !))) (store ! 0 refl (LL.lawful T.the-type T′.the-laws 𝓤 H A W .typed e _ e-is .0)) $
-        use1 W (‵ (cellAt fullShare (T.the-row .mir) (mach ∷ []) b (place 24 o i))) (W .laws .at-raw fullShare T′.mir b (place 24 o i) mach) $
+        use1 W (‵ (cellAt fullShare (T.the-row .mir) (mach ∷ []) b (place 32 o i))) (W .laws .at-raw fullShare T′.mir b (place 32 o i) mach) $
         move ! (1 ∷ []) $ drop ! $ owned ! T.the-row (Is T.the-row) ((LL.makes T.the-type T′.the-plain) 𝓤 H A) e _ e-is $ move ! (1 ∷ 0 ∷ []) $ elem-put ! T.the-row fullShare ys i e (mach ∷ []) b o l $
         closes-slice ! tt T.the-row ys zs (length-set ys i e) b o $
         -- [obs; the borrow; the token; true; what i and e own; _5; …; _4; …; _3; …; _2; …; _1; …; room for _0; …]
@@ -122,7 +122,7 @@ module _ {M : Type 1} (𝓤 : URA M) (H : Heap 𝓤) (A : Atoms 𝓤) (W : Given
         move ! (15 ∷ 16 ∷ []) $ free1 ! $ move ! (13 ∷ 14 ∷ []) $ free1 ! $ move ! (11 ∷ 12 ∷ []) $ free1 ! $ move ! (9 ∷ 10 ∷ []) $ free1 ! $ move ! (7 ∷ 8 ∷ []) $ free1 ! $ move ! (5 ∷ 6 ∷ []) $ free1 ! $ free0 ! $
         keep ! (0 ∷ 1 ∷ 2 ∷ []) $ by ! (exits room))))))))
       where
-        in-room : i * 24 < 2 ^ 64
+        in-room : i * 32 < 2 ^ 64
         in-room = omega (arith, room .1, l)
 
 module _ {M : Type 1} (𝓤 : URA M) (H : Heap 𝓤) (A : Atoms 𝓤) (W : Given 𝓤 H A) (mem : Memory → SProp 𝓤) (run : Routine → Fun 𝓤) where

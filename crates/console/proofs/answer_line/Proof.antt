@@ -24,7 +24,7 @@ call-requires : tie.Need-call-requires
 call-requires c κs = search needs
 
 returns-4 : tie.Need-returns-4
-returns-4 c = let a = c .before .before .before .before .before .before .before .before .before .before .args in called (a .line .now) (record { held = a .held; store = a .store .now; out = a .out .now; unicast = a .unicast .now }) (λ z. omega arith) (λ z. omega arith) (omega arith) _ _ _ _ (c .call .ensures)
+returns-4 c = let a = c .before .before .before .before .before .before .before .before .before .before .args in called (a .line .now) (record { held = a .held; store = a .store .now; out = a .out .now; unicast = a .unicast .now }) (c .before .before .before .before .before .before .before .before .if1 .left) (c .before .before .before .before .before .before .if2 .left) (c .before .before .before .before .before .if3 .left) _ _ _ _ (c .call .ensures)
 
 pub answer-line-spec : {M : Type 1} → statement M
 answer-line-spec =

@@ -316,7 +316,7 @@ fn numbers_wider_than_a_field_keep_their_meaning() {
 #[test]
 fn tables_of_other_sizes() {
     let mut console = Console::default();
-    let zeros = format!(" 0 0 0 0 0 {}", "00".repeat(1024));
+    let zeros = format!(" 0 0 0 0 0 0 {}", "00".repeat(1024));
     for (line, answer) in [
         ("slot 63", &format!("slot 63{zeros}")[..]),
         ("table 0", "table"),
@@ -379,5 +379,65 @@ fn start_refusals() {
     assert_eq!(
         ask(&mut console, "claims"),
         "0 instance lost - host lost - reply - updated -"
+    );
+}
+
+#[test]
+fn a_browser() {
+    const NAME: &str = "065f766f696365045f746370056c6f63616c00";
+    let mut console = Console::default();
+    let record = format!("{NAME}000c00010000000a000805626f6f7468c00c");
+    let record_again = record.replace("626f6f7468", "424f4f5448");
+    let put = |now: u64, record: &str| format!("put {now} 5353 000084000000000100000000{record}");
+    let query = |count: u8| format!("sent 00000000000100{count:02}00000000{NAME}000c0001");
+    let known = "c00c000c00010000000a000805626f6f7468c00c";
+    for (line, answer) in [
+        ("ask 0".to_string(), "refused 7".to_string()),
+        ("ask 0 1451".to_string(), "refused 3".to_string()),
+        ("list 0".to_string(), "refused 7".to_string()),
+        ("browse 0 19 0 - - -".to_string(), "refused 2".to_string()),
+        (
+            "browse 0 20 0 5f766f696365 5f746370 -".to_string(),
+            "refused 7".to_string(),
+        ),
+        ("ask 0".to_string(), "refused 7".to_string()),
+        (
+            "browse 0 20 0 5f766f696365 5f746370 6c6f63616c".to_string(),
+            "browsing".to_string(),
+        ),
+        ("list 0".to_string(), "list -".to_string()),
+        ("ask 19".to_string(), "quiet".to_string()),
+        ("ask 18".to_string(), "refused 1".to_string()),
+        ("ask 20 4097".to_string(), "bad line".to_string()),
+        ("ask 20".to_string(), query(0)),
+        (put(1020, &record), "cached 0 0".to_string()),
+        (put(1020, &record_again), "cached 0 0".to_string()),
+        (
+            "list 1020".to_string(),
+            format!("list 0 05626f6f7468{NAME}"),
+        ),
+        ("list 1019".to_string(), "refused 1".to_string()),
+        (
+            "ask 1020 4096".to_string(),
+            format!(
+                "{}{known}{}",
+                query(2),
+                known.replace("626f6f7468", "424f4f5448")
+            ),
+        ),
+        ("ask 1020".to_string(), "quiet".to_string()),
+        (
+            "browse 1020 20 21 5f766f696365 5f746370 6c6f63616c".to_string(),
+            "refused 2".to_string(),
+        ),
+        ("ask 3019".to_string(), "quiet".to_string()),
+        ("list 11020".to_string(), "list -".to_string()),
+    ] {
+        assert_eq!(ask(&mut console, &line), answer, "{line}");
+    }
+    let slot = ask(&mut console, "slot 0");
+    assert!(
+        slot.starts_with("slot 0 12 19 25 1020 11020 10 06"),
+        "{slot}"
     );
 }

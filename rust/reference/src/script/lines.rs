@@ -205,6 +205,23 @@ impl Script {
                         b"table 65600",
                         b"table 18446744073709551615",
                         b"tables 1",
+                        b"browse",
+                        b"browse 0 20 0",
+                        b"browse 0 20 0 5f61 5f746370",
+                        b"browse 0 20 0 5f61 5f746370 6c6f63616",
+                        b"browse 0 20 0 5f61 5f746370 6c6f63616c 0",
+                        b"browse 0 20 - 5f61 5f746370 6c6f63616c",
+                        b"Browse 0 20 0 5f61 5f746370 6c6f63616c",
+                        b"browses 0 20 0 5f61 5f746370 6c6f63616c",
+                        b"ask",
+                        b"ask -",
+                        b"ask 0 4097",
+                        b"ask 0 1452 0",
+                        b"asks 0",
+                        b"list",
+                        b"list -",
+                        b"list 0 0",
+                        b"lists 0",
                     ]);
                     self.say(line);
                 }
@@ -228,7 +245,11 @@ impl Script {
             .map(|entry| entry.received);
         let received = received.max().unwrap_or(0);
         let entries = self.model.cache.entries().len();
-        let line = match self.random.below(13) {
+        let asked = self.model.browser.last.max(received);
+        let line = match self.random.below(16) {
+            13 => format!("browse {asked} 20 0 5f766f696365 5f746370 6c6f63616c"),
+            14 => format!("ask {asked} 1452"),
+            15 => format!("list {asked}"),
             10 => format!("stop {last}"),
             11 => format!("update {last} port 80 1452"),
             12 => format!("update {last} txt 0161"),
@@ -253,7 +274,7 @@ impl Script {
     }
 
     /// Breaks the form of a line, most times.
-    fn spoil(&mut self, mut line: Vec<u8>) -> Vec<u8> {
+    pub(super) fn spoil(&mut self, mut line: Vec<u8>) -> Vec<u8> {
         let spaces: Vec<usize> = (0..line.len()).filter(|at| line[*at] == b' ').collect();
         let space = self.random.pick(&spaces);
         match self.random.below(13) {

@@ -131,7 +131,7 @@ impl Script {
     }
 
     /// Any slot, often where the table or the store ends.
-    fn some_slot(&mut self) -> usize {
+    pub(super) fn some_slot(&mut self) -> usize {
         let entries = self.model.cache.entries().len();
         let whole = self.model.cache.store() / SLOT;
         let any = self.random.below(entries + 1);
@@ -145,7 +145,7 @@ impl Script {
         self.random.pick(&[any, edge, 0])
     }
 
-    fn cache_received(&self) -> u64 {
+    pub(super) fn cache_received(&self) -> u64 {
         let received = self
             .model
             .cache
@@ -155,7 +155,7 @@ impl Script {
         received.max().unwrap_or(0)
     }
 
-    fn used_slots(&self) -> Vec<usize> {
+    pub(super) fn used_slots(&self) -> Vec<usize> {
         let entries = self.model.cache.entries().iter().enumerate();
         entries
             .filter(|(_, entry)| entry.expiry != 0)

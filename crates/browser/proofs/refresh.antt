@@ -1,0 +1,5 @@
+pub mod Soonest
+pub mod Thresholds
+pub mod Due
+pub mod Next
+pub mod Once

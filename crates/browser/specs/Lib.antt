@@ -1,0 +1,11 @@
+pub mod service
+pub mod list
+pub mod series
+pub mod refresh
+pub mod known_answers
+pub mod query
+pub mod Calls
+pub mod Steps
+pub mod Runs
+pub mod Waiting
+pub mod Witness

@@ -1,0 +1,4 @@
+-- Laws that belong to no one function.
+pub mod Starts
+pub mod Fronts
+pub mod Tests

@@ -1,0 +1,5 @@
+-- Laws that belong to no one function.
+pub mod Forms
+pub mod Contents
+pub mod Answers
+pub mod Lying

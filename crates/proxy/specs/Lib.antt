@@ -1,0 +1,4 @@
+pub mod domains
+pub mod questions
+pub mod records
+pub mod laws

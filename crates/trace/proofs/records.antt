@@ -1,0 +1,3 @@
+-- Laws of one record.
+pub mod Whole
+pub mod Standing
