@@ -14,83 +14,34 @@ count=${1:-40}
 most=${2:-0}
 [ "$count" -ge 1 ] 2>/dev/null && [ "$count" -le 200 ] && [ "$most" -ge 0 ] 2>/dev/null || { sed -n 2,10p "$0" >&2; exit 2; }
 asker=$((count + 1)) # the browser's machine; the responders' are 1 to count
-net=forty$$
 work=$(mktemp -d)
-running=
-
-skip() { echo "skipped: $*"; exit 0; }
-
-# A machine of the link, with the address 10.78.0.NUMBER.
-make_machine() { # NUMBER
-    ip netns add "$net-$1" || return 1
-    ip -n "$net-$1" link set lo up
-    ip -n "$net-$1" link add wire type veth peer name "to-$1" netns "$net-bridge" || return 1
-    ip -n "$net-$1" addr add "10.78.0.$1/24" dev wire
-    ip -n "$net-$1" link set wire up
-    ip -n "$net-bridge" link set "to-$1" master bridge up
-}
-
-make_link() {
-    ip netns add "$net-bridge" && ip -n "$net-bridge" link add bridge type bridge mcast_snooping 0 && ip -n "$net-bridge" link set bridge up || return 1
-    local number
-    for number in $(seq "$asker"); do make_machine "$number" || return 1; done
-}
-
-stop_responders() {
-    local id
-    for id in $running; do kill "$id" 2>/dev/null; done
-    for id in $running; do wait "$id" 2>/dev/null; done
-    running=
-}
-
-remove_all() {
-    local number
-    stop_responders
-    for number in $(seq "$asker") bridge; do ip netns del "$net-$number" 2>/dev/null; done
-    rm -rf "$work"
-}
+. "$root/tests/machines/machines.sh"
+. "$root/tests/interop/programs.sh"
 
 # As long as an instance's label may be, so that its PTR takes 77 bytes in a list of known answers.
 label() { printf 'Audience booth %03d, third floor, east wing, the big registry..' "$1"; }
 
-start_responder() { # NUMBER PROGRAM
-    timeout -k 2 60 ip netns exec "$net-$1" "$2" --interface "10.78.0.$1" --seconds 50 \
-        --instance "$(label "$1")" --service _voice._tcp --host "dock-$1" --port $((4000 + $1)) >"$work/$1" 2>&1 &
-    running="$running $!"
-}
-
-# Waits until all hold both names.
-all_hold() {
-    local tries=300
-    while [ "$tries" -gt 0 ]; do
-        [ "$(cat "$work"/[0-9]* | grep -c ' held ')" = $((2 * count)) ] && return 0
-        sleep 0.1
-        tries=$((tries - 1))
-    done
-    echo "after 30 s only $(cat "$work"/[0-9]* | grep -c ' held ') of $((2 * count)) names are held"
-    return 1
-}
-
 # Starts all, and has the browser ask them once they hold their names.
 ask_all() { # PROGRAM MOST
     local number status
-    for number in $(seq "$count"); do start_responder "$number" "$1"; done
-    all_hold || return 1
+    for number in $(seq "$count"); do
+        start_on "$number" "$number" "$1" --interface "$(address_of "$number")" --seconds 50 \
+            --instance "$(label "$number")" --service _voice._tcp --host "dock-$number" --port $((4000 + number))
+    done
+    for number in $(seq "$count"); do wait_for 30 "$number" ' held ' 2 || return 1; done
     # their second announcements come a second after the first, and no PTR goes out again within a second
     sleep 2.5
-    timeout -k 2 30 ip netns exec "$net-$asker" python3 "$root/tests/forty_ask.py" "10.78.0.$asker" "$work/labels" "$2"
+    on "$asker" python3 "$root/tests/forty_ask.py" "$(address_of "$asker")" "$work/labels" "$2"
     status=$?
-    stop_responders
+    stop_started
     return "$status"
 }
 
-[ "$(id -u)" = 0 ] || skip "network namespaces need root"
-for command in ip timeout python3 cargo; do command -v "$command" >/dev/null 2>&1 || skip "$command is not installed"; done
-. "$root/tests/interop/programs.sh"
-find_programs || exit 1
 trap remove_all EXIT
-make_link 2>"$work/refused" || skip "a link of network namespaces can't be made here: $(head -n 1 "$work/refused")"
-
+find_tools ip timeout python3 cargo
+make_bridges bridge
+for number in $(seq "$asker"); do make_machine "$number" bridge; done
+find_programs || exit 1
 for number in $(seq "$count"); do label "$number"; echo; done >"$work/labels"
 if [ -n "${BEFORE:-}" ]; then
     [ -x "$BEFORE/responder" ] || { echo "there is no program $BEFORE/responder"; exit 1; }

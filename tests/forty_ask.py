@@ -11,6 +11,8 @@ import struct
 import sys
 import time
 
+from packet import name, read_labels
+
 GROUP, PORT = "224.0.0.251", 5353
 MOST = 1452  # bytes of a packet
 APART = 0.020  # seconds between the packets of one query
@@ -20,12 +22,7 @@ TTL = 4500
 PTR, CLASS_IN = 12, 1
 TC, RESPONSE = 0x0200, 0x8000
 
-
-def name(*labels):
-    return b"".join(bytes([len(label)]) + label for label in labels) + b"\0"
-
-
-SERVICE = name(b"_voice", b"_tcp", b"local")
+SERVICE = name("_voice._tcp.local")
 QUESTION = SERVICE + struct.pack("!HH", PTR, CLASS_IN)
 UNICAST = 0x80  # in the class's first byte: the answer may come by unicast
 TO_SERVICE = b"\xc0\x0c"  # a pointer to what stands right behind the header, always the service's name
@@ -53,19 +50,6 @@ def packet(parts, is_first, is_cut):
     return header + b"".join(parts)
 
 
-def read_name(packet, at):
-    """The labels of a name, and where what follows it begins."""
-    labels, end = [], None
-    while packet[at]:
-        if packet[at] >= 0xC0:
-            end = end or at + 2
-            at = struct.unpack_from("!H", packet, at)[0] & 0x3FFF
-        else:
-            labels.append(packet[at + 1 : at + 1 + packet[at]])
-            at += 1 + packet[at]
-    return labels, end or at + 1
-
-
 def pointers(packet):
     """The instances' labels in the PTR records of a response's Answer section."""
     _, flags, questions, answers, _, _ = struct.unpack_from("!6H", packet)
@@ -73,10 +57,10 @@ def pointers(packet):
         return []
     at, found = 12, []
     for _ in range(answers):
-        _, at = read_name(packet, at)
+        _, at, _ = read_labels(packet, at)
         kind, _, ttl, length = struct.unpack_from("!HHIH", packet, at)
         if kind == PTR and ttl:
-            found.append(read_name(packet, at + 10)[0][0])
+            found.append(read_labels(packet, at + 10)[0][0])
         at += 10 + length
     return found
 

@@ -12,8 +12,6 @@ peers="avahi-daemon avahi-utils dbus python3-zeroconf iproute2 util-linux"
 dig=bind9-dnsutils
 may_install=
 
-skip() { echo "skipped: $*"; exit 0; }
-
 install_peers() {
     export DEBIAN_FRONTEND=noninteractive
     timeout 120 apt-get update >/dev/null 2>&1
@@ -22,9 +20,12 @@ install_peers() {
     timeout 120 apt-get install -y --no-install-recommends $dig >/dev/null 2>&1
 }
 
+. "$root/tests/machines/machines.sh"
+. "$root/tests/machines/avahi.sh"
 . "$root/tests/interop/link.sh"
 . "$root/tests/interop/peers.sh"
 . "$root/tests/interop/resolved.sh"
+. "$root/tests/interop/proxy.sh"
 . "$root/tests/interop/cases.sh"
 . "$root/tests/interop/programs.sh"
 
@@ -42,7 +43,7 @@ find_peers
 find_programs || exit 1
 
 work=$(mktemp -d)
-trap 'stop_all; remove_link; rm -rf "$work"' EXIT
+trap 'remove_all; stop_bus' EXIT
 find_resolved
 make_link
 start_bus

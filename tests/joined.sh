@@ -18,13 +18,12 @@ case ${1:-} in
 *) trials=$1 ;;
 esac
 work=$(mktemp -d)
-. "$root/tests/holders/machines.sh"
+. "$root/tests/holders/holders.sh"
 . "$root/tests/interop/programs.sh"
 
 # The cable is plugged into the lower floor's bridge, and is plugged into the upper one's to join them.
 make_floors() {
-    make_bridge lower
-    make_bridge upper
+    make_bridges lower upper
     ip -n "$net-bridges" link add cable type veth peer name plug
     ip -n "$net-bridges" link set cable master lower up
     ip -n "$net-bridges" link set plug up
@@ -37,14 +36,14 @@ part_floors() { ip -n "$net-bridges" link set plug nomaster; }
 both_hold_ours() {
     start_ours 1
     start_ours 2
-    wait_for 8 dock-1 2 ' held ' && wait_for 8 dock-2 2 ' held ' && sleep 1.5
+    wait_for 8 dock-1 ' held ' 2 && wait_for 8 dock-2 ' held ' 2 && sleep 1.5
 }
 
 both_hold_avahi() {
     start_avahi 1 0
     start_avahi 2 0
     local number
-    for number in 1 2; do wait_for 12 "dock-$number" 2 'startup complete. Host name is dock.local|"Booth 3" .* successfully established' || return 1; done
+    for number in 1 2; do wait_for 12 "dock-$number" 'startup complete. Host name is dock.local|"Booth 3" .* successfully established' 2 || return 1; done
     # its announcements go on for some three seconds
     sleep 3.5
 }
@@ -68,9 +67,9 @@ trial() { # ours|avahi
 }
 
 trap remove_all EXIT
-find_tools
-find_programs || exit 1
+find_tools ip timeout python3 cargo
 make_floors
+find_programs || exit 1
 mkfifo "$work/joined"
 kinds=ours
 [ -n "$short" ] || ! has_avahi || kinds=${KINDS:-ours avahi}

@@ -5,8 +5,7 @@ import sys
 import time
 
 moment = float(sys.argv[1]) / 1000
-time.sleep(max(0, moment - time.time() - 0.005))
-while time.time() < moment:
-    pass
+while (ahead := moment - time.time()) > 0:
+    time.sleep(ahead)
 print(f"begun at {int(time.time() * 1000)}", flush=True)
 os.execvp(sys.argv[2], sys.argv[2:])

@@ -1,9 +1,12 @@
 """The table of tests/joined.sh: TRIALS FOLDER KIND.., where FOLDER has a file trials-KIND of lines: when the floors were joined, in milliseconds after the
 watch's moment, and watch.py's line. Fails where a name of ours has not one holder in the end, or a trial of ours is missing."""
 
-import json
 import pathlib
 import sys
+
+from table import NAMES, mean, most, show, trials_in
+
+HEAD = "name,trials,both hold it: mean,longest,one holder is left: mean,slowest,nobody after 5 s,two after 5 s".split(",")
 
 
 def row(kind, which, told):
@@ -12,32 +15,20 @@ def row(kind, which, told):
     ones = [max(0, each["one"] - joined) for joined, each in told if each["one"] is not None]
     nobody = sum(each["holders"] == 0 for _, each in told)
     more = sum(each["holders"] > 1 for _, each in told)
-    cells = [f"{f(times)}" for times in (twos, ones) for f in (mean, most)]
-    return f"| {kind}, {which} | {len(told)} | {' | '.join(cells)} | {nobody} | {more} |"
-
-
-def mean(times):
-    return f"{sum(times) / len(times):.0f} ms" if times else "-"
-
-
-def most(times):
-    return f"{max(times)} ms" if times else "-"
+    return [f"{kind}, {which}", len(told), mean(twos), most(twos), mean(ones), most(ones), nobody, more]
 
 
 def main():
     trials, folder, *kinds = sys.argv[1:]
-    failed = False
-    print("| name | trials | both hold it: mean | longest | one holder is left: mean | slowest | nobody after 5 s | two after 5 s |")
-    print("|---|---|---|---|---|---|---|---|")
+    failed, rows = False, []
     for kind in kinds:
-        file = pathlib.Path(folder) / f"trials-{kind}"
-        lines = [line.split(" ", 1) for line in file.read_text().splitlines()] if file.exists() else []
-        lines = [(int(joined), json.loads(line)) for joined, line in lines]
+        lines = trials_in(pathlib.Path(folder) / f"trials-{kind}")
         failed |= kind == "ours" and len(lines) != int(trials)
-        for which in ("instance", "host"):
+        for which in NAMES:
             told = [(joined, line[which]) for joined, line in lines]
             failed |= kind == "ours" and any(each["one"] is None for _, each in told)
-            print(row(kind, which, told))
+            rows.append(row(kind, which, told))
+    show(HEAD, rows)
     sys.exit(failed)
 
 

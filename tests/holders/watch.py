@@ -1,9 +1,12 @@
 """Who holds the names? Asks each machine for both every 20 ms, as a plain resolver does, which changes nothing: a machine holds a name while it answers for it.
 
 OWN FILE SECONDS ADDRESS..: the own address, a file in which a moment of the wall clock will stand, in milliseconds since 1970, how long to watch after that
-moment, the machines' addresses. Prints 'watching', and one line of JSON when the time is over. For each of the two names: 'two', the last time at which two or
-more held it; 'one', the time from which on one and the same machine alone held it, up to the end; 'holders', how many hold it at the end. Times are in
-milliseconds after the moment, null where there is none. A machine that answers a question within 100 ms holds the name at the time it was asked."""
+moment, the machines' addresses. Prints 'watching', and one line of JSON when the time is over. For each of the two names: 'first', the first time at which one
+held it; 'two', the last time at which two or more held it; 'one', the time from which on one and the same machine alone held it, up to the end; 'holders', how
+many hold it at the end. Times are in milliseconds after the moment, null where there is none.
+
+A machine that answers a question within 100 ms holds the name at the time it was asked. One that answers within a second is slow, as on a busy machine: it did
+not hold the name then for 'first' and 'two', and did not give it up for 'one' and 'holders'."""
 
 import json
 import pathlib
@@ -13,18 +16,15 @@ import struct
 import sys
 import time
 
+from packet import name
+
 PORT = 5353
-PERIOD, PATIENCE, MOST = 0.020, 0.100, 30
+PERIOD, PROMPT, PATIENCE, MOST = 0.020, 0.100, 1.0, 30
 A, SRV, CLASS_IN = 1, 33, 1
 
-
-def name(*labels):
-    return b"".join(bytes([len(label)]) + label for label in labels) + b"\0"
-
-
 NAMES = {
-    "instance": name(b"Booth 3", b"_voice", b"_tcp", b"local") + struct.pack("!HH", SRV, CLASS_IN),
-    "host": name(b"dock", b"local") + struct.pack("!HH", A, CLASS_IN),
+    "instance": name("Booth 3._voice._tcp.local") + struct.pack("!HH", SRV, CLASS_IN),
+    "host": name("dock.local") + struct.pack("!HH", A, CLASS_IN),
 }
 
 
@@ -34,7 +34,7 @@ def moment_in(file):
 
 
 def watch(own, file, seconds, machines):
-    """The moment, and for each round its time and, for each name, who answered."""
+    """The moment, and for each round its time and, for each name, who answered in time and who late."""
     asker = socket.socket(socket.AF_INET, socket.SOCK_DGRAM)
     asker.bind((own, 0))
     rounds, asked, number = [], {}, 0
@@ -45,31 +45,34 @@ def watch(own, file, seconds, machines):
             end = moment + seconds
         if now >= due and now < end:
             due = max(due + PERIOD, now)
-            rounds.append((now, {which: set() for which in NAMES}))
+            rounds.append((now, {which: (set(), set()) for which in NAMES}))
             for which, question in NAMES.items():
                 for machine in machines:
                     number = number % 65535 + 1
                     asked[number] = (now, rounds[-1][1][which], machine)
                     asker.sendto(struct.pack("!6H", number, 0, 1, 0, 0, 0) + question, (machine, PORT))
-        if select.select([asker], [], [], max(0, min(due, end + PATIENCE) - time.time()))[0]:
+        until = due if due < end else end + PATIENCE
+        if select.select([asker], [], [], max(0, until - time.time()))[0]:
             packet, (source, _) = asker.recvfrom(9000)
-            sent, holders, machine = asked.get(struct.unpack_from("!H", packet)[0], (0, None, None))
-            if machine == source and struct.unpack_from("!H", packet, 6)[0] and time.time() <= sent + PATIENCE:
-                holders.add(machine)
+            sent, answered, machine = asked.get(struct.unpack_from("!H", packet)[0], (0, None, None))
+            waited = time.time() - sent
+            if machine == source and struct.unpack_from("!H", packet, 6)[0] and waited <= PATIENCE:
+                answered[waited > PROMPT].add(machine)
     return moment, rounds
 
 
 def told(rounds, which, moment):
-    after = lambda at: round((at - moment) * 1000)
-    held = [(at, holders[which]) for at, holders in rounds]
-    two = [at for at, holders in held if len(holders) > 1]
-    last, one = held[-1][1], None
+    after = lambda at: round((at - moment) * 1000) if at else None
+    held = [(at, *answered[which]) for at, answered in rounds]
+    first = next((at for at, holders, _ in held if holders), None)
+    two = next((at for at, holders, _ in reversed(held) if len(holders) > 1), None)
+    last, one = held[-1][1] | held[-1][2], None
     if len(last) == 1:
-        for at, holders in reversed(held):
-            if holders != last:
+        for at, holders, late in reversed(held):
+            if holders | late != last:
                 break
-            one = at
-    return {"two": after(two[-1]) if two else None, "one": after(one) if one else None, "holders": len(last)}
+            one = at if holders else one
+    return {"first": after(first), "two": after(two), "one": after(one), "holders": len(last)}
 
 
 def main():

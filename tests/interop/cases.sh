@@ -4,7 +4,8 @@ cases="avahi_finds_us zeroconf_finds_us systemd_finds_us we_find_avahi we_find_z
     yields_the_instance_to_avahi yields_the_host_to_avahi yields_the_instance_to_zeroconf
     keeps_the_instance_against_avahi keeps_the_host_against_avahi keeps_the_instance_against_zeroconf
     dig_is_answered a_reply_as_it_lies no_reply_beyond_the_link
-    a_unicast_answer_as_it_lies the_browser_asks_for_unicast yields_beside_avahi
+    a_unicast_answer_as_it_lies the_browser_asks_all yields_beside_avahi
+    a_client_elsewhere_finds_us avahi_elsewhere_finds_us what_the_proxy_says_itself a_long_answer_by_tcp
     avahi_sees_our_changes zeroconf_sees_our_changes our_browser_sees_our_changes
     two_of_ours_by_chance two_of_ours_in_step"
 
@@ -189,7 +190,7 @@ a_reply_as_it_lies() {
 no_reply_beyond_the_link() {
     local to
     we_hold || return 1
-    ip -n "$link-c" addr replace 10.99.0.3/24 dev wire && ip -n "$link-a" route replace 10.99.0.0/24 dev wire || return 1
+    ip -n "$net-c" addr replace 10.99.0.3/24 dev wire && ip -n "$net-a" route replace 10.99.0.0/24 dev wire || return 1
     for to in 10.77.0.1 224.0.0.251; do
         has "from 10.99.0.3 to $to: $(ask_us 10.99.0.3 $to dock.local 1)" ': no reply$' || return 1
         has "from 10.77.0.3 to $to: $(ask_us 10.77.0.3 $to dock.local 1 | head -n 1)" ': reply from 10\.77\.0\.1 port 5353$' || return 1
@@ -277,23 +278,16 @@ a_unicast_answer_as_it_lies() {
         has "$seen" 'type 12 class 1 ttl 4500'
 }
 
-# Our browser's first query has the bit where it is alone on the port; the answer, which the group doesn't hear, reaches it. Beside Avahi it has not.
-the_browser_asks_for_unicast() {
+# Our browser's questions have no unicast bit, so that all on the link hear the answers, and it finds our instance, also where Avahi has the port.
+the_browser_asks_all() {
     local seen
-    we_hold || return 1
-    start_on b peer "$python" "$root/tests/interop/group_listen.py" 10.77.0.2
+    we_hold && avahi_is_up other || return 1
+    start_on c peer "$python" "$root/tests/interop/group_listen.py" 10.77.0.3
     wait_for 5 peer listening || return 1
-    has "$(on c "$browser" --interface 10.77.0.3 --service $service --count 1 --seconds 8)" '^found +booth$' || return 1
-    seen=$(cat "$work/peer")
-    has "$seen" '^question _voice\._tcp\.local\. type 12 class 1 wants unicast$' && has "$seen" '^question .* type 33 class 1$' || return 1
-    ! grep -E '^record _voice\._tcp\.local\. type 12 ' <<<"$seen" || return 1
-    avahi_is_up other || return 1
-    kill "$last"
-    start_on c peer2 "$python" "$root/tests/interop/group_listen.py" 10.77.0.3
-    wait_for 5 peer2 listening || return 1
     has "$(on b "$browser" --interface 10.77.0.2 --service $service --count 1 --seconds 8)" '^found +booth$' || return 1
-    seen=$(grep -A 1 '^query from 10\.77\.0\.2' "$work/peer2")
-    has "$seen" '^question _voice\._tcp\.local\. type 12 class 1$'
+    seen=$(cat "$work/peer")
+    has "$seen" '^question _voice\._tcp\.local\. type 12 class 1$' && has "$seen" '^question booth\._voice\._tcp\.local\. type 33 class 1$' &&
+        has "$seen" '^record booth\._voice\._tcp\.local\. type 33 ' && ! grep 'wants unicast' <<<"$seen"
 }
 
 # On one machine with Avahi, begun before ours and after it, which is bound to all addresses: what defends a name against our probe is sent to us alone, and
@@ -377,10 +371,6 @@ begin_together() { # OPTIONS...
     start_responder b ours-b --instance booth --service $service --host dock --port 4001 --at $at "$@"
     wait_for 5 ours-a begun && wait_for 5 ours-b begun || return 1
     begun_apart=$(($(begun_at ours-a) - $(begun_at ours-b)))
-}
-
-begun_at() { # FILE
-    sed -nE 's/^begun on .* at ([0-9]+),.*/\1/p' "$work/$1"
 }
 
 # A busy machine may begin one of them late; then they begin anew.

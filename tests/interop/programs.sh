@@ -4,4 +4,5 @@ find_programs() {
     [ -n "${PROGRAMS:-}" ] || { "$root/tools/library" && cargo build --release --quiet --manifest-path "$root/rust/udp/Cargo.toml"; } || return 1
     responder=$folder/responder
     browser=$folder/browser
+    proxy=$folder/proxy
 }

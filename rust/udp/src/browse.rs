@@ -9,3 +9,4 @@ mod wants;
 
 pub use options::{Options, HELP};
 pub use run::run;
+pub use view::is_denied;

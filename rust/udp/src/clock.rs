@@ -25,12 +25,11 @@ pub fn wall() -> u64 {
     since.unwrap_or_default().as_millis() as u64
 }
 
-/// Sleeps until a moment of the wall clock, so that several programs begin in one millisecond.
+/// Sleeps until a moment of the wall clock, so that several programs begin in one millisecond; more of them than there are cores too, so it is never busy.
 pub fn wait_until(moment: u64) {
-    let ahead = moment.saturating_sub(wall());
-    sleep(Duration::from_millis(ahead.saturating_sub(5)));
-    while wall() < moment {
-        std::hint::spin_loop();
+    let moment = UNIX_EPOCH + Duration::from_millis(moment);
+    while let Ok(ahead) = moment.duration_since(SystemTime::now()) {
+        sleep(ahead);
     }
 }
 

@@ -10,6 +10,8 @@ pub const START: RangeInclusive<u64> = 0..=250;
 pub const REPLY: RangeInclusive<u64> = 20..=120;
 /// The wait for the known answers that follow a query in further packets.
 pub const HOLD: RangeInclusive<u64> = 400..=500;
+/// What is added to 80, 85, 90 and 95 percent of a record's life before it is asked for again, in thousandths.
+pub const REFRESH: RangeInclusive<u64> = 0..=20;
 
 pub struct Draws<R = File> {
     source: R,
@@ -48,7 +50,7 @@ mod tests {
 
     #[test]
     fn every_value_of_a_range_comes_up_equally_often() {
-        for range in [START, REPLY, HOLD] {
+        for range in [START, REPLY, HOLD, REFRESH] {
             let mut count = [0; 502];
             for byte in 0..=255 {
                 if let Some(value) = drawn(&[byte], range.clone()) {
@@ -75,5 +77,6 @@ mod tests {
         assert!(START.contains(&draws.within(&START).unwrap()));
         assert!(REPLY.contains(&draws.within(&REPLY).unwrap()));
         assert!(HOLD.contains(&draws.within(&HOLD).unwrap()));
+        assert!(REFRESH.contains(&draws.within(&REFRESH).unwrap()));
     }
 }

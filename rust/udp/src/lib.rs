@@ -8,11 +8,14 @@ pub mod command;
 pub mod draw;
 pub mod link;
 pub mod name;
+pub mod proxy;
 pub mod query;
+pub mod recording;
 pub mod refusal;
 pub mod respond;
 pub mod stop;
 pub mod strings;
+pub mod timeline;
 
 /// Record types that the browser asks for, and NSEC, which says what there is none of.
 pub mod rtype {

@@ -111,18 +111,18 @@ impl Link {
 
     /// The next packet that may be taken, or nothing after a wait of so many milliseconds, at least 1, or where the packet was dropped.
     pub fn receive(&mut self, wait: u64) -> Result<Option<Packet<'_>>, LinkError> {
-        self.receive_unless(wait, None)
+        self.receive_unless(wait, &[])
     }
 
-    /// The same, or nothing as soon as there is something to read from another descriptor.
+    /// The same, or nothing as soon as there is something to read from one of other descriptors.
     pub fn receive_unless(
         &mut self,
         wait: u64,
-        other: Option<BorrowedFd>,
+        others: &[BorrowedFd],
     ) -> Result<Option<Packet<'_>>, LinkError> {
         let failed = LinkError::at(Step::Receive);
         let wait = Duration::from_millis(wait.clamp(1, LONGEST_WAIT));
-        let received = self.next_datagram(wait, other).map_err(&failed)?;
+        let received = self.next_datagram(wait, others).map_err(&failed)?;
         let Some((length, header)) = received else {
             return Ok(None);
         };
@@ -138,14 +138,14 @@ impl Link {
     fn next_datagram(
         &mut self,
         wait: Duration,
-        other: Option<BorrowedFd>,
+        others: &[BorrowedFd],
     ) -> io::Result<Option<(usize, Header)>> {
         let mut sockets: Vec<&UdpSocket> = self.unicast.iter().chain([&self.group]).collect();
         if !self.unicast_next {
             sockets.reverse();
         }
         let descriptors = sockets.iter().map(|socket| socket.as_fd());
-        let descriptors: Vec<_> = descriptors.chain(other).collect();
+        let descriptors: Vec<_> = descriptors.chain(others.iter().copied()).collect();
         let first = pause_is_none(ready::first(&descriptors, wait))?.flatten();
         let Some(socket) = first.and_then(|first| sockets.get(first)) else {
             return Ok(None);

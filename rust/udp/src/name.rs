@@ -84,6 +84,39 @@ pub fn text(name: &[u8]) -> String {
     }
 }
 
+/// The name of a text: labels with dots between them, one dot at the end or none, in which a backslash makes the next character one of the label, or three digits a
+/// byte by its number. Nothing where a label is empty or over 63 bytes, or the name over 255.
+pub fn read(text: &str) -> Option<Vec<u8>> {
+    let mut labels: Vec<Vec<u8>> = vec![Vec::new()];
+    let mut rest = text.bytes();
+    while let Some(byte) = rest.next() {
+        match byte {
+            b'.' => labels.push(Vec::new()),
+            b'\\' => labels.last_mut()?.push(escaped(&mut rest)?),
+            _ => labels.last_mut()?.push(byte),
+        }
+    }
+    if labels.last()?.is_empty() {
+        labels.pop();
+    }
+    let fits = |label: &Vec<u8>| (1..=63).contains(&label.len());
+    let labels: Vec<&[u8]> = labels
+        .iter()
+        .map(|label| fits(label).then_some(&label[..]))
+        .collect::<Option<_>>()?;
+    Some(from_labels(&labels)).filter(|name| name.len() <= 255 && !labels.is_empty())
+}
+
+/// The byte behind a backslash.
+fn escaped(rest: &mut std::str::Bytes) -> Option<u8> {
+    let first = rest.next()?;
+    if !first.is_ascii_digit() {
+        return Some(first);
+    }
+    let digits = [first, rest.next()?, rest.next()?];
+    std::str::from_utf8(&digits).ok()?.parse().ok()
+}
+
 /// "_voice._tcp" as its two labels.
 pub fn service(text: &str) -> Option<(&str, &str)> {
     let (service, protocol) = text.split_once('.')?;
@@ -116,6 +149,31 @@ mod tests {
         assert_eq!(shown("Zäh\u{9b}".as_bytes()), "Zäh\\194\\155");
         assert_eq!(shown(b"a\x1b[2J\n\\\xff"), "a\\027[2J\\010\\092\\255");
         assert_eq!(text(b"\x03a.b\x00"), "a\\.b");
+    }
+
+    #[test]
+    fn a_text_is_read_as_a_name() {
+        let name = from_labels(&[b"a.b\\", b"Zimmer 1", b"\xff9"]);
+        assert_eq!(read("a\\.b\\\\.Zimmer 1.\\2559"), Some(name.clone()));
+        assert_eq!(read(&text(&name)), Some(name));
+        assert_eq!(read("example."), Some(from_labels(&[b"example"])));
+        let long = "x".repeat(63);
+        assert_eq!(read(&long).unwrap().len(), 65);
+        assert!(read(&[&long[..], &long, &long, &long[..61]].join(".")).is_some());
+        let longer = [&long[..], &long, &long, &long[..62]].join(".");
+        for bad in [
+            "",
+            ".",
+            "a..b",
+            ".a",
+            "a\\",
+            "a\\25",
+            "a\\256",
+            &format!("x{long}"),
+            &longer,
+        ] {
+            assert_eq!(read(bad), None, "{bad}");
+        }
     }
 
     #[test]

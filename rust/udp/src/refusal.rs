@@ -25,6 +25,8 @@ fn meaning(refusal: Refusal) -> &'static str {
         Refusal::Key => "a TXT key that is empty or has a byte that keys can't have",
         Refusal::Lost => "the instance's name is lost, so its data can't be changed",
         Refusal::TooSoon => "the last change is less than six seconds ago",
+        Refusal::Trace => "a trace that breaks the rules, or an event that can't be written",
+        Refusal::TooLong => "a name is over 255 bytes in the other domain",
     }
 }
 

@@ -20,14 +20,15 @@ usage: browser --service TYPE [options]
   --help               this text
 
 An instance is shown when its host, port, TXT and an address are known, again when they change, when it says goodbye, and a second later, when it is gone.
-Its first query asks for unicast answers, unless another program on this machine has port 5353.
+It keeps looking: it asks after 1, 2, 4 seconds and so on up to an hour, and again where a record is about to lapse, and tells what it knows already.
 It ends with status 0 when stopped, 1 on an error, and 3 when it showed fewer than --count.
 ";
 
 #[derive(Clone, Debug, Default, PartialEq, Eq)]
 pub struct Options {
-    /// The service's name, uncompressed.
-    pub service: Vec<u8>,
+    /// The labels of the service.
+    pub service: String,
+    pub protocol: String,
     pub interface: Option<Ipv4Addr>,
     pub factory: Vec<u8>,
     /// How many entries the cache has, where it is said.
@@ -46,7 +47,7 @@ impl Options {
         while let Some(option) = arguments.next_option() {
             match option.as_str() {
                 "--help" | "-h" => return Ok(None),
-                "--service" => options.service = service_name(&arguments.text(&option)?)?,
+                "--service" => options.take_service(&arguments.text(&option)?)?,
                 "--interface" => options.interface = Some(arguments.value(&option)?),
                 "--factory" => factory.push(arguments.text(&option)?),
                 "--entries" => options.entries = Some(entries(arguments.value(&option)?)?),
@@ -62,16 +63,13 @@ impl Options {
         options.factory = strings::encode(&factory).ok_or("a TXT string is over 255 bytes")?;
         Ok(Some(options))
     }
-}
 
-fn service_name(text: &str) -> Result<Vec<u8>, String> {
-    let wrong = format!("--service can't be '{text}'; it is such as '_voice._tcp'");
-    let (service, protocol) = name::service(text).ok_or(wrong)?;
-    Ok(name::from_labels(&[
-        service.as_bytes(),
-        protocol.as_bytes(),
-        b"local",
-    ]))
+    fn take_service(&mut self, text: &str) -> Result<(), String> {
+        let wrong = format!("--service can't be '{text}'; it is such as '_voice._tcp'");
+        let (service, protocol) = name::service(text).ok_or(wrong)?;
+        (self.service, self.protocol) = (service.into(), protocol.into());
+        Ok(())
+    }
 }
 
 fn entries(number: usize) -> Result<usize, String> {
@@ -96,7 +94,7 @@ mod tests {
     fn a_command_line() {
         let line = "--service _voice._tcp --interface 127.0.0.1 --factory a=1 --count 2";
         let options = read(line).unwrap().unwrap();
-        assert_eq!(options.service, b"\x06_voice\x04_tcp\x05local\0");
+        assert_eq!((&*options.service, &*options.protocol), ("_voice", "_tcp"));
         assert_eq!(options.interface, Some(Ipv4Addr::LOCALHOST));
         assert_eq!(options.factory, b"\x03a=1");
         assert_eq!((options.count, options.seconds), (Some(2), None));

@@ -3,13 +3,13 @@
 use std::error::Error;
 use std::io::{self, Write};
 
-use kurgashel::Cache;
+use kurgashel::{Browser, BrowserDraws, Cache, OUT_BYTES};
 
 use super::options::Options;
 use super::schedule::Schedule;
 use super::show::{lacking, Screen};
 use super::view::instances;
-use super::wants::{known_pointers, wants};
+use super::wants::wants;
 use crate::clock::Clock;
 use crate::command::End;
 use crate::draw::{self, Draws};
@@ -18,27 +18,33 @@ use crate::query::{compose, Question, Wants};
 use crate::refusal::{text, Tally};
 use crate::stop;
 
-/// How long the browser waits for a packet before it looks at its schedule, in milliseconds.
-const TURN: u64 = 5;
-/// How long after a query that wants them unicast answers are taken (RFC 6762 section 6), in milliseconds.
-const UNICAST: u64 = 2000;
+/// The longest wait for a packet, in milliseconds, so that what lapses is shown soon.
+const LONGEST_WAIT: u64 = 100;
 
 pub fn run(options: &Options) -> Result<End, Box<dyn Error>> {
     let interface = match options.interface {
         Some(interface) => interface,
         None => link::default_interface()?,
     };
-    let first = Draws::open()?.within(&draw::REPLY)?;
+    let mut draws = Draws::open()?;
+    let draws = BrowserDraws {
+        first: draws.within(&draw::REPLY)?,
+        refresh: draws.within(&draw::REFRESH)?,
+    };
+    let link = Link::open(interface, Hears::GroupAlone)?;
+    let clock = Clock::begin();
+    let browser = Browser::start(&options.service, &options.protocol, clock.now(), draws)
+        .map_err(|refusal| format!("the library does not start: {}", text(refusal)))?;
     let mut session = Session {
         options,
-        link: Link::open(interface, Hears::UnicastIfAlone)?,
-        clock: Clock::begin(),
+        link,
+        clock,
+        browser,
         cache: match options.entries {
             Some(entries) => Cache::with_entries(entries)?,
             None => Cache::default(),
         },
-        schedule: Schedule::new(first),
-        begun: None,
+        schedule: Schedule::default(),
         screen: Screen::default(),
         refused: Tally::default(),
         turned_away: 0,
@@ -51,10 +57,11 @@ struct Session<'a> {
     options: &'a Options,
     link: Link,
     clock: Clock,
+    /// Looks for instances.
+    browser: Browser,
     cache: Cache,
+    /// What is asked of the instances that there are.
     schedule: Schedule,
-    /// When the first query went out.
-    begun: Option<u64>,
     screen: Screen,
     refused: Tally,
     turned_away: u64,
@@ -68,15 +75,20 @@ impl Session<'_> {
         let wanted = self.options.count.unwrap_or(usize::MAX);
         while !stop::asked() && self.screen.count() < wanted && self.clock.now() < end {
             self.hear()?;
-            self.ask()?;
+            self.look()?;
+            self.resolve()?;
             self.show()?;
         }
         self.close(wanted)
     }
 
-    /// Waits a little for a packet and has the cache take it.
+    /// Waits for a packet, until something is due, and has the cache take it.
     fn hear(&mut self) -> Result<(), Box<dyn Error>> {
-        let Some(packet) = self.link.receive(TURN)? else {
+        let now = self.clock.now();
+        let due = self.browser.due(&self.cache, now)?;
+        let due = due.min(self.schedule.next().unwrap_or(u64::MAX));
+        let wait = due.saturating_sub(now).min(LONGEST_WAIT);
+        let Some(packet) = self.link.receive(wait)? else {
             return Ok(());
         };
         let (now, source) = (self.clock.now(), packet.header.source);
@@ -95,36 +107,41 @@ impl Session<'_> {
         Ok(())
     }
 
-    /// Sends one query with all questions that are due and fit. The first, when the browser is new on the link, wants unicast answers if they can be heard; no
-    /// later one does (RFC 6762 section 5.4).
-    fn ask(&mut self) -> Result<(), Box<dyn Error>> {
-        let now = self.clock.now();
-        if self.begun.is_some_and(|begun| now > begun + UNICAST) {
-            self.link.hear_group_alone();
+    /// Asks who there is, where the library's browser says that it is time.
+    fn look(&mut self) -> Result<(), Box<dyn Error>> {
+        let mut out = [0; OUT_BYTES];
+        loop {
+            let ticked = self.browser.tick(&self.cache, self.clock.now(), &mut out)?;
+            if ticked.length > 0 {
+                self.link.send(&out[..ticked.length])?;
+            }
+            if !ticked.more {
+                return Ok(());
+            }
         }
-        let service = &self.options.service;
-        let due = self.schedule.due(now, wants(&self.cache, now, service)?);
+    }
+
+    /// Sends one query with all questions about instances that are due and fit. Answers go to all, so that devices which claim one name hear of each other.
+    fn resolve(&mut self) -> Result<(), Box<dyn Error>> {
+        let now = self.clock.now();
+        let due = self
+            .schedule
+            .due(now, wants(&self.cache, now, &self.browser)?);
         if due.is_empty() {
             return Ok(());
         }
         let questions: Vec<Question> = due.iter().map(|want| want.question.clone()).collect();
-        let known = known_pointers(&self.cache, now, service)?;
-        let wants = match self.begun {
-            None if self.link.hears_unicast() => Wants::UnicastToo,
-            _ => Wants::Multicast,
-        };
-        let (packet, asked) = compose(&questions, wants, &known);
+        let (packet, asked) = compose(&questions, Wants::Multicast, &[]);
         for want in due.into_iter().take(asked) {
             self.schedule.mark_asked(now, want);
         }
         self.link.send(&packet)?;
-        self.begun.get_or_insert(now);
         Ok(())
     }
 
     fn show(&mut self) -> Result<(), Box<dyn Error>> {
         let now = self.clock.now();
-        let found = instances(&self.cache, now, &self.options.service)?;
+        let found = instances(&self.cache, now, &self.browser)?;
         for line in self.screen.changes(&found, &self.options.factory) {
             writeln!(io::stdout(), "{line}")?;
         }
@@ -139,7 +156,7 @@ impl Session<'_> {
             "turned away, since all {} entries of the cache are live",
             self.cache.entries()
         );
-        for instance in instances(&self.cache, now, &self.options.service)? {
+        for instance in instances(&self.cache, now, &self.browser)? {
             if let Some(line) = lacking(&instance) {
                 writeln!(out, "{line}")?;
             }

@@ -7,9 +7,8 @@ use super::wants::Want;
 const FIRST_GAP: u64 = 1000;
 const MOST_GAP: u64 = 3_600_000;
 
+#[derive(Default)]
 pub struct Schedule {
-    /// Nothing is asked before this time.
-    first: u64,
     asked: BTreeMap<Want, Turn>,
 }
 
@@ -20,21 +19,16 @@ struct Turn {
 }
 
 impl Schedule {
-    pub fn new(first: u64) -> Schedule {
-        Schedule {
-            first,
-            asked: BTreeMap::new(),
-        }
-    }
-
     /// What is wanted and may be asked now. What is no longer wanted starts over when it is wanted again.
     pub fn due(&mut self, now: u64, wants: Vec<Want>) -> Vec<Want> {
         self.asked.retain(|want, _| wants.contains(want));
         let waits = |want: &Want| self.asked.get(want).is_some_and(|turn| now < turn.due);
-        if now < self.first {
-            return Vec::new();
-        }
         wants.into_iter().filter(|want| !waits(want)).collect()
+    }
+
+    /// When the next may be asked again.
+    pub fn next(&self) -> Option<u64> {
+        self.asked.values().map(|turn| turn.due).min()
     }
 
     pub fn mark_asked(&mut self, now: u64, want: Want) {
@@ -77,13 +71,14 @@ mod tests {
 
     #[test]
     fn gaps_double() {
-        let mut schedule = Schedule::new(50);
-        assert_eq!(times(&mut schedule, 16_000), [50, 1050, 3050, 7050, 15050]);
+        let mut schedule = Schedule::default();
+        assert_eq!(times(&mut schedule, 16_000), [0, 1000, 3000, 7000, 15000]);
+        assert_eq!(schedule.next(), Some(31_000));
     }
 
     #[test]
     fn gaps_end_at_an_hour() {
-        let mut schedule = Schedule::new(0);
+        let mut schedule = Schedule::default();
         let asked = times(&mut schedule, 20_000_000);
         let last = &asked[asked.len() - 2..];
         assert_eq!(last[1] - last[0], MOST_GAP);
@@ -91,7 +86,7 @@ mod tests {
 
     #[test]
     fn what_was_not_wanted_starts_over() {
-        let mut schedule = Schedule::new(0);
+        let mut schedule = Schedule::default();
         schedule.mark_asked(0, want());
         schedule.mark_asked(1000, want());
         assert!(schedule.due(1500, vec![want()]).is_empty());

@@ -2,7 +2,7 @@
 
 use std::net::IpAddr;
 
-use kurgashel::{Cache, Data, Found, Refusal};
+use kurgashel::{Browser, Cache, Data, Found, Refusal};
 
 use crate::rtype;
 
@@ -34,9 +34,9 @@ impl Instance {
 /// A record that was said goodbye for, or that others took the place of, lives for a second more (RFC 6762 sections 10.1 and 10.2).
 const LAST_SECOND: u64 = 1000;
 
-/// Whether a record is in its last second.
-pub fn is_in_last_second(entry: &Found, now: u64) -> bool {
-    entry.expiry - now <= LAST_SECOND
+/// Whether a record that expires then is in its last second.
+pub fn is_in_last_second(expiry: u64, now: u64) -> bool {
+    expiry - now <= LAST_SECOND
 }
 
 /// Of records of which there is one at a time the one that was heard last: what it took the place of lives for a second more.
@@ -44,20 +44,16 @@ pub fn latest<'a>(found: &[Found<'a>]) -> Option<Found<'a>> {
     found.iter().copied().max_by_key(|entry| entry.received)
 }
 
-/// The instances that live PTR records point to, each name once with letters folded.
-pub fn instances(cache: &Cache, now: u64, service: &[u8]) -> Result<Vec<Instance>, Refusal> {
-    let mut instances: Vec<Instance> = Vec::new();
-    for pointer in cache.all(now, service, rtype::PTR)? {
-        let known = |known: &Instance| known.name.eq_ignore_ascii_case(pointer.rdata);
-        if !instances.iter().any(known) {
-            let is_leaving = is_in_last_second(&pointer, now);
-            instances.push(Instance {
-                is_leaving,
-                ..instance(cache, now, pointer.rdata)?
-            });
-        }
-    }
-    Ok(instances)
+/// The instances on the browser's list.
+pub fn instances(cache: &Cache, now: u64, browser: &Browser) -> Result<Vec<Instance>, Refusal> {
+    let listed = browser.instances(cache, now)?;
+    let instances = listed.map(|listed| {
+        Ok(Instance {
+            is_leaving: is_in_last_second(listed.expiry, now),
+            ..instance(cache, now, listed.target)?
+        })
+    });
+    instances.collect()
 }
 
 fn instance(cache: &Cache, now: u64, name: &[u8]) -> Result<Instance, Refusal> {
@@ -122,11 +118,22 @@ fn address(rtype: u16, rdata: &[u8]) -> Option<IpAddr> {
 
 #[cfg(test)]
 pub mod tests {
+    use kurgashel::BrowserDraws;
+
     use super::*;
     use crate::name::from_labels;
 
     pub fn service_name() -> Vec<u8> {
         from_labels(&[b"_voice", b"_tcp", b"local"])
+    }
+
+    /// A browser for that service, begun at time 0.
+    pub fn browser() -> Browser {
+        let draws = BrowserDraws {
+            first: 20,
+            refresh: 0,
+        };
+        Browser::start("_voice", "_tcp", 0, draws).unwrap()
     }
 
     pub fn instance_name() -> Vec<u8> {
@@ -172,7 +179,7 @@ pub mod tests {
         let new = (instance_name(), rtype::TXT, 4500, b"\x06room=4".to_vec());
         hear(&mut cache, 5000, 0x80, &[new]);
         for now in [5000, 5999, 6000] {
-            let found = &instances(&cache, now, &service_name()).unwrap()[0];
+            let found = &instances(&cache, now, &browser()).unwrap()[0];
             assert_eq!(found.txt.as_deref(), Some(&b"\x06room=4"[..]), "{now}");
         }
     }
@@ -180,11 +187,11 @@ pub mod tests {
     #[test]
     fn a_goodbye_is_seen_at_once() {
         let mut cache = heard(&[(service_name(), rtype::PTR, 4500, instance_name())]);
-        assert!(!instances(&cache, 4999, &service_name()).unwrap()[0].is_leaving);
+        assert!(!instances(&cache, 4999, &browser()).unwrap()[0].is_leaving);
         let goodbye = (service_name(), rtype::PTR, 0, instance_name());
         hear(&mut cache, 5000, 0, &[goodbye]);
-        assert!(instances(&cache, 5000, &service_name()).unwrap()[0].is_leaving);
-        assert!(instances(&cache, 6000, &service_name()).unwrap().is_empty());
+        assert!(instances(&cache, 5000, &browser()).unwrap()[0].is_leaving);
+        assert!(instances(&cache, 6000, &browser()).unwrap().is_empty());
     }
 
     #[test]
@@ -196,7 +203,7 @@ pub mod tests {
             (host_name(), rtype::A, 120, vec![10, 0, 0, 8]),
             (host_name(), rtype::A, 120, vec![10, 0, 0, 7]),
         ]);
-        let found = instances(&cache, 1, &service_name()).unwrap();
+        let found = instances(&cache, 1, &browser()).unwrap();
         assert_eq!(found.len(), 1);
         assert!(found[0].is_complete());
         let server = found[0].server.as_ref().unwrap();
@@ -204,10 +211,8 @@ pub mod tests {
         let expected: [IpAddr; 2] = [[10, 0, 0, 7].into(), [10, 0, 0, 8].into()];
         assert_eq!(found[0].addresses, expected);
         // SRV and A lapse after 120 s, the rest after 4,500 s
-        assert!(!instances(&cache, 120_000, &service_name()).unwrap()[0].is_complete());
-        assert!(instances(&cache, 4_500_000, &service_name())
-            .unwrap()
-            .is_empty());
+        assert!(!instances(&cache, 120_000, &browser()).unwrap()[0].is_complete());
+        assert!(instances(&cache, 4_500_000, &browser()).unwrap().is_empty());
     }
 
     #[test]
@@ -217,7 +222,7 @@ pub mod tests {
             (service_name(), rtype::PTR, 4500, instance_name()),
             (service_name(), rtype::PTR, 4500, capitals),
         ]);
-        assert_eq!(instances(&cache, 1, &service_name()).unwrap().len(), 1);
+        assert_eq!(instances(&cache, 1, &browser()).unwrap().len(), 1);
     }
 
     pub fn no_aaaa() -> Vec<u8> {

@@ -1,16 +1,15 @@
-//! What the browser wants to know: who there is, always; SRV, TXT, A and AAAA that are missing, unless an NSEC says that there is none; and records about to
-//! lapse (RFC 6762 section 5.2).
+//! What is to be asked of the instances on the list: SRV, TXT, A and AAAA that are missing, unless an NSEC says that there is none, and those about to lapse
+//! (RFC 6762 section 5.2). Who there is, the library's browser asks by itself.
 
-use kurgashel::{Cache, Found, Refusal};
+use kurgashel::{Browser, Cache, Found, Refusal};
 
 use super::view::{is_denied, is_in_last_second, latest, server};
 
-use crate::query::{KnownAnswer, Question};
+use crate::query::Question;
 use crate::rtype;
 
 #[derive(Clone, Copy, Debug, PartialEq, Eq, PartialOrd, Ord)]
 pub enum Reason {
-    Browse,
     Missing,
     Refresh,
 }
@@ -22,15 +21,11 @@ pub struct Want {
     pub reason: Reason,
 }
 
-pub fn wants(cache: &Cache, now: u64, service: &[u8]) -> Result<Vec<Want>, Refusal> {
-    let mut wants = vec![want(service, rtype::PTR, Reason::Browse)];
-    let pointers = cache.all(now, service, rtype::PTR)?;
-    if pointers.iter().any(|pointer| is_stale(pointer, now)) {
-        wants.push(want(service, rtype::PTR, Reason::Refresh));
-    }
-    for pointer in pointers {
-        let servers = need(cache, now, pointer.rdata, rtype::SRV, &mut wants)?;
-        need(cache, now, pointer.rdata, rtype::TXT, &mut wants)?;
+pub fn wants(cache: &Cache, now: u64, browser: &Browser) -> Result<Vec<Want>, Refusal> {
+    let mut wants = Vec::new();
+    for instance in browser.instances(cache, now)? {
+        let servers = need(cache, now, instance.target, rtype::SRV, &mut wants)?;
+        need(cache, now, instance.target, rtype::TXT, &mut wants)?;
         for host in servers.iter().filter_map(|entry| server(entry.rdata)) {
             need(cache, now, &host.host, rtype::A, &mut wants)?;
             need(cache, now, &host.host, rtype::AAAA, &mut wants)?;
@@ -66,39 +61,20 @@ fn want(name: &[u8], rtype: u16, reason: Reason) -> Want {
     Want { question, reason }
 }
 
-/// Four fifths of its life are over, but not all but a second: that may be a goodbye, which is not to be asked about.
+/// Four fifths of its TTL are over, but it is not in its last second: that may be a goodbye, which is not to be asked about.
 fn is_stale(entry: &Found, now: u64) -> bool {
-    5 * (entry.expiry - now) <= entry.expiry - entry.received && !is_in_last_second(entry, now)
-}
-
-/// The PTR records that need not be sent: those with more than half of their life left.
-pub fn known_pointers(
-    cache: &Cache,
-    now: u64,
-    service: &[u8],
-) -> Result<Vec<KnownAnswer>, Refusal> {
-    let pointers = cache.all(now, service, rtype::PTR)?;
-    let known = pointers
-        .iter()
-        .filter(|entry| 2 * (entry.expiry - now) > entry.expiry - entry.received)
-        .map(|entry| KnownAnswer {
-            name: service.to_vec(),
-            rtype: rtype::PTR,
-            ttl: u32::try_from((entry.expiry - now) / 1000).unwrap_or(u32::MAX),
-            rdata: entry.rdata.to_vec(),
-        });
-    Ok(known.collect())
+    5 * (now - entry.received) >= 4000 * entry.ttl && !is_in_last_second(entry.expiry, now)
 }
 
 #[cfg(test)]
 mod tests {
     use super::super::view::tests::{
-        hear, heard, host_name, instance_name, no_aaaa, service_name, srv,
+        browser, hear, heard, host_name, instance_name, no_aaaa, service_name, srv,
     };
     use super::*;
 
     fn types(cache: &Cache, now: u64, reason: Reason) -> Vec<u16> {
-        let wants = wants(cache, now, &service_name()).unwrap();
+        let wants = wants(cache, now, &browser()).unwrap();
         let of_reason = wants.into_iter().filter(|want| want.reason == reason);
         let mut types: Vec<_> = of_reason.map(|want| want.question.rtype).collect();
         types.sort();
@@ -108,7 +84,6 @@ mod tests {
     #[test]
     fn what_is_missing_is_wanted() {
         let nothing = Cache::default();
-        assert_eq!(types(&nothing, 0, Reason::Browse), [rtype::PTR]);
         assert_eq!(types(&nothing, 0, Reason::Missing), []);
         let pointer = (service_name(), rtype::PTR, 4500, instance_name());
         let cache = heard(std::slice::from_ref(&pointer));
@@ -124,10 +99,7 @@ mod tests {
         // at 80 percent of 120 s
         let stale = [rtype::A, rtype::SRV];
         assert_eq!(types(&cache, 96_000, Reason::Refresh), stale);
-        assert_eq!(
-            types(&cache, 3_600_000, Reason::Refresh),
-            [rtype::PTR, rtype::TXT]
-        );
+        assert_eq!(types(&cache, 3_600_000, Reason::Refresh), [rtype::TXT]);
     }
 
     #[test]
@@ -150,15 +122,5 @@ mod tests {
         assert_eq!(types(&cache, 5000, Reason::Refresh), []);
         hear(&mut cache, 9000, 0, &[pointer(0), txt(0, b"\x01b")]);
         assert_eq!(types(&cache, 9000, Reason::Refresh), []);
-    }
-
-    #[test]
-    fn a_pointer_is_known_for_half_its_life() {
-        let cache = heard(&[(service_name(), rtype::PTR, 4500, instance_name())]);
-        let known = known_pointers(&cache, 1, &service_name()).unwrap();
-        assert_eq!(known[0].ttl, 4499);
-        assert_eq!(known[0].rdata, instance_name());
-        let half = known_pointers(&cache, 2_250_000, &service_name()).unwrap();
-        assert!(half.is_empty());
     }
 }

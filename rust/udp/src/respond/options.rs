@@ -2,9 +2,8 @@
 
 use std::net::{Ipv4Addr, Ipv6Addr};
 
-use kurgashel::Setup;
-
 use crate::arguments::{unknown, Arguments};
+use crate::recording::Start;
 use crate::{name, strings};
 
 pub const HELP: &str = "\
@@ -25,6 +24,7 @@ usage: responder --instance LABEL --service TYPE --host LABEL --port NUMBER [opt
   --seconds NUMBER     stop after this many seconds; else on Ctrl-C or SIGTERM
   --control            take lines from standard input: 'port NUMBER' changes the port, 'txt STRING ..' all TXT strings, such as
                        txt room=4 \"note=third floor\"
+  --trace FILE         record what happens, for 'player' and 'timeline'; where FILE is there already, FILE.2 and so on
   --verbose            also tell of each packet that the library refuses, and of unicast answers that can't be sent
   --help               this text
 
@@ -51,6 +51,7 @@ pub struct Options {
     pub at: Option<u64>,
     pub seconds: Option<u64>,
     pub control: bool,
+    pub trace: Option<String>,
     pub verbose: bool,
 }
 
@@ -76,6 +77,7 @@ impl Options {
                 "--at" => options.at = Some(arguments.value(&option)?),
                 "--seconds" => options.seconds = Some(arguments.value(&option)?),
                 "--control" => options.control = true,
+                "--trace" => options.trace = Some(arguments.text(&option)?),
                 "--verbose" => options.verbose = true,
                 _ => return Err(unknown(&option)),
             }
@@ -107,18 +109,21 @@ impl Options {
         Ok(())
     }
 
-    /// What the library is set up with, on an interface of this address.
-    pub fn setup(&self, interface: Ipv4Addr) -> Setup {
-        Setup::new(
-            &self.instance,
-            &self.service,
-            &self.protocol,
-            &self.host,
-            self.port,
-            &self.txt,
-            self.address.unwrap_or(interface).octets(),
-            self.address6.map(|address| address.octets()),
-        )
+    /// How the library is started, on an interface of this address.
+    pub fn start(&self, interface: Ipv4Addr, now: u64, draw: u64) -> Start {
+        Start {
+            now,
+            draw,
+            instance: self.instance.clone().into(),
+            service: self.service.clone().into(),
+            protocol: self.protocol.clone().into(),
+            host: self.host.clone().into(),
+            domain: b"local".to_vec(),
+            port: self.port,
+            txt: self.txt.clone(),
+            a: self.address.unwrap_or(interface).octets(),
+            aaaa: self.address6.map(|address| address.octets()),
+        }
     }
 }
 

@@ -3,7 +3,7 @@
 use std::error::Error;
 use std::io::{self, Write};
 
-use kurgashel::{Arrival, OutBuffers, Refusal, Responder, OUT_BYTES};
+use kurgashel::{Arrival, Event, OutBuffers, Refusal, Responder, OUT_BYTES};
 
 use super::control::{Control, Order};
 use super::options::Options;
@@ -12,6 +12,7 @@ use crate::clock::{self, Clock};
 use crate::command::End;
 use crate::draw::{self, Draws};
 use crate::link::{self, Header, Hears, Link, LinkError};
+use crate::recording::Recording;
 use crate::refusal::{text, Tally};
 use crate::{stop, strings};
 
@@ -37,17 +38,28 @@ pub fn run(options: &Options) -> Result<End, Box<dyn Error>> {
     }
     let clock = Clock::begin();
     let begun = clock::wall();
-    let responder = Responder::start(&options.setup(interface), clock.now(), draw)
+    let start = options.start(interface, clock.now(), draw);
+    let responder = Responder::start(&start.setup(), start.now, draw)
         .map_err(|refusal| format!("the library does not start: {}", text(refusal)))?;
     writeln!(
         io::stdout(),
         "begun on {interface} at {begun}, start draw {draw} ms"
     )?;
+    let recording = match &options.trace {
+        Some(file) => {
+            let created = Recording::create(file.as_ref(), &start);
+            let (recording, path) = created.map_err(|error| format!("{file}: {error}"))?;
+            writeln!(io::stdout(), "recording to {}", path.display())?;
+            Some(recording)
+        }
+        None => None,
+    };
     let mut session = Session {
         link,
         draws,
         clock,
         responder,
+        recording,
         control: Control::open(options.control)?,
         report: Report::new(options),
         refused: Tally::default(),
@@ -61,6 +73,7 @@ struct Session {
     draws: Draws,
     clock: Clock,
     responder: Responder,
+    recording: Option<Recording>,
     control: Control,
     report: Report,
     refused: Tally,
@@ -70,6 +83,9 @@ struct Session {
 impl Session {
     fn until_stopped(&mut self, seconds: Option<u64>) -> Result<End, Box<dyn Error>> {
         let end = seconds.map_or(u64::MAX, |seconds| seconds.saturating_mul(1000));
+        if let Some(recording) = &mut self.recording {
+            recording.record_claims(&self.responder)?;
+        }
         self.tell(self.clock.now())?;
         while !stop::asked() && self.clock.now() < end {
             self.hear()?;
@@ -92,19 +108,27 @@ impl Session {
         let due = self.responder.due().unwrap_or(u64::MAX);
         let wait = due.saturating_sub(self.clock.now());
         let control = self.control.descriptor();
-        let Some(packet) = self.link.receive_unless(wait, control)? else {
+        let Some(packet) = self.link.receive_unless(wait, control.as_slice())? else {
             return Ok(());
         };
         let (now, header) = (self.clock.now(), packet.header);
+        let draws = kurgashel::Draws {
+            reply: self.draws.within(&draw::REPLY)?,
+            hold: self.draws.within(&draw::HOLD)?,
+        };
         let arrival = Arrival {
             now,
             from: header.source.into(),
-            draws: kurgashel::Draws {
-                reply: self.draws.within(&draw::REPLY)?,
-                hold: self.draws.within(&draw::HOLD)?,
-            },
+            draws,
             packet: packet.bytes,
         };
+        let event = self.recording.is_some().then(|| Event::Packet {
+            now,
+            from: header.source.ip().to_ipv6_mapped(),
+            port: header.source.port(),
+            draws,
+            packet: packet.bytes.to_vec(),
+        });
         let (mut to_all, mut to_sender) = ([0; OUT_BYTES], [0; OUT_BYTES]);
         let out = OutBuffers {
             to_all: &mut to_all,
@@ -117,8 +141,19 @@ impl Session {
             }
             Err(refusal) => self.note_refused(now, &header, refusal),
         }
+        if let Some(event) = event {
+            self.record(&event)?;
+        }
         self.tell(now)?;
         Ok(())
+    }
+
+    /// Records a call that was made, where there is a recording.
+    fn record(&mut self, call: &Event) -> io::Result<()> {
+        match &mut self.recording {
+            Some(recording) => recording.record(call, &self.responder),
+            None => Ok(()),
+        }
     }
 
     /// Sends a packet to the group, where there is one.
@@ -156,14 +191,15 @@ impl Session {
         let mut out = [0; OUT_BYTES];
         loop {
             let now = self.clock.now();
+            if self.responder.due().is_none_or(|due| now < due) {
+                return Ok(());
+            }
             let ticked = self.responder.tick(now, &mut out);
             let ticked =
                 ticked.map_err(|refusal| format!("a tick was refused: {}", text(refusal)))?;
             self.send_to_all(&out[..ticked.length])?;
+            self.record(&Event::Tick { now })?;
             self.tell(now)?;
-            if !ticked.more {
-                return Ok(());
-            }
         }
     }
 
@@ -182,9 +218,17 @@ impl Session {
     fn update(&mut self, order: &Order) -> Result<(), Box<dyn Error>> {
         let (now, mut out) = (self.clock.now(), [0; OUT_BYTES]);
         let updated = match order {
-            Order::Port(port) => self.responder.update_port(now, *port, &mut out),
+            Order::Port(port) => {
+                let updated = self.responder.update_port(now, *port, &mut out);
+                self.record(&Event::Port { now, port: *port })?;
+                updated
+            }
             Order::Txt(strings) => match strings::encode(strings) {
-                Some(txt) => self.responder.update_txt(now, &txt, &mut out),
+                Some(txt) => {
+                    let updated = self.responder.update_txt(now, &txt, &mut out);
+                    self.record(&Event::Txt { now, txt })?;
+                    updated
+                }
                 None => Err(Refusal::Setup),
             },
         };
@@ -208,6 +252,7 @@ impl Session {
         let stopped = self.responder.stop(now, &mut out);
         let length = stopped.map_err(|refusal| format!("a stop was refused: {}", text(refusal)))?;
         self.send_to_all(&out[..length])?;
+        self.record(&Event::Stop { now })?;
         if length > 0 {
             writeln!(io::stdout(), "{now:6} ms  goodbye")?;
         }

@@ -12,15 +12,21 @@ def name(text):
 
 def read_name(packet, at):
     """The name as text, where what follows it begins, and whether it has a pointer."""
+    labels, end, is_cut = read_labels(packet, at)
+    return b".".join(labels).decode() + ".", end, is_cut
+
+
+def read_labels(packet, at):
+    """The labels of a name, where what follows it begins, and whether it has a pointer."""
     labels, end = [], None
     while packet[at]:
         if packet[at] >= 0xC0:
             end = end or at + 2
             at = struct.unpack_from("!H", packet, at)[0] & 0x3FFF
         else:
-            labels.append(packet[at + 1 : at + 1 + packet[at]].decode())
+            labels.append(packet[at + 1 : at + 1 + packet[at]])
             at += 1 + packet[at]
-    return ".".join(labels) + ".", end or at + 1, end is not None
+    return labels, end or at + 1, end is not None
 
 
 def target(packet, at, kind):
