@@ -18,17 +18,18 @@ programs=$package/../target/release
 # a fault may leave something unused; nobody looks into these builds
 export RUSTFLAGS=-Awarnings CARGO_PROFILE_DEV_DEBUG=0
 
-# Where the fault shows, by the first script on which it does: a short one, then six long ones.
+# Where the fault shows, by the first script on which it does: a short one, then ten long ones.
 difference() { # WORKER PROGRAM COMPARE
-    for script in "1 3000" "1 $lines" "2 $lines" "3 $lines" "4 $lines" "5 $lines" "6 $lines"; do
+    size=3000
+    for seed in 1 1 2 3 4 5 6 7 8 9 10; do
         status=0
-        # shellcheck disable=SC2086 # a seed and a number of lines
-        "$programs/$3" "$programs/$2" "$1/target/debug/$2" $script >"$1/report" || status=$?
+        "$programs/$3" "$programs/$2" "$1/target/debug/$2" "$seed" "$size" >"$1/report" || status=$?
         # a fault that makes the program end is a difference too, a failed comparison is not
         if [ "$status" -eq 1 ] && grep -q '^difference at' "$1/report"; then
-            sed -n "s/^difference at script line \([0-9]*\): \([a-z]*\).*/seed ${script% *}, line \1, \2/p" "$1/report"
+            sed -n "s/^difference at script line \([0-9]*\): \([a-z]*\).*/seed $seed, line \1, \2/p" "$1/report"
             return
         fi
+        size=$lines
     done
 }
 

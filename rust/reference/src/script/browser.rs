@@ -70,7 +70,8 @@ impl Script {
             10..=24 => self.refresh(),
             25..=39 => self.full_query(),
             40..=52 => self.full_rest(),
-            53..=62 => self.put_targets(now),
+            53..=60 => self.put_targets(now),
+            61 | 62 => self.refresh_of_a_twin(),
             63..=72 => self.ask_somewhen(),
             73..=80 => self.list(),
             81..=83 => self.half_left(),
@@ -326,6 +327,21 @@ impl Script {
         }
     }
 
+    /// A target in two entries, of which the second, that the list passes over, reaches its
+    /// threshold alone.
+    fn refresh_of_a_twin(&mut self) {
+        let due = self.series_due().max(self.browser_now());
+        self.ask_all(due);
+        let now = self.browser_now();
+        let target = self.target(20);
+        let twin = self.random.recase(&target);
+        for (ttl, target) in [(4500, target), (1, twin)] {
+            let record = self.ptr(ttl, &target);
+            self.put(now, vec![record]);
+        }
+        self.ask_around(now + 800 + self.model.browser.refresh_draw);
+    }
+
     /// A label of so many bytes that no other has.
     fn fresh_label(&mut self, length: usize) -> Vec<u8> {
         let bytes = (0..length).map(|_| self.random.pick(b"abcdefghABCDEFGH0123\xc3\xa9 ."));
@@ -542,6 +558,9 @@ impl Script {
         if self.model.browser.owed.is_none() {
             return;
         }
+        if self.random.chance(30) {
+            return self.refresh_before_the_rest();
+        }
         let now = self.browser_now();
         self.put_many(now, 1200, true);
         self.put_fitting(now, true);
@@ -555,6 +574,20 @@ impl Script {
         }
         let now = self.browser_now();
         self.ask_all(now);
+    }
+
+    /// A threshold is reached before the rest goes out, which is no query: the one that it asks for
+    /// follows, in the same millisecond.
+    fn refresh_before_the_rest(&mut self) {
+        let now = self.browser_now();
+        let target = self.target(6);
+        let record = self.ptr(1, &target);
+        self.put(now, vec![record]);
+        let due = now + 800 + self.model.browser.refresh_draw;
+        if self.random.chance(30) {
+            self.ask(due - 1);
+        }
+        self.ask_all(due);
     }
 
     /// All entries are gone, by `clear` or by time; the browser is kept.
