@@ -10,7 +10,9 @@ use Rattle.claims.specs.Claims.{stateNumber}
 use Rattle.claims.specs.declared.holds.Address.{Address}
 use Rattle.responder.specs.Handed.{Arrival, Tick}
 use Rattle.responder.specs.changes.Changes.{Update}
-use Rattle.responder.specs.Runs.{Call, received, ticked, stopped, updated, stateAfter}
+use Rattle.responder.specs.Calls.{refusalOf}
+use Rattle.responder.specs.Runs.{Call, received, ticked, stopped, updated, answerTo, stateAfter}
+use Rattle.responder.specs.declared.Answer.{Answer}
 use Rattle.responder.specs.declared.State.{State}
 use Rattle.trace.specs.reading.Reading.{stepAt}
 use Rattle.trace.specs.reading.Events.{Occurrence, tick, packet, claim, stop, port, txt, occurrence, dataIn}
@@ -21,6 +23,7 @@ use Rattle.trace.specs.declared.reading.Step.the-variants.{End, Found, Refused}
 use Rattle.playing.specs.declared.Line.{Line}
 use Rattle.playing.specs.declared.Turn.{Turn}
 use Rattle.playing.specs.declared.Turn.the-variants as turn
+use Rattle.playing.specs.declared.Made.{Made}
 use Rattle.playing.specs.declared.Played.{Played}
 
 -- ---- the calls
@@ -64,6 +67,24 @@ stateBy s (some c) = stateAfter s c
 abbrev pub stateBehind : State → Occurrence → State
 stateBehind s o = stateBy s (callOf o)
 
+-- the refusal number of its call, 0 where it is taken or none is made
+abbrev pub refusalBy : State → Option Call → ℕ
+refusalBy s none = 0
+refusalBy s (some c) = refusalOf (answerTo s c)
+
+abbrev pub refusalBehind : State → Occurrence → ℕ
+refusalBehind s o = refusalBy s (callOf o)
+
+-- both of a call, and of an event
+abbrev pub madeWith : Answer → State → Made
+madeWith answer s = record { refusal = refusalOf answer; state = s }
+
+abbrev pub madeBy : State → Call → Made
+madeBy s c = madeWith (answerTo s c) (stateAfter s c)
+
+abbrev pub madeBehind : State → Occurrence → Made
+madeBehind s o = record { refusal = refusalBehind s o; state = stateBehind s o }
+
 -- ---- what is compared
 
 -- "1 of claim (0 instance, 1 host), 1 of state (0 waiting, 1 probing, 2 deferred, 3 held, 4 lost)"
@@ -85,9 +106,13 @@ turnOf s (event.Port time p) next = turn.Called next
 turnOf s (event.Txt time) next = turn.Called next
 
 abbrev pub playedBy : List ℕ → State → Step → Played
-playedBy p s End = record { turn = turn.End; state = s }
-playedBy p s (Found e) = record { turn = turnOf s (e .event) (e .next); state = stateBehind s (occurrence (e .event) (dataIn p e)) }
-playedBy p s (Refused offset) = record { turn = turn.Refused offset; state = s }
+playedBy p s End = record { turn = turn.End; refusal = 0; state = s }
+playedBy p s (Found e) = record {
+  turn = turnOf s (e .event) (e .next);
+  refusal = refusalBehind s (occurrence (e .event) (dataIn p e));
+  state = stateBehind s (occurrence (e .event) (dataIn p e));
+}
+playedBy p s (Refused offset) = record { turn = turn.Refused offset; refusal = 0; state = s }
 
 -- the event at an offset, played to a responder
 unfoldable pub playedAt : List ℕ → ℕ → State → Played

@@ -7,10 +7,12 @@ ghost use Rattle.own.specs.changes.Changes.{newPort, newTxt};
 ghost use Rattle.trace.specs.reading.Events.{dataAt, occurrence};
 ghost use Rattle.trace.specs.writing.Sizes.{canBeWritten};
 ghost use Rattle.claims.specs.Claims.{stateNumber};
-ghost use Rattle.responder.specs.Runs.{received, ticked, stopped, updated, stateAfter};
-ghost use Rattle.playing.specs.Playing.{arrivalOf, tickOf, updateOf, stateBehind, numberIn, agreesWith, turnOf, playedAt, portFits};
+ghost use Rattle.responder.specs.Calls.{refusalOf};
+ghost use Rattle.responder.specs.Runs.{received, ticked, stopped, updated};
+ghost use Rattle.playing.specs.Playing.{arrivalOf, tickOf, updateOf, madeWith, madeBy, madeBehind, numberIn, agreesWith, turnOf, playedAt, portFits};
 use claims::ClaimState;
 use claims::holds::Address;
+use responder::Answer;
 use responder::State;
 use trace::reading::Event;
 use trace::reading::Step;
@@ -36,9 +38,16 @@ pub enum Turn {
     Shown(Line, usize),
 }
 
-// It, and the responder's state after it.
+// It; the refusal number of the call, 0 where it was taken or none was made; and the responder's state after it.
 pub struct Played {
     pub turn: Turn,
+    pub refusal: u8,
+    pub state: State,
+}
+
+// What a call gave: its refusal number, or 0, and the responder's state after it.
+pub struct Made {
+    pub refusal: u8,
     pub state: State,
 }
 
@@ -82,12 +91,34 @@ pub fn agrees(state: State, last: u64, claim: u64, number: u64) -> bool
     number_in(state, claim) == number
 }
 
-fn tick(state: State, time: u64) -> State
-    ensures { λ r. ⌜ r ≡ stateAfter state (ticked (tickOf time)) ⌝ }
+fn refusal_of(answer: Answer) -> u8
+    ensures { λ r. ⌜ r ≡ refusalOf answer ⌝ }
+{
+    match answer {
+        Answer::Refused(number) => number,
+        Answer::Quiet => 0,
+        Answer::Sent(_) => 0,
+        Answer::Unicast(_) => 0,
+        Answer::Both(_, _) => 0,
+    }
+}
+
+fn made_with(answer: Answer, state: State) -> Made
+    ensures { λ r. ⌜ r ≡ madeWith answer state ⌝ }
+{
+    Made {
+        refusal: refusal_of(answer),
+        state,
+    }
+}
+
+fn tick(state: State, time: u64) -> Made
+    ensures { λ r. ⌜ r ≡ madeBy state (ticked (tickOf time)) ⌝ }
 {
     let mut out = [0u8; ROOM];
     let after = responder::tick(state, time, &mut out);
-    after.state
+    let answer = after.answer;
+    made_with(answer, after.state)
 }
 
 fn receive(
@@ -98,9 +129,9 @@ fn receive(
     draw: u64,
     hold: u64,
     packet: &[u8],
-) -> State
+) -> Made
     requires { ⌜ port < 65536 ⌝ }
-    ensures { λ r. ⌜ r ≡ stateAfter state (received (arrivalOf time from port draw hold (now (packet .entry)))) ⌝ }
+    ensures { λ r. ⌜ r ≡ madeBy state (received (arrivalOf time from port draw hold (now (packet .entry)))) ⌝ }
 {
     let mut out = [0u8; ROOM];
     let mut unicast = [0u8; ROOM];
@@ -115,38 +146,42 @@ fn receive(
         &mut out,
         &mut unicast,
     );
-    after.state
+    let answer = after.answer;
+    made_with(answer, after.state)
 }
 
-fn stop(state: State, time: u64) -> State
-    ensures { λ r. ⌜ r ≡ stateAfter state (stopped (tickOf time)) ⌝ }
+fn stop(state: State, time: u64) -> Made
+    ensures { λ r. ⌜ r ≡ madeBy state (stopped (tickOf time)) ⌝ }
 {
     let mut out = [0u8; ROOM];
     let after = responder::changes::stop(state, time, &mut out);
-    after.state
+    let answer = after.answer;
+    made_with(answer, after.state)
 }
 
-fn update_port(state: State, time: u64, port: u64) -> State
+fn update_port(state: State, time: u64, port: u64) -> Made
     requires { ⌜ port < 65536 ⌝ }
-    ensures { λ r. ⌜ r ≡ stateAfter state (updated (updateOf time (newPort port))) ⌝ }
+    ensures { λ r. ⌜ r ≡ madeBy state (updated (updateOf time (newPort port))) ⌝ }
 {
     let mut out = [0u8; ROOM];
     let after = responder::changes::update_port(state, time, port as u16, &mut out);
-    after.state
+    let answer = after.answer;
+    made_with(answer, after.state)
 }
 
-fn update_txt(state: State, time: u64, txt: &[u8]) -> State
-    ensures { λ r. ⌜ r ≡ stateAfter state (updated (updateOf time (newTxt (now (txt .entry))))) ⌝ }
+fn update_txt(state: State, time: u64, txt: &[u8]) -> Made
+    ensures { λ r. ⌜ r ≡ madeBy state (updated (updateOf time (newTxt (now (txt .entry))))) ⌝ }
 {
     let mut out = [0u8; ROOM];
     let after = responder::changes::update_txt(state, time, txt, &mut out);
-    after.state
+    let answer = after.answer;
+    made_with(answer, after.state)
 }
 
-// The state behind an event with the bytes that it brings.
-fn behind(state: State, event: Event, bytes: &[u8]) -> State
+// What comes of an event with the bytes that it brings.
+fn behind(state: State, event: Event, bytes: &[u8]) -> Made
     requires { ⌜ portFits event ≡ true ⌝ }
-    ensures { λ r. ⌜ r ≡ stateBehind state (occurrence event (now (bytes .entry))) ⌝ }
+    ensures { λ r. ⌜ r ≡ madeBehind state (occurrence event (now (bytes .entry))) ⌝ }
 {
     match event {
         Event::Tick(time) => tick(state, time),
@@ -161,17 +196,17 @@ fn behind(state: State, event: Event, bytes: &[u8]) -> State
             last: _,
             claim: _,
             state: _,
-        } => state,
+        } => Made { refusal: 0, state },
         Event::Stop(time) => stop(state, time),
         Event::Port { time, port } => update_port(state, time, port),
         Event::Txt(time) => update_txt(state, time, bytes),
     }
 }
 
-// The state behind the event at an offset.
-fn behind_at(trace: &[u8], at: usize, state: State, event: Event) -> State
+// What comes of the event at an offset.
+fn behind_at(trace: &[u8], at: usize, state: State, event: Event) -> Made
     requires { ⌜ canBeWritten (occurrence event (dataAt (now trace) at)) ≡ true ⌝ }
-    ensures { λ r. ⌜ r ≡ stateBehind state (occurrence event (dataAt (now (trace .entry)) at)) ⌝ }
+    ensures { λ r. ⌜ r ≡ madeBehind state (occurrence event (dataAt (now (trace .entry)) at)) ⌝ }
 {
     let mut bytes = [0u8; 65535];
     let n = trace::reading::bytes(trace, at, &mut bytes);
@@ -207,17 +242,22 @@ pub fn play(trace: &[u8], at: usize, state: State) -> Played
     match trace::reading::next(trace, at) {
         Step::Found(entry) => {
             let event = entry.event;
+            let call = behind_at(trace, at, state, event);
+            let after = call.state;
             Played {
                 turn: turn_of(state, event, entry.next),
-                state: behind_at(trace, at, state, event),
+                refusal: call.refusal,
+                state: after,
             }
         }
         Step::End => Played {
             turn: Turn::End,
+            refusal: 0,
             state,
         },
         Step::Refused(offset) => Played {
             turn: Turn::Refused(offset),
+            refusal: 0,
             state,
         },
     }

@@ -4,7 +4,7 @@ use borrow.Author.Tests.{leb-true}
 use Rattle.responder.specs.declared.State.{State}
 use Rattle.trace.specs.reading.Events.{occurrence}
 use Rattle.trace.specs.declared.reading.Event.{Event}
-use Rattle.playing.specs.Playing.{portFits, stateBehind}
+use Rattle.playing.specs.Playing.{portFits, madeBehind}
 use borrow.Author.Needs.{needs}
 use Rattle.playing.proofs.behind.Statement.{statement}
 use Rattle.playing.proofs.behind.Tie as tie
@@ -62,27 +62,27 @@ update-txt-requires c κs = search needs
 
 -- src/lib.rt:142:1
 returns : tie.Need-returns
-returns c = let a = c .before .before .before .before .before .args in c .tick .ensures ∙ ap (λ (v : Event). stateBehind (a .state) (occurrence v (a .bytes .now))) (sym (c .before .before .event .given .1))
+returns c = let a = c .before .before .before .before .before .args in c .tick .ensures ∙ ap (λ (v : Event). madeBehind (a .state) (occurrence v (a .bytes .now))) (sym (c .before .before .event .given .1))
 
 -- src/lib.rt:142:1
 returns-2 : tie.Need-returns-2
-returns-2 c = let a = c .before .before .before .before .before .args in c .receive .ensures ∙ ap (λ (v : Event). stateBehind (a .state) (occurrence v (a .bytes .now))) (sym (c .before .before .event2 .given .1))
+returns-2 c = let a = c .before .before .before .before .before .args in c .receive .ensures ∙ ap (λ (v : Event). madeBehind (a .state) (occurrence v (a .bytes .now))) (sym (c .before .before .event2 .given .1))
 
 -- src/lib.rt:142:1
 returns-3 : tie.Need-returns-3
-returns-3 c = search needs
+returns-3 c = let a = c .before .before .before .args in ap (λ (v : Event). madeBehind (a .state) (occurrence v (a .bytes .now))) (sym (c .enum-told .given .1))
 
 -- src/lib.rt:142:1
 returns-4 : tie.Need-returns-4
-returns-4 c = let a = c .before .before .before .before .before .args in c .stop .ensures ∙ ap (λ (v : Event). stateBehind (a .state) (occurrence v (a .bytes .now))) (sym (c .before .before .event3 .given .1))
+returns-4 c = let a = c .before .before .before .before .before .args in c .stop .ensures ∙ ap (λ (v : Event). madeBehind (a .state) (occurrence v (a .bytes .now))) (sym (c .before .before .event3 .given .1))
 
 -- src/lib.rt:142:1
 returns-5 : tie.Need-returns-5
-returns-5 c = let a = c .before .before .before .before .before .args in c .update-port .ensures ∙ ap (λ (v : Event). stateBehind (a .state) (occurrence v (a .bytes .now))) (sym (c .before .before .event4 .given .1))
+returns-5 c = let a = c .before .before .before .before .before .args in c .update-port .ensures ∙ ap (λ (v : Event). madeBehind (a .state) (occurrence v (a .bytes .now))) (sym (c .before .before .event4 .given .1))
 
 -- src/lib.rt:142:1
 returns-6 : tie.Need-returns-6
-returns-6 c = let a = c .before .before .before .before .before .args in c .update-txt .ensures ∙ ap (λ (v : Event). stateBehind (a .state) (occurrence v (a .bytes .now))) (sym (c .before .before .event5 .given .1))
+returns-6 c = let a = c .before .before .before .before .before .args in c .update-txt .ensures ∙ ap (λ (v : Event). madeBehind (a .state) (occurrence v (a .bytes .now))) (sym (c .before .before .event5 .given .1))
 
 pub behind-spec : {M : Type 1} → statement M
 behind-spec =

@@ -1,7 +1,7 @@
 use mathlib.Core.Path.{_≡_, refl, sym, ap, _∙_}
 use Rattle.playing.proofs.Laws.{fits-port, same-bytes}
 use Rattle.trace.specs.reading.Events.{Occurrence, occurrence}
-use Rattle.playing.specs.Playing.{stateBehind}
+use Rattle.playing.specs.Playing.{madeBehind}
 use borrow.Author.Needs.{needs}
 use Rattle.playing.proofs.behind_at.Statement.{statement}
 use Rattle.playing.proofs.behind_at.Tie as tie
@@ -33,7 +33,7 @@ behind-requires c κs = fits-port (c .before .before .before .before .before .be
 
 -- src/lib.rt:167:1
 returns : tie.Need-returns
-returns c = let a = c .before .before .before .before .before .before .before .args in c .behind .ensures ∙ ap (stateBehind (a .state)) (ap (occurrence (a .event)) (c .before .part .ensures .0) ∙ same-bytes (a .event) _ (c .before .before .before .before .before .before .before .pre) _ (c .before .before .before .before .bytes2 .ensures .0) _ (c .before .before .before .before .bytes2 .ensures .1))
+returns c = let a = c .before .before .before .before .before .before .before .args in c .behind .ensures ∙ ap (madeBehind (a .state)) (ap (occurrence (a .event)) (c .before .part .ensures .0) ∙ same-bytes (a .event) _ (c .before .before .before .before .before .before .before .pre) _ (c .before .before .before .before .bytes2 .ensures .0) _ (c .before .before .before .before .bytes2 .ensures .1))
 
 pub behind-at-spec : {M : Type 1} → statement M
 behind-at-spec =

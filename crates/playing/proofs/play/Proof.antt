@@ -3,7 +3,7 @@ use Rattle.playing.proofs.Laws.{data-found, found-fits, played-of}
 use mathlib.Core.List.{List}
 use Prim.Native.Nat.{ℕ}
 use Rattle.trace.specs.reading.Events.{occurrence}
-use Rattle.playing.specs.Playing.{stateBehind, turnOf}
+use Rattle.playing.specs.Playing.{madeBehind, turnOf}
 use Rattle.playing.specs.declared.Played.{Played}
 use borrow.Author.Needs.{needs}
 use Rattle.playing.proofs.play.Statement.{statement}
@@ -22,13 +22,14 @@ next-requires c κs = search needs
 enum-known-entry : tie.Need-enum-known-entry
 enum-known-entry c = search needs
 
--- src/lib.rt:210:23
+behind-at-requires : tie.Need-behind-at-requires
+behind-at-requires c κs =
+    let a = c .before .before .before .before .before .args in
+    found-fits (a .trace .now) (a .at) _ (c .before .before .before .next .ensures) (λ i. c .before .before .before .before .shared-slice-known .given i .fits) _
+    (c .before .entry .given .1)
+
 turn-of-requires : tie.Need-turn-of-requires
 turn-of-requires c κs = search needs
-
--- src/lib.rt:211:24
-behind-at-requires : tie.Need-behind-at-requires
-behind-at-requires c κs = let a = c .before .before .before .before .before .before .args in found-fits (a .trace .now) (a .at) _ (c .before .before .before .before .next .ensures) (λ i. c .before .before .before .before .before .shared-slice-known .given i .fits) _ (c .before .before .entry .given .1)
 
 -- src/lib.rt:215:19
 enum-told : tie.Need-enum-told
@@ -41,10 +42,12 @@ enum-known-offset c = search needs
 -- src/lib.rt:203:1
 returns : tie.Need-returns
 returns c =
-    let a = c .before .before .before .before .before .before .before .args in
-    let e = c .before .before .before .entry .given .0 .0 in
-    let after = c .behind-at .ensures ∙ ap (λ (l : List ℕ). stateBehind (a .state) (occurrence (e .event) l)) (data-found (a .trace .now) (a .at) _ (c .before .before .before .before .before .next .ensures) e (c .before .before .before .entry .given .1)) in
-    (λ i. record { turn = c .before .turn-of .ensures i; state = after i }) ∙ played-of (a .trace .now) (a .at) _ (c .before .before .before .before .before .next .ensures) (a .state) _ (c .before .before .before .entry .given .1)
+    let a = c .before .before .before .before .before .before .before .before .args in
+    let e = c .before .before .before .before .entry .given .0 .0 in
+    let next = c .before .before .before .before .before .before .next .ensures in
+    let is = c .before .before .before .before .entry .given .1 in
+    let after = c .before .before .behind-at .ensures ∙ ap (λ (l : List ℕ). madeBehind (a .state) (occurrence (e .event) l)) (data-found (a .trace .now) (a .at) _ next e is) in
+    (λ i. record { turn = c .turn-of .ensures i; refusal = after i .refusal; state = after i .state }) ∙ played-of (a .trace .now) (a .at) _ next (a .state) _ is
 
 -- src/lib.rt:203:1
 returns-2 : tie.Need-returns-2
@@ -60,8 +63,8 @@ play-spec =
     (tie.spec
     next-requires
     enum-known-entry
-    turn-of-requires
     behind-at-requires
+    turn-of-requires
     enum-told
     enum-known-offset
     returns

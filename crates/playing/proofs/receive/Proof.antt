@@ -1,5 +1,6 @@
 use mathlib.Core.Path.{_≡_, refl, sym, ap, _∙_}
 use Rattle.responder.specs.declared.Received.{Received}
+use Rattle.playing.specs.Playing.{madeWith}
 use borrow.Author.Needs.{needs}
 use Rattle.playing.proofs.receive.Statement.{statement}
 use Rattle.playing.proofs.receive.Tie as tie
@@ -23,9 +24,12 @@ slice-aggregate-receive-2 c = search needs
 receive-requires : tie.Need-receive-requires
 receive-requires c κs = search needs
 
+made-with-requires : tie.Need-made-with-requires
+made-with-requires c κs = search needs
+
 -- src/lib.rt:88:1
 returns : tie.Need-returns
-returns c = ap (λ (x : Received). x .state) (c .before .before .before .receive .ensures .answers)
+returns c = c .made-with .ensures ∙ ap (λ (x : Received). madeWith (x .answer) (x .state)) (c .before .before .before .receive .ensures .answers)
 
 pub receive-spec : {M : Type 1} → statement M
 receive-spec =
@@ -35,4 +39,5 @@ receive-spec =
     slice-aggregate-receive
     slice-aggregate-receive-2
     receive-requires
+    made-with-requires
     returns)

@@ -1,5 +1,6 @@
 use mathlib.Core.Path.{_≡_, refl, sym, ap, _∙_}
 use Rattle.responder.specs.declared.changes.Updated.{Updated}
+use Rattle.playing.specs.Playing.{madeWith}
 use borrow.Author.Needs.{needs}
 use Rattle.playing.proofs.update_port.Statement.{statement}
 use Rattle.playing.proofs.update_port.Tie as tie
@@ -19,10 +20,13 @@ slice-aggregate-update-port c = search needs
 update-port-requires : tie.Need-update-port-requires
 update-port-requires c κs = search needs
 
+made-with-requires : tie.Need-made-with-requires
+made-with-requires c κs = search needs
+
 -- src/lib.rt:124:1
 returns : tie.Need-returns
-returns c = ap (λ (x : Updated). x .state) (c .before .before .update-port .ensures .answers)
+returns c = c .made-with .ensures ∙ ap (λ (x : Updated). madeWith (x .answer) (x .state)) (c .before .before .update-port .ensures .answers)
 
 pub update-port-spec : {M : Type 1} → statement M
 update-port-spec =
-    tie.close (tie.spec cast-update-port slice-aggregate-update-port update-port-requires returns)
+    tie.close (tie.spec cast-update-port slice-aggregate-update-port update-port-requires made-with-requires returns)

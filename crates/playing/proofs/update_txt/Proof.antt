@@ -1,5 +1,6 @@
 use mathlib.Core.Path.{_≡_, refl, sym, ap, _∙_}
 use Rattle.responder.specs.declared.changes.Updated.{Updated}
+use Rattle.playing.specs.Playing.{madeWith}
 use borrow.Author.Needs.{needs}
 use Rattle.playing.proofs.update_txt.Statement.{statement}
 use Rattle.playing.proofs.update_txt.Tie as tie
@@ -15,9 +16,12 @@ slice-aggregate-update-txt c = search needs
 update-txt-requires : tie.Need-update-txt-requires
 update-txt-requires c κs = search needs
 
+made-with-requires : tie.Need-made-with-requires
+made-with-requires c κs = search needs
+
 -- src/lib.rt:133:1
 returns : tie.Need-returns
-returns c = ap (λ (x : Updated). x .state) (c .before .before .update-txt .ensures .answers)
+returns c = c .made-with .ensures ∙ ap (λ (x : Updated). madeWith (x .answer) (x .state)) (c .before .before .update-txt .ensures .answers)
 
 pub update-txt-spec : {M : Type 1} → statement M
-update-txt-spec = tie.close (tie.spec slice-aggregate-update-txt update-txt-requires returns)
+update-txt-spec = tie.close (tie.spec slice-aggregate-update-txt update-txt-requires made-with-requires returns)
