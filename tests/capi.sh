@@ -12,6 +12,8 @@ build "$root/c/tests/proxy.c" "$root/target/proxy"
 "$root/target/proxy"
 build "$root/c/tests/trace.c" "$root/target/trace"
 "$root/target/trace"
+build "$root/c/tests/player.c" "$root/target/player"
+"$root/target/player"
 
 # the examples say the same, but that C prints a claim's state as a number
 build "$root/c/examples/claim.c" "$root/target/claim"

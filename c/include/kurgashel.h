@@ -318,6 +318,23 @@ struct kurgashel_trace_answer kurgashel_trace_write(uint8_t *out, size_t out_byt
                                                     uint64_t port, uint64_t draw, uint64_t hold, uint64_t claim, uint64_t state, const uint8_t *bytes,
                                                     size_t bytes_bytes);
 
+/* What playing an event came to: a refusal or 0; whether it is a call, a claim that was recorded, or none, at the trace's end or where it is refused; of a call
+ * the refusal with which it was answered, or 0; of a claim what was recorded, the responder's last time, the claim and its state, and whether the responder
+ * agrees; and the offset behind the event, or that of the refusal. All else is 0. */
+enum { KURGASHEL_PLAYED_END = 0, KURGASHEL_PLAYED_CALL = 1, KURGASHEL_PLAYED_CLAIM = 2 };
+struct kurgashel_played {
+    uint8_t refusal, turn, call;
+    bool agrees;
+    size_t at;
+    uint64_t last, claim, state;
+};
+
+/* Plays the event at an offset, which is 0 or the offset behind another event, to the responder in `state`, which kurgashel_start has begun as the recorded one
+ * was: a call is made as it was recorded, with out buffers of 1,452 bytes, and what it sends is not given; a claim is compared. `state` has the bytes then that
+ * the call itself leaves, those that it had where the call is refused. Refusals 7, where `state` has another size, and 12. A packet or TXT of up to 65,535 bytes is
+ * put together on the stack: give this call 128 KiB of it. */
+struct kurgashel_played kurgashel_play(uint8_t *state, size_t state_bytes, const uint8_t *trace, size_t trace_bytes, size_t at);
+
 /* ---- the reader */
 
 /* A message as it lies: a refusal (4, 5 or 6) or 0, the ID and flags, how many questions and records each section has and where it starts, and the offset
