@@ -1,12 +1,18 @@
-//! The reader runs in a stack of 64 KiB, whatever the packet, and so do the calls of the responder and of the cache.
+//! The reader runs in a stack of 64 KiB, whatever the packet, and so do the calls of the responder and of the cache; the player, which puts a packet together first,
+//! in 128 KiB.
 
 use bench::packets;
 use bench::responders::Calls;
 
-/// Runs `work` on a thread with a stack of 64 KiB; one that overflows ends the test with a fault.
+/// Runs `work` on a thread with a stack of 64 KiB.
 fn in_64_kib(work: fn()) {
+    in_stack(64, work);
+}
+
+/// Runs `work` on a thread with a stack of so many KiB; one that overflows ends the test with a fault.
+fn in_stack(kib: usize, work: fn()) {
     std::thread::Builder::new()
-        .stack_size(64 * 1024)
+        .stack_size(kib * 1024)
         .spawn(work)
         .expect("a thread")
         .join()
@@ -57,6 +63,53 @@ fn a_responder_that_receives_each() {
             responder.receive(1000, &packet);
             responder.tick(1000);
         }
+    });
+}
+
+#[test]
+fn a_player_that_plays_each() {
+    in_stack(128, || {
+        let mut recorder = kurgashel::Recorder::new();
+        for packet in [
+            packets::longest_chain().0,
+            packets::label_by_label().0,
+            packets::worst(),
+            bench::responders::query(),
+            bench::responders::truncated(),
+            vec![0; 65535],
+        ] {
+            let arrival = kurgashel::Event::Packet {
+                now: 1000,
+                from: std::net::Ipv6Addr::LOCALHOST,
+                port: kurgashel::PORT,
+                draws: kurgashel::Draws {
+                    reply: 20,
+                    hold: 400,
+                },
+                packet,
+            };
+            recorder.record(&arrival).expect("each value fits");
+            let tick = kurgashel::Event::Tick { now: 1000 };
+            recorder.record(&tick).expect("a time fits");
+        }
+        let setup = kurgashel::Setup::new(
+            "booth",
+            "_voice",
+            "_tcp",
+            "dock",
+            4000,
+            b"\0",
+            [10, 0, 0, 7],
+            None,
+        );
+        let mut player = kurgashel::Player::start(&setup, 0, 0).expect("a good set-up");
+        let (mut at, mut taken) = (0, 0);
+        while let Some(turn) = player.play(recorder.trace(), at).expect("it is read") {
+            taken += usize::from(turn.played == kurgashel::Played::Call(Ok(())));
+            at = turn.next;
+        }
+        // all but the packet of 65,535 bytes
+        assert_eq!(taken, 11);
     });
 }
 

@@ -23,6 +23,7 @@
 mod browser;
 mod cache;
 mod pairs;
+mod player;
 mod proxy;
 mod reader;
 mod responder;
@@ -32,6 +33,7 @@ mod trace;
 pub use browser::{Browser, BrowserDraws, Instances, Listed};
 pub use cache::{Cache, Found, Taken, MOST_ENTRIES};
 pub use pairs::{txt_lookup, Pair};
+pub use player::{Line, Lines, Played, Player, Turn};
 pub use proxy::{Asked, Passed, Proxy};
 pub use reader::{
     message_refusal, name_end, name_length, Data, Message, Name, Nsec, Question, Record, Section,
@@ -41,7 +43,7 @@ pub use responder::{
     Arrival, Claim, Draws, OutBuffers, Received, Responder, Ticked, OUT_BYTES, PORT, STATE_BYTES,
 };
 pub use setup::{Setup, SETUP_BYTES};
-pub use trace::{trace_check, Event, Events, Line, Player, Recorder, TraceRefusal, Which};
+pub use trace::{trace_check, Event, Events, Recorder, TraceRefusal, Which};
 
 /// Why a call was refused, by the specification's number.
 #[derive(Clone, Copy, Debug, PartialEq, Eq)]

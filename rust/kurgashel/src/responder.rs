@@ -204,6 +204,11 @@ impl Responder {
         &self.state
     }
 
+    /// The state's bytes, for a call of the library that changes them.
+    pub(crate) fn bytes_mut(&mut self) -> &mut [u8; STATE_BYTES] {
+        &mut self.state
+    }
+
     /// Takes a packet, and writes what is to be sent at once to the out buffers: to all, and to the sender alone what it asked for by unicast and all have heard not
     /// long ago (RFC 6762 section 5.4). A plain resolver, which asks from a port other than 5353, is answered alone.
     ///

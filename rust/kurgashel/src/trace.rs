@@ -1,9 +1,9 @@
-//! Traces of one responder: a reader that gives events, a recorder that writes them, and a player that runs them again. docs/TRACE.md has the format.
+//! Traces of one responder: a reader that gives events, and a recorder that writes them. docs/TRACE.md has the format; the module `player` plays them.
 
 use std::fmt;
-use std::net::{IpAddr, Ipv6Addr, SocketAddr};
+use std::net::Ipv6Addr;
 
-use crate::{Arrival, Claim, Draws, OutBuffers, Refusal, Responder, Setup, OUT_BYTES};
+use crate::{Claim, Draws, Refusal};
 
 #[repr(C)]
 struct EventNumbers {
@@ -63,6 +63,15 @@ pub enum Which {
     Instance,
     /// The host's.
     Host,
+}
+
+impl Which {
+    pub(crate) fn of(number: u64) -> Which {
+        match number {
+            0 => Which::Instance,
+            _ => Which::Host,
+        }
+    }
 }
 
 /// What happened to a responder: a call that was made, refused or not, or what was recorded of a claim.
@@ -138,7 +147,8 @@ impl fmt::Display for TraceRefusal {
 
 impl std::error::Error for TraceRefusal {}
 
-const CLAIMS: [Claim; 5] = [
+/// By their numbers.
+pub(crate) const CLAIMS: [Claim; 5] = [
     Claim::Waiting,
     Claim::Probing,
     Claim::Deferred,
@@ -227,11 +237,7 @@ impl Iterator for Events<'_> {
             },
             4 => Event::Claim {
                 last: now,
-                which: if n.claim == 0 {
-                    Which::Instance
-                } else {
-                    Which::Host
-                },
+                which: Which::of(n.claim),
                 state: CLAIMS[n.state as usize],
             },
             6 => Event::Stop { now },
@@ -340,105 +346,6 @@ impl Recorder {
                 self.trace.truncate(at);
                 Err(TraceRefusal { offset: answer.at })
             }
-        }
-    }
-}
-
-/// What was recorded of a claim, beside the responder that plays the trace. It is shown as `5000 host held ok`, with `bad` where state or time differs.
-#[derive(Clone, Copy, Debug, PartialEq, Eq)]
-pub struct Line {
-    /// The last time.
-    pub last: u64,
-    /// Which claim.
-    pub which: Which,
-    /// How it stood.
-    pub state: Claim,
-    /// Whether the responder's last time is the same and its claim stands so.
-    pub agrees: bool,
-}
-
-impl fmt::Display for Line {
-    fn fmt(&self, f: &mut fmt::Formatter) -> fmt::Result {
-        let which = match self.which {
-            Which::Instance => "instance",
-            Which::Host => "host",
-        };
-        let verdict = if self.agrees { "ok" } else { "bad" };
-        write!(
-            f,
-            "{} {} {} {}",
-            self.last,
-            which,
-            self.state.word(),
-            verdict
-        )
-    }
-}
-
-/// Plays events to a responder: each call is made, on past refused ones, with out buffers of 1,452 bytes.
-#[derive(Clone, Debug)]
-pub struct Player {
-    responder: Responder,
-}
-
-impl Player {
-    /// One whose responder begins with a set-up, a time and a draw.
-    pub fn start(setup: &Setup, now: u64, draw: u64) -> Result<Player, Refusal> {
-        Ok(Player {
-            responder: Responder::start(setup, now, draw)?,
-        })
-    }
-
-    /// The responder as it is.
-    pub fn responder(&self) -> &Responder {
-        &self.responder
-    }
-
-    /// Plays an event. What was recorded of a claim is a line; calls show nothing.
-    pub fn play(&mut self, event: &Event) -> Option<Line> {
-        let mut out = [0; OUT_BYTES];
-        let mut to_sender = [0; OUT_BYTES];
-        match event {
-            Event::Tick { now } => _ = self.responder.tick(*now, &mut out),
-            Event::Packet {
-                now,
-                from,
-                port,
-                draws,
-                packet,
-            } => {
-                let arrival = Arrival {
-                    now: *now,
-                    from: SocketAddr::new(IpAddr::V6(*from), *port),
-                    draws: *draws,
-                    packet,
-                };
-                let buffers = OutBuffers {
-                    to_all: &mut out,
-                    to_sender: &mut to_sender,
-                };
-                _ = self.responder.receive(arrival, buffers);
-            }
-            Event::Stop { now } => _ = self.responder.stop(*now, &mut out),
-            Event::Port { now, port } => _ = self.responder.update_port(*now, *port, &mut out),
-            Event::Txt { now, txt } => _ = self.responder.update_txt(*now, txt, &mut out),
-            Event::Claim { last, which, state } => {
-                return Some(self.compare(*last, *which, *state))
-            }
-        }
-        None
-    }
-
-    fn compare(&self, last: u64, which: Which, state: Claim) -> Line {
-        let is = match which {
-            Which::Instance => self.responder.instance(),
-            Which::Host => self.responder.host(),
-        };
-        Line {
-            last,
-            which,
-            state,
-            agrees: self.responder.last() == last && is == state,
         }
     }
 }

@@ -1,11 +1,13 @@
-//! Traces: what is recorded is read back and played; the worked example of docs/TRACE.md; refusals with their offsets; a trace whose end is lost.
+//! Traces: what is recorded is read back and played; the worked example of docs/TRACE.md; refusals with their offsets; a trace whose end is lost; the stored recording
+//! of the program `player`, and random ones that the reference program plays too.
 
 use std::net::{Ipv4Addr, Ipv6Addr};
 
 use kurgashel::{
-    trace_check, Claim, Draws, Event, Events, Player, Recorder, Responder, Setup, TraceRefusal,
-    Which, OUT_BYTES,
+    trace_check, Claim, Draws, Event, Events, Played, Player, Recorder, Refusal, Responder, Setup,
+    TraceRefusal, Turn, Which, OUT_BYTES,
 };
+use reference::script::traces::plays;
 
 /// The trace of docs/TRACE.md.
 fn example() -> Vec<Event> {
@@ -47,6 +49,19 @@ fn example() -> Vec<Event> {
         },
         Event::Stop { now: 20000 },
     ]
+}
+
+fn setup() -> Setup {
+    Setup::new(
+        "booth",
+        "_voice",
+        "_tcp",
+        "dock",
+        4000,
+        b"\x06room=3",
+        [10, 0, 0, 7],
+        None,
+    )
 }
 
 fn bytes_of(events: &[Event]) -> Vec<u8> {
@@ -124,16 +139,7 @@ fn values_that_do_not_fit() {
 
 #[test]
 fn a_recorded_run_is_played_as_it_went() {
-    let setup = Setup::new(
-        "booth",
-        "_voice",
-        "_tcp",
-        "dock",
-        4000,
-        b"\x06room=3",
-        [10, 0, 0, 7],
-        None,
-    );
+    let setup = setup();
     let mut responder = Responder::start(&setup, 0, 120).expect("a good set-up");
     let mut recorder = Recorder::new();
     let mut out = [0; OUT_BYTES];
@@ -161,8 +167,8 @@ fn a_recorded_run_is_played_as_it_went() {
         })
         .unwrap();
     let mut player = Player::start(&setup, 0, 120).expect("the same set-up");
-    let events = Events::new(recorder.trace()).map(|event| event.expect("it is read"));
-    let lines: Vec<_> = events.filter_map(|event| player.play(&event)).collect();
+    let lines: Result<Vec<_>, _> = player.lines(recorder.trace()).collect();
+    let lines = lines.expect("it is read");
     assert!(lines.len() > 8 && lines.iter().all(|line| line.agrees));
     assert_eq!(player.responder().bytes(), responder.bytes());
     let last = lines.last().expect("there is one");
@@ -170,14 +176,126 @@ fn a_recorded_run_is_played_as_it_went() {
         last.to_string(),
         format!("{} host held ok", responder.last())
     );
-    let other = Event::Claim {
+    let other = bytes_of(&[Event::Claim {
         last: responder.last(),
         which: Which::Instance,
         state: Claim::Lost,
-    };
-    let line = player.play(&other).expect("a line");
+    }]);
+    let line = player.lines(&other).next().expect("a line").unwrap();
     assert_eq!(
         line.to_string(),
         format!("{} instance lost bad", responder.last())
     );
+}
+
+#[test]
+fn each_call_tells_whether_it_was_refused() {
+    let trace = bytes_of(&example());
+    let mut player = Player::start(&setup(), 0, 0).expect("a good set-up");
+    let mut calls = Vec::new();
+    let mut at = 0;
+    while let Some(turn) = player.play(&trace, at).expect("it is read") {
+        calls.push(turn.played);
+        at = turn.next;
+    }
+    assert_eq!(at, trace.len());
+    let Played::Claim(line) = calls.remove(1) else {
+        panic!("a claim was recorded");
+    };
+    assert_eq!(line.to_string(), "5000 host held bad");
+    // an update while the name is still to be probed for is taken, and so is one 7,000 ms later
+    assert_eq!(calls, [Played::Call(Ok(())); 6]);
+    let again = bytes_of(&[
+        Event::Tick { now: 19999 },
+        Event::Port {
+            now: 20000,
+            port: 1,
+        },
+    ]);
+    let before = player.responder().bytes().to_vec();
+    let refused = |refusal, next| {
+        let played = Played::Call(Err(refusal));
+        Ok(Some(Turn { played, next }))
+    };
+    assert_eq!(player.play(&again, 0), refused(Refusal::Time, 9));
+    assert_eq!(player.play(&again, 9), refused(Refusal::Lost, 20));
+    assert_eq!(player.play(&again, 20), Ok(None));
+    assert_eq!(player.responder().bytes()[..], before);
+}
+
+#[test]
+fn a_torn_trace_is_played_to_its_last_whole_event() {
+    let trace = bytes_of(&example());
+    let mut player = Player::start(&setup(), 0, 0).expect("a good set-up");
+    let lines: Vec<_> = player.lines(&trace[..trace.len() - 1]).collect();
+    let torn = Err(TraceRefusal { offset: 157 });
+    assert_eq!((lines.len(), lines[1]), (2, torn));
+    assert_eq!(player.responder().last(), 13000);
+    let state = player.responder().bytes().to_vec();
+    assert_eq!(player.play(&trace, 1), Err(TraceRefusal { offset: 1 }));
+    assert_eq!(player.responder().bytes()[..], state);
+}
+
+/// What the program `player` writes of a recording whose first line is of its form: to standard output, or else to standard error.
+fn play(recording: &[u8]) -> Result<String, String> {
+    let end = recording.iter().position(|byte| *byte == b'\n').unwrap();
+    let line = std::str::from_utf8(&recording[..end]).unwrap();
+    let fields: Vec<_> = line.split(' ').collect();
+    let number = |n: usize| fields[n].parse::<u64>().unwrap();
+    let setup = Setup::new(
+        bytes_in(fields[2]),
+        bytes_in(fields[3]),
+        bytes_in(fields[4]),
+        bytes_in(fields[5]),
+        number(7) as u16,
+        &bytes_in(fields[8]),
+        bytes_in(fields[9]).try_into().unwrap(),
+        bytes_in(fields[10]).try_into().ok(),
+    );
+    let player = Player::start(
+        &setup.with_domain(bytes_in(fields[6])),
+        number(0),
+        number(1),
+    );
+    let mut player = player.map_err(|refusal| format!("refused {}\n", refusal.number()))?;
+    let lines = player.lines(&recording[end + 1..]);
+    lines
+        .map(|line| match line {
+            Ok(line) => Ok(format!("{line}\n")),
+            Err(refusal) => Err(format!("refused 12 {}\n", refusal.offset)),
+        })
+        .collect()
+}
+
+#[test]
+fn the_lines_of_the_program_player() {
+    let stored = play(include_bytes!("../../../crates/player/stdin"));
+    let expected = include_str!("../../../crates/player/stdout");
+    assert!(expected.lines().count() > 100);
+    assert_eq!(stored.as_deref(), Ok(expected));
+}
+
+#[test]
+fn random_recordings_are_played_as_the_reference_program_plays_them() {
+    let (mut lines, mut refused) = (0, 0);
+    for recording in (1..=3).flat_map(|seed| plays(seed, 20_000)) {
+        let expected = reference::player::run(&recording);
+        if expected == Err("bad line\n".into()) {
+            continue;
+        }
+        let played = play(&recording);
+        assert_eq!(played, expected, "{recording:x?}");
+        lines += played.as_ref().map_or(0, |lines| lines.lines().count());
+        refused += usize::from(played.is_err());
+    }
+    assert!(lines > 1000 && refused > 10, "{lines}, {refused}");
+}
+
+/// The bytes of a field in hex, none for `-`.
+fn bytes_in(field: &str) -> Vec<u8> {
+    let digits = field.trim_matches('-');
+    (0..digits.len())
+        .step_by(2)
+        .map(|i| u8::from_str_radix(&digits[i..i + 2], 16).unwrap())
+        .collect()
 }

@@ -105,10 +105,8 @@ mod tests {
         let line_end = LINE.len();
         assert_eq!(&bytes[..line_end + 1], format!("{LINE}\n").as_bytes());
         let mut player = kurgashel::Player::start(&start.setup(), start.now, start.draw).unwrap();
-        let events = kurgashel::Events::new(&bytes[line_end + 1..]);
-        let lines: Vec<_> = events
-            .filter_map(|event| player.play(&event.unwrap()))
-            .collect();
+        let lines = player.lines(&bytes[line_end + 1..]);
+        let lines: Vec<_> = lines.map(|line| line.unwrap()).collect();
         assert_eq!(lines.len(), 6);
         assert!(lines.iter().all(|line| line.agrees));
         assert_eq!(lines[5].state, Claim::Held);

@@ -2,7 +2,7 @@
 
 use std::fmt;
 
-use kurgashel::{Claim, Event, Events, Player};
+use kurgashel::{Claim, Event, Events, Played, Player};
 
 use super::spans::{Event as Mark, Mark as At, Span, Timeline};
 use crate::name::{from_labels, text};
@@ -40,7 +40,7 @@ pub fn add(
     let start = line.and_then(Start::read);
     let start = start.ok_or("no recording: its first line is not how a responder was started")?;
     let player = Player::start(&start.setup(), start.now, start.draw);
-    let mut played = Played {
+    let mut replay = Replay {
         player: player.map_err(refusal::text)?,
         names: names(&start),
         held_since: [None; 2],
@@ -48,7 +48,7 @@ pub fn add(
         distance,
         last: start.now,
     };
-    played.mark(
+    replay.mark(
         timeline,
         start.now,
         if is_restart {
@@ -60,23 +60,25 @@ pub fn add(
     let trace = &bytes[end + 1..];
     let mut events = Events::new(trace);
     let mut torn = None;
+    let mut at = 0;
     while let Some(event) = events.next() {
         match event {
-            Ok(event) => played.take(timeline, &event),
+            Ok(event) => replay.take(timeline, trace, at, &event),
             // the event that is cut begins at the last one's end
             Err(_) => {
                 torn = Some(Torn {
-                    offset: events.offset(),
-                    left_out: trace.len() - events.offset(),
+                    offset: at,
+                    left_out: trace.len() - at,
                 });
             }
         }
+        at = events.offset();
     }
-    played.close(timeline);
+    replay.close(timeline);
     Ok(torn)
 }
 
-struct Played<'a> {
+struct Replay<'a> {
     player: Player,
     names: [String; 2],
     /// Since when each name is held, on the recording's clock.
@@ -87,12 +89,14 @@ struct Played<'a> {
     last: u64,
 }
 
-impl Played<'_> {
-    fn take(&mut self, timeline: &mut Timeline, event: &Event) {
+impl Replay<'_> {
+    /// Plays the event that stands at an offset.
+    fn take(&mut self, timeline: &mut Timeline, trace: &[u8], at: usize, event: &Event) {
         let before = self.claims();
-        let line = self.player.play(event);
+        let turn = self.player.play(trace, at).ok().flatten();
         self.last = self.last.max(time(event));
-        if line.is_some_and(|line| !line.agrees) {
+        let played = turn.map(|turn| turn.played);
+        if matches!(played, Some(Played::Claim(line)) if !line.agrees) {
             self.mark(timeline, self.last, Mark::Contradicted);
         }
         let now = self.last;
@@ -172,7 +176,7 @@ fn time(event: &Event) -> u64 {
 
 #[cfg(test)]
 mod tests {
-    use kurgashel::{Recorder, Which};
+    use kurgashel::{Recorder, Responder, Which, OUT_BYTES};
 
     use super::*;
     use crate::recording::start::tests::LINE;
@@ -180,12 +184,11 @@ mod tests {
     /// A recording of a responder that comes to hold its names, with the claims' states, and this behind it.
     fn recording(more: &[Event]) -> Vec<u8> {
         let start = Start::read(LINE).unwrap();
-        let mut player = Player::start(&start.setup(), start.now, start.draw).unwrap();
+        let mut responder = Responder::start(&start.setup(), start.now, start.draw).unwrap();
         let mut recorder = Recorder::new();
-        while let Some(now) = player.responder().due() {
-            let tick = Event::Tick { now };
-            player.play(&tick);
-            recorder.record(&tick).unwrap();
+        while let Some(now) = responder.due() {
+            responder.tick(now, &mut [0; OUT_BYTES]).unwrap();
+            recorder.record(&Event::Tick { now }).unwrap();
         }
         for event in more {
             recorder.record(event).unwrap();
