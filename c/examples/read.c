@@ -62,18 +62,15 @@ int main(int arguments, char **argument) {
     for (const char *hex = arguments == 2 ? argument[1] : ""; length < sizeof packet && sscanf(hex, "%2x", &byte) == 1; hex += strlen(hex) > 1 ? 2 : 1)
         packet[length++] = (uint8_t)byte;
     struct kurgashel_message message = kurgashel_message(packet, length);
-    if (message.refusal) {
-        printf("refused %u\n", message.refusal);
-        return 0;
-    }
+    if (message.refusal)
+        return printf("refused %u\n", message.refusal) < 0;
     printf("%s, id %u\n", message.flags >> 15 ? "response" : "query", message.id);
-    size_t at = message.questions_at;
+    struct kurgashel_question question = { .next = message.questions_at };
     for (unsigned k = 0; k < message.questions; k++) {
-        struct kurgashel_question question = kurgashel_question(packet, length, at);
+        question = kurgashel_question(packet, length, question.next);
         printf("%-10s ", "question");
         show_name(question.name);
         printf(" type %u class %u\n", question.rtype, question.class_);
-        at = question.next;
     }
     show_records("answer", message.answers_at, message.answers);
     show_records("authority", message.authorities_at, message.authorities);

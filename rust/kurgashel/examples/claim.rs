@@ -24,16 +24,7 @@ fn take_steps(responder: &mut Responder, mut now: u64) -> Result<u64, Refusal> {
 }
 
 fn main() -> Result<(), Refusal> {
-    let setup = Setup::new(
-        "booth",
-        "_voice",
-        "_tcp",
-        "dock",
-        4000,
-        b"\x06room=3",
-        [10, 0, 0, 7],
-        None,
-    );
+    let setup = Setup::new("booth", "_voice", "_tcp", "dock", 4000, b"\x06room=3", [10, 0, 0, 7], None);
     let mut responder = Responder::start(&setup, 0, 120)?;
     let now = take_steps(&mut responder, 0)? + 1000;
 
@@ -41,17 +32,11 @@ fn main() -> Result<(), Refusal> {
     let arrival = Arrival {
         now,
         from: SocketAddr::from(([10, 0, 0, 9], PORT)),
-        draws: Draws {
-            reply: 20,
-            hold: 400,
-        },
+        draws: Draws { reply: 20, hold: 400 },
         packet: b"\0\0\x02\0\0\x01\0\0\0\0\0\0\x04dock\x05local\0\0\x01\0\x01",
     };
     let (mut to_all, mut to_sender) = ([0; OUT_BYTES], [0; OUT_BYTES]);
-    let out = OutBuffers {
-        to_all: &mut to_all,
-        to_sender: &mut to_sender,
-    };
+    let out = OutBuffers { to_all: &mut to_all, to_sender: &mut to_sender };
     let sent = responder.receive(arrival, out)?;
     let length = sent.to_all + sent.to_sender;
     println!("{now:4} ms: a query with TC; {length} bytes go out at once");
