@@ -1,11 +1,6 @@
 # What is done with this repository, by name: each target calls the script or the tool that does it.
 
-PREFIX ?= /usr/local
-include = $(DESTDIR)$(PREFIX)/include
-lib = $(DESTDIR)$(PREFIX)/lib
-version = $(shell sed -n 's/^version = "\(.*\)"/\1/p' rust/kurgashel/Cargo.toml)
-
-.PHONY: help try test library install uninstall bench clean
+.PHONY: help try test library programs install uninstall archive bench clean
 
 help: ## list the targets
 	@awk -F ':.*## ' '/^[a-z]+:.*## / { printf "make %-10s %s\n", $$1, $$2 }' Makefile
@@ -19,15 +14,18 @@ test: ## run the gate: all tests and all proofs
 library: ## prove and build target/staticlib/libkurgashel.a and libkurgashel_reader.a
 	tools/library
 
-install: library ## copy the header, both archives and kurgashel.pc under $(DESTDIR)$(PREFIX), by default /usr/local
-	install -d "$(include)" "$(lib)/pkgconfig"
-	install -m 644 c/include/kurgashel.h "$(include)"
-	install -m 644 target/staticlib/libkurgashel.a target/staticlib/libkurgashel_reader.a "$(lib)"
-	sed 's|@PREFIX@|$(PREFIX)|; s|@VERSION@|$(version)|' c/kurgashel.pc.in >"$(lib)/pkgconfig/kurgashel.pc"
-	chmod 644 "$(lib)/pkgconfig/kurgashel.pc"
+programs: library ## build the programs on sockets, and the player
+	cargo build --release --quiet --manifest-path rust/Cargo.toml --package udp
+	[ -z "$$(find crates crates.txt -newer target/bin/player -type f 2>&1 | head -n 1)" ] || tools/prove --quiet player
+
+install: library programs ## copy library, header, programs, units and man pages under DESTDIR and PREFIX, by default /usr/local
+	packaging/install
 
 uninstall: ## remove what install copied
-	rm -f "$(include)/kurgashel.h" "$(lib)/libkurgashel.a" "$(lib)/libkurgashel_reader.a" "$(lib)/pkgconfig/kurgashel.pc"
+	packaging/install --remove
+
+archive: ## write target/kurgashel-VERSION.tar.gz, the sources that builds and installs are made from
+	packaging/archive
 
 bench: library ## time the proved library beside ordinary Rust and the peers that are installed, and draw docs/benchmark.svg
 	rust/peers/build.sh
