@@ -26,7 +26,7 @@ pub fn main<Options>(
             run(&options)
         }
         Ok(None) => {
-            print!("{help}");
+            print!("{}", crate::arguments::named(help));
             Ok(End::Stopped)
         }
         Err(error) => Err(error.into()),
