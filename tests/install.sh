@@ -68,9 +68,11 @@ echo "make install from the archive with DESTDIR, and with PREFIX: $(echo "$file
 
 # A unit is taken without a word, and is exposed no more than this, of 100, by systemd's own count.
 most_exposed=20
+with_pages=$(command -v man >/dev/null 2>&1 && echo yes || echo no)
 if command -v systemd-analyze >/dev/null 2>&1; then
     for unit in "$work/own"/lib/systemd/system/*; do
-        MANPATH="$work/own/share/man" systemd-analyze verify "$unit" >"$work/said" 2>&1 || fail "systemd does not take ${unit##*/}: $(cat "$work/said")"
+        MANPATH="$work/own/share/man" systemd-analyze verify --man="$with_pages" "$unit" >"$work/said" 2>&1 ||
+            fail "systemd does not take ${unit##*/}: $(cat "$work/said")"
         [ ! -s "$work/said" ] || fail "systemd has a word on ${unit##*/}: $(cat "$work/said")"
         systemd-analyze security --no-pager --offline=true --threshold="$most_exposed" "$unit" >"$work/said" 2>&1 || fail "$(cat "$work/said")"
         sed -n 's/.*Overall exposure level for \(.*\): \([0-9.]*\).*/\1: systemd takes it, and counts it exposed by \2 of 10/p' "$work/said"
