@@ -6,3 +6,4 @@ mod Known
 mod Responses
 mod Said
 mod Types
+mod Steps

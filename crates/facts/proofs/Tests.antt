@@ -8,6 +8,20 @@ use Rattle.wire.specs.case_folding.Fold.{sameName}
 use Rattle.wire.specs.expansion.Equal.{sameBytes}
 use Rattle.wire.specs.message.Message.{Question, Record, classOf}
 use Rattle.wire.specs.Lists.{some}
+use lib.ListN.{length}
+use Rattle.wire.specs.names.Names.{nameAt}
+use Rattle.wire.specs.names.Answers.{sameAs, nameIs}
+use Rattle.wire.specs.message.Layout.{bytesOf, questionRead}
+use Rattle.wire.specs.message.Readable.{wholeRead, recordShown}
+use Rattle.wire.specs.declared.names.Span.{Span}
+use Rattle.wire.specs.declared.message.QuestionAt.{QuestionAt}
+use Rattle.wire.specs.declared.message.QuestionRead.the-variants as q
+use Rattle.wire.specs.declared.message.RecordAt.{RecordAt}
+use Rattle.wire.specs.declared.message.RecordRead.the-variants as r
+use Rattle.wire.proofs.case_folding.Equal.{same-lengths}
+use Rattle.wire.proofs.message.Cursor.{question-fields}
+use Rattle.wire.proofs.message.Walk.{record-found}
+use Rattle.facts.specs.Found.{Long}
 use Rattle.claims.specs.records.Own.{ownType, claimFor, carriesData, firstOf, secondOf}
 use Rattle.claims.specs.declared.records.Claim.{Claim}
 use Rattle.claims.specs.declared.records.Own.{Own}
@@ -115,3 +129,18 @@ module _ (name : List ℕ) (rtype : ℕ) (own : List ℕ) (r : Record) where
           → w ≡ suppresses name rtype own ttl r
       suppresses-rdata h c t l w k =
           k ∙ sym (simp (sym e ∙ h, eq-eqb (classOf (r .class)) 1 c, eq-eqb (r .rtype) rtype t, le-leb ttl (2 * r .ttl) l, and-true))
+
+-- a name and its length, of a question and of a record that were found; and one of another length is another name
+pub question-long : (p : List ℕ) (at : ℕ) (f : QuestionAt) → questionRead p at ≡ q.Found f → Long p (f .name) (f .span .len)
+unfolding questionRead
+question-long p at f is =
+    let k = question-fields p at (nameAt p at) f is in
+    (bytesOf (nameAt p at), (k .2 .0, (ap (nameAt p) (k .0) ∙ k .2 .1, ap (λ (s : Span). s .len) (k .1 .1))))
+
+pub record-long : (p : List ℕ) (at : ℕ) (f : RecordAt) → wholeRead p at ≡ r.Found f → Long p (f .owner) (f .span .len)
+record-long p at f is = let m = record-found p at _ (sym is) f refl in (recordShown p f .owner, (m .end, (m .owner, m .span)))
+
+pub other-length : (p : List ℕ) (at len : ℕ) (own : List ℕ) → Long p at len → (len ≡ length own → ⊥) → false ≡ nameIs p at own
+unfolding nameIs
+other-length p at len own k h =
+    sym (ap (sameAs own) (k .1 .1 .0) ∙ same-lengths (k .0) own (λ e. h (k .1 .1 .1 ∙ e)))

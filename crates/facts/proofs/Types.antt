@@ -1,4 +1,4 @@
--- Where no record that one can step over has the type of a claimed record, no readable one conflicts. Assumes nothing.
+-- Where no record has the type of a claimed record, none conflicts. Assumes nothing.
 use mathlib.Core.Path.{_≡_, refl, sym, ap, _∙_}
 use mathlib.Core.List.{List, [], _∷_, _++_}
 use mathlib.Core.Bool.{Bool, true, false, cond, not, _&&_, _||_, and-false, or-false}
@@ -8,14 +8,9 @@ use borrow.Author.Tests.{ne-eqb, eqb-true}
 use lib.Dec.{eqb}
 use Rattle.wire.specs.Lists.{some}
 use Rattle.wire.specs.case_folding.Fold.{sameName}
-use Rattle.wire.specs.names.Names.{nameAt}
-use Rattle.wire.specs.rdata.Rdata.{Rdata, rdata, unfit, rdataAt}
-use Rattle.wire.specs.message.Message.{Record, Message, recordOf, classOf, allRecords}
-use Rattle.wire.specs.message.Layout.{Item, item, broken, bytesOf, recordRead, withRdata, recordMeant, recordAt}
-use Rattle.wire.specs.message.Readable.{andMore, readable, messageIn}
-use Rattle.wire.specs.declared.message.RecordAt.{RecordAt}
-use Rattle.wire.specs.declared.message.RecordRead.{RecordRead}
-use Rattle.wire.specs.declared.message.RecordRead.the-variants as r
+use Rattle.wire.specs.message.Message.{Record, Message, classOf, allRecords}
+use Rattle.wire.specs.message.Layout.{recordAt}
+use Rattle.wire.specs.message.Readable.{readable, messageIn}
 use Rattle.wire.specs.declared.message.Section.{Section}
 use Rattle.wire.specs.declared.message.Layout.{Layout}
 use Rattle.claims.specs.records.Own.{ownType, firstOf, secondOf}
@@ -26,7 +21,7 @@ use Rattle.claims.specs.declared.records.Own.{Own}
 use Rattle.own.specs.declared.records.Setup.{Setup}
 use Rattle.own.specs.records.Records.{hasRecord, ownName, ownRdata}
 use Rattle.facts.specs.Facts.{conflicts, conflicted, inConflict, responseTo}
-use Rattle.facts.specs.Types.{canConflict, lies, lyingAt, typeConflicts, someType, mayConflict}
+use Rattle.facts.specs.Types.{canConflict, typeConflicts, someType, mayConflict}
 use Rattle.facts.proofs.Responses.{in-second}
 
 -- the test of a type, one after the other
@@ -56,36 +51,25 @@ module _ (name own : List ℕ) (rtype : ℕ) (can : canConflict rtype ≡ true) 
       go false e = refl
       go true e = sym (sym f ∙ ap canConflict (eqb-true n rtype e) ∙ can)
 
-  no-conflict : (bs d : List ℕ) (f : RecordAt) → typeConflicts f ≡ false → conflicts name rtype own (recordOf bs (f .rtype) (f .class) (f .ttl) d) ≡ false
-  no-conflict bs d f t =
-      let e : eqb (f .rtype) rtype ≡ false = other-type (f .rtype) t in
+  no-conflict : (x : Record) → typeConflicts x ≡ false → conflicts name rtype own x ≡ false
+  no-conflict x t =
+      let e : eqb (x .rtype) rtype ≡ false = other-type (x .rtype) t in
       simp (e, and-false)
 
   abbrev none : List Record → Type 0
   none rs = some (conflicts name rtype own) rs ≡ false
 
+  none-of : (rs : List Record) → some typeConflicts rs ≡ false → none rs
+  unfolding some
+  none-of [] h = refl
+  none-of (x ∷ rs) h =
+      let k = neither (typeConflicts x) (some typeConflicts rs) .0 h in
+      ap (λ (v : Bool). v || some (conflicts name rtype own) rs) (no-conflict x (k .0)) ∙ none-of rs (k .1)
+
   module _ (p : List ℕ) where
-    none-readable : (n at : ℕ) → some typeConflicts (readable (lyingAt p) n at) ≡ false → none (readable (recordAt p) n at)
-    unfolding some readable lyingAt recordAt
-    none-readable zero at h = refl
-    none-readable (suc n) at h = go (λ next. none-readable n next) (recordRead p at) h
-      where
-        on : (bs : List ℕ) (f : RecordAt) (d : Rdata) → typeConflicts f ≡ false → none (readable (recordAt p) n (f .next))
-            → none (andMore (readable (recordAt p) n) (withRdata bs f d))
-        on bs f (rdata d) t k = ap (λ (v : Bool). v || some (conflicts name rtype own) (readable (recordAt p) n (f .next))) (no-conflict bs d f t) ∙ k
-        on bs f unfit t k = refl
-
-        go : ((next : ℕ) → some typeConflicts (readable (lyingAt p) n next) ≡ false → none (readable (recordAt p) n next)) → (y : RecordRead)
-            → some typeConflicts (andMore (readable (lyingAt p) n) (lies y)) ≡ false
-            → none (andMore (readable (recordAt p) n) (recordMeant p (bytesOf (nameAt p at)) y))
-        go again (r.Found f) k =
-            let x = neither (typeConflicts f) (some typeConflicts (readable (lyingAt p) n (f .next))) .0 k in
-            on (bytesOf (nameAt p at)) f (rdataAt p f) (x .0) (again (f .next) (x .1))
-        go again r.Malformed k = refl
-
     none-in : (s : Section) → someType p s ≡ false → none (readable (recordAt p) (s .count) (s .at))
     unfolding someType
-    none-in s h = none-readable (s .count) (s .at) h
+    none-in s h = none-of (readable (recordAt p) (s .count) (s .at)) h
 
     none-conflicts : (l : Layout) → mayConflict p l ≡ false → none (allRecords (messageIn p l))
     unfolding mayConflict messageIn
@@ -118,27 +102,8 @@ module _ (s : Setup) (p : List ℕ) (l : Layout) (h : mayConflict p l ≡ false)
   quiet-claim Instance = quiet Instance (not-conflicted (firstOf Instance) refl) (not-conflicted (secondOf Instance) refl)
   quiet-claim Host = quiet Host (not-conflicted (firstOf Host) refl) (not-conflicted (secondOf Host) refl)
 
--- a record as it lies, met by a step
-module _ (p : List ℕ) (at : ℕ) (a : RecordRead) (is : a ≡ recordRead p at) where
-  pub lying-found : (f : RecordAt) → a ≡ r.Found f → lyingAt p at ≡ item f (f .next)
-  unfolding lyingAt
-  lying-found f e = ap lies (sym is ∙ e)
-
-  pub lying-broken : a ≡ r.Malformed → lyingAt p at ≡ broken
-  unfolding lyingAt
-  lying-broken e = ap lies (sym is ∙ e)
-
--- the sections in turn
-module _ (p : List ℕ) (l : Layout) (v : Bool) (e : v ≡ someType p (l .answers)) where
-  pub in-answers : v ≡ true → true ≡ mayConflict p l
-  unfolding mayConflict
-  in-answers t = sym (ap (λ (b : Bool). b || (someType p (l .authorities) || someType p (l .additionals))) (sym e ∙ t))
-
-  module _ (f : v ≡ false) (w : Bool) (k : w ≡ someType p (l .authorities)) where
-    pub in-authorities : w ≡ true → true ≡ mayConflict p l
-    unfolding mayConflict
-    in-authorities t = sym (λ j. (sym e ∙ f) j || ((sym k ∙ t) j || someType p (l .additionals)))
-
-    pub in-additionals : w ≡ false → (u : Bool) → u ≡ someType p (l .additionals) → u ≡ mayConflict p l
-    unfolding mayConflict
-    in-additionals g u h = h ∙ sym (λ j. (sym e ∙ f) j || ((sym k ∙ g) j || someType p (l .additionals)))
+-- the sections in turn: what is in none of them is not there
+pub in-none : (p : List ℕ) (l : Layout) → someType p (l .answers) ≡ false → someType p (l .authorities) ≡ false → someType p (l .additionals) ≡ false
+    → mayConflict p l ≡ false
+unfolding mayConflict
+in-none p l a b c = λ j. a j || (b j || c j)

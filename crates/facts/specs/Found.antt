@@ -3,6 +3,8 @@
 use Prim.Native.Nat.{ℕ}
 use mathlib.Core.Path.{_≡_}
 use mathlib.Core.List.{List}
+use lib.ListN.{length}
+use Rattle.wire.specs.names.Names.{name, nameAt}
 use Rattle.wire.specs.message.Layout.{questionRead}
 use Rattle.wire.specs.message.Readable.{wholeRead}
 use Rattle.wire.specs.declared.message.QuestionAt.{QuestionAt}
@@ -16,3 +18,7 @@ QuestionFound p f = (at : ℕ) × (questionRead p at ≡ q.Found f)
 -- its rdata as its type asks
 abbrev pub RecordFound : List ℕ → RecordAt → Type 0
 RecordFound p f = (at : ℕ) × (wholeRead p at ≡ r.Found f)
+
+-- the name at an offset has so many bytes
+abbrev pub Long : List ℕ → ℕ → ℕ → Type 0
+Long p at len = (bs : List ℕ) × ((e : ℕ) × ((nameAt p at ≡ name bs e) × (len ≡ length bs)))

@@ -5,7 +5,11 @@ pub mod probe;
 pub mod tiebreak;
 
 ghost use mathlib.Core.Path.{_≡_};
-ghost use mathlib.Core.Bool.{Bool, cond, _&&_, _||_};
+ghost use mathlib.Core.Bool.{Bool, false, cond, _&&_, _||_};
+ghost use mathlib.Core.List.{List};
+ghost use Prim.Native.Nat.{ℕ};
+ghost use Rattle.wire.specs.names.Names.{name, nameAt};
+ghost use Rattle.wire.specs.names.Answers.{nameIs};
 ghost use Rattle.wire.specs.Lists.{some};
 ghost use Rattle.wire.specs.message.Message.{Question, Record, allRecords, topBit};
 ghost use Rattle.wire.specs.message.Layout.{recordAt};
@@ -13,7 +17,7 @@ ghost use Rattle.wire.specs.message.Readable.{readable, messageIn, questionShow
 ghost use Rattle.claims.specs.records.Own.{ownType, has, each};
 ghost use Rattle.own.specs.records.Records.{hasRecord};
 ghost use Rattle.facts.specs.Questions.{takesIn, asksBy, isQm, isQu};
-ghost use Rattle.facts.specs.Found.{QuestionFound, RecordFound};
+ghost use Rattle.facts.specs.Found.{QuestionFound, RecordFound, Long};
 ghost use Rattle.facts.specs.tiebreak.Later.{isLater};
 ghost use Rattle.facts.specs.Types.{canConflict, someType, mayConflict};
 ghost use Rattle.facts.specs.Facts.{typeAsks, asksOwn, askedWith, isAskedAs, isKnown, suppresses, conflicts, conflicted, theirsLater};
@@ -49,6 +53,17 @@ fn takes_in(asked: u16, own: u16) -> bool
     asked == ANY
 }
 
+// Whether the name of so many bytes at an offset is an own one: the lengths are compared before any pointer is followed.
+fn is_named(p: &[u8], at: usize, len: usize, own: &[u8]) -> bool
+    requires { ⌜ Long (now p) at len ⌝ }
+    ensures { λ r. ⌜ r ≡ nameIs (now (p .entry)) at (now (own .entry)) ⌝ }
+{
+    if len != own.len() {
+        return false;
+    }
+    wire::names::name_is(p, at, own)
+}
+
 // Whether a question asks for what a name has, where its type takes that in or not.
 fn asks(p: &[u8], q: wire::message::QuestionAt, name: &[u8], takes: bool) -> bool
     requires { ⌜ QuestionFound (now p) q ⌝ }
@@ -60,7 +75,7 @@ fn asks(p: &[u8], q: wire::message::QuestionAt, name: &[u8], takes: bool) -> boo
     if !takes_in(q.class % 32768, INTERNET) {
         return false;
     }
-    wire::names::name_is(p, q.name, name)
+    is_named(p, q.name, q.span.len, name)
 }
 
 // Whether a type asks for an own record that is there.
@@ -193,7 +208,7 @@ fn suppresses(
     if 2 * (f.ttl as u64) < ttl as u64 {
         return false;
     }
-    if !wire::names::name_is(p, f.owner, name) {
+    if !is_named(p, f.owner, f.span.len, name) {
         return false;
     }
     wire::expansion::rdata_is(p, f, own)
@@ -249,6 +264,17 @@ fn known_in(p: &[u8], l: wire::message::Layout, setup: Setup) -> Set
     claims::records::set_of(known)
 }
 
+// The same; without an Answer record none is known.
+fn known_of(p: &[u8], l: wire::message::Layout, setup: Setup) -> Set
+    ensures { λ r. ⌜ r ≡ each (λ o. isKnown setup o (messageIn (now (p .entry)) l)) ⌝ }
+{
+    let answers = l.answers;
+    if answers.count == 0 {
+        return claims::records::no_record();
+    }
+    known_in(p, l, setup)
+}
+
 // Whether a record conflicts with an own one: equal name, class 1 and type, a TTL that is not 0, and other rdata.
 fn conflicts(p: &[u8], f: wire::message::RecordAt, name: &[u8], rtype: u16, own: &[u8]) -> bool
     requires { ⌜ RecordFound (now p) f ⌝ }
@@ -263,7 +289,7 @@ fn conflicts(p: &[u8], f: wire::message::RecordAt, name: &[u8], rtype: u16, own:
     if f.ttl == 0 {
         return false;
     }
-    if !wire::names::name_is(p, f.owner, name) {
+    if !is_named(p, f.owner, f.span.len, name) {
         return false;
     }
     !wire::expansion::rdata_is(p, f, own)
@@ -348,32 +374,50 @@ fn can_conflict(rtype: u16) -> bool
     rtype == 33
 }
 
-// Whether a record of a section has such a type, by steps from record to record that leave its rdata unread.
+// Where the name at an offset ends in place, if it is well formed: no pointer is followed.
+fn past_labels(p: &[u8], at: usize) -> usize
+    ensures { λ r. ⌜ ((bs : List ℕ) (e : ℕ) → nameAt (now (p .entry)) at ≡ name bs e → r ≡ e) ⌝ }
+{
+    let mut here = at;
+    while here < p.len() {
+        let n = p[here] as usize;
+        if n == 0 {
+            return here + 1;
+        }
+        if 192 <= n {
+            return here + 2;
+        }
+        here = here + 1 + n;
+    }
+    here
+}
+
+// Whether a record of a section may have such a type, by steps from record to record that follow no pointer and leave rdata unread.
 fn some_type(p: &[u8], s: wire::message::Section) -> bool
-    ensures { λ r. ⌜ r ≡ someType (now (p .entry)) s ⌝ }
+    ensures { λ r. ⌜ (r ≡ false → someType (now (p .entry)) s ≡ false) ⌝ }
 {
     let mut here = s.at;
     let mut left = s.count;
     while 0 < left {
-        match wire::message::record_at(p, here) {
-            wire::message::RecordRead::Found(f) => {
-                if can_conflict(f.rtype) {
-                    return true;
-                }
-                here = f.next;
-            }
-            wire::message::RecordRead::Malformed => {
-                return false;
-            }
+        let end = past_labels(p, here);
+        if p.len() < end {
+            return false;
         }
+        if p.len() - end < 10 {
+            return false;
+        }
+        if can_conflict(wire::octets::be16(p, end)) {
+            return true;
+        }
+        here = end + 10 + wire::octets::be16(p, end + 8) as usize;
         left -= 1;
     }
     false
 }
 
-// Whether a record of any section has such a type. Where none has, there is no conflict.
+// Whether a record of any section may have such a type. Where none has, there is no conflict.
 fn may_conflict(p: &[u8], l: wire::message::Layout) -> bool
-    ensures { λ r. ⌜ r ≡ mayConflict (now (p .entry)) l ⌝ }
+    ensures { λ r. ⌜ (r ≡ false → mayConflict (now (p .entry)) l ≡ false) ⌝ }
 {
     let answers = l.answers;
     if some_type(p, answers) {
@@ -460,6 +504,21 @@ fn query_to(p: &[u8], l: wire::message::Layout, setup: Setup, claim: Claim) -> H
     }
 }
 
+// The same; without an Authority record it is no probe, and nothing is later.
+fn heard_in(p: &[u8], l: wire::message::Layout, setup: Setup, claim: Claim) -> Heard
+    ensures { λ r. ⌜ r ≡ queryTo setup claim (messageIn (now (p .entry)) l) ⌝ }
+{
+    let authorities = l.authorities;
+    if authorities.count == 0 {
+        return Heard {
+            probe: false,
+            later: false,
+            conflict: false,
+        };
+    }
+    query_to(p, l, setup, claim)
+}
+
 // Whether the TC bit of a header's flags is set: more known answers follow.
 fn is_truncated(flags: u16) -> bool
     ensures { λ r. ⌜ r ≡ isTruncated flags ⌝ }
@@ -508,8 +567,8 @@ pub fn facts(p: &[u8], l: wire::message::Layout, setup: Setup) -> Facts
         truncated: is_truncated(l.flags),
         asked: claims::holds::union(qm, asked.qu),
         qm,
-        known: known_in(p, l, setup),
-        instance: query_to(p, l, setup, Claim::Instance),
-        host: query_to(p, l, setup, Claim::Host),
+        known: known_of(p, l, setup),
+        instance: heard_in(p, l, setup, Claim::Instance),
+        host: heard_in(p, l, setup, Claim::Host),
     }
 }

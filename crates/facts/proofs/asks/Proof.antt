@@ -2,7 +2,7 @@ use mathlib.Core.Path.{refl, sym, _∙_}
 use borrow.Author.Tests.{not-true, not-false}
 use Rattle.wire.specs.message.Readable.{questionShown}
 use Rattle.wire.proofs.message.Walk.{question-found}
-use Rattle.facts.proofs.Tests.{asks-type, asks-class, asks-name}
+use Rattle.facts.proofs.Tests.{asks-type, asks-class, asks-name, question-long}
 use borrow.Author.Needs.{needs}
 use Rattle.facts.proofs.asks.Statement.{statement}
 use Rattle.facts.proofs.asks.Tie as tie
@@ -20,8 +20,8 @@ returns-2 c =
     let a = c .before .before .before .before .before .before .args in
     asks-class (a .name .now) (a .takes) (questionShown (a .p .now) (a .q)) _ (c .before .takes-in .ensures) (not-true _ (c .if2 .taken))
 
-name-is-requires : tie.Need-name-is-requires
-name-is-requires c κs = search needs
+is-named-requires : tie.Need-is-named-requires
+is-named-requires c κs = question-long _ _ _ (c .before .before .before .before .before .before .pre .1)
 
 returns-3 : tie.Need-returns-3
 returns-3 c =
@@ -29,7 +29,7 @@ returns-3 c =
     let a = b .args in
     let m = question-found (a .p .now) (b .pre .0) _ (sym (b .pre .1)) (a .q) refl in
     asks-name (a .name .now) (a .takes) (questionShown (a .p .now) (a .q)) (not-false _ (c .before .before .before .before .if1 .left)) _
-    (c .before .before .takes-in .ensures) (not-false _ (c .before .if2 .left)) _ (c .name-is .ensures ∙ m .named (a .name .now))
+    (c .before .before .takes-in .ensures) (not-false _ (c .before .if2 .left)) _ (c .is-named .ensures ∙ m .named (a .name .now))
 
 pub asks-spec : {M : Type 1} → statement M
-asks-spec = tie.close (tie.spec returns takes-in-requires returns-2 name-is-requires returns-3)
+asks-spec = tie.close (tie.spec returns takes-in-requires returns-2 is-named-requires returns-3)

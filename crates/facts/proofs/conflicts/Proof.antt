@@ -4,7 +4,7 @@ use Rattle.wire.specs.expansion.Equal.{rdataIs}
 use Rattle.wire.specs.message.Readable.{recordShown}
 use Rattle.wire.proofs.message.Walk.{record-found}
 use borrow.Author.Tests.{not-true, not-false}
-use Rattle.facts.proofs.Tests.{conflicts-type, conflicts-class, conflicts-goodbye, conflicts-name, conflicts-rdata}
+use Rattle.facts.proofs.Tests.{conflicts-type, conflicts-class, conflicts-goodbye, conflicts-name, conflicts-rdata, record-long}
 use borrow.Author.Needs.{needs}
 use Rattle.facts.proofs.conflicts.Statement.{statement}
 use Rattle.facts.proofs.conflicts.Tie as tie
@@ -24,15 +24,15 @@ returns-3 c =
     let a = c .before .before .before .before .before .before .before .before .before .args in
     conflicts-goodbye (a .name .now) (a .rtype) (a .own .now) (recordShown (a .p .now) (a .f)) (c .if3 .taken)
 
-name-is-requires : tie.Need-name-is-requires
-name-is-requires c κs = search needs
+is-named-requires : tie.Need-is-named-requires
+is-named-requires c κs = record-long _ _ _ (c .before .before .before .before .before .before .before .before .before .pre .1)
 
 returns-4 : tie.Need-returns-4
 returns-4 c =
     let b = c .before .before .before .before .before .before .before .before .before .before .before in
     let a = b .args in
     let m = record-found (a .p .now) (b .pre .0) _ (sym (b .pre .1)) (a .f) refl in
-    conflicts-name (a .name .now) (a .rtype) (a .own .now) (recordShown (a .p .now) (a .f)) _ (c .before .name-is .ensures ∙ m .named (a .name .now))
+    conflicts-name (a .name .now) (a .rtype) (a .own .now) (recordShown (a .p .now) (a .f)) _ (c .before .is-named .ensures ∙ m .named (a .name .now))
     (not-true _ (c .if4 .taken))
 
 rdata-is-requires : tie.Need-rdata-is-requires
@@ -43,7 +43,7 @@ returns-5 c =
     let b = c .before .before .before .before .before .before .before .before .before .before .before .before in
     let a = b .args in
     let m = record-found (a .p .now) (b .pre .0) _ (sym (b .pre .1)) (a .f) refl in
-    conflicts-rdata (a .name .now) (a .rtype) (a .own .now) (recordShown (a .p .now) (a .f)) _ (c .before .before .name-is .ensures ∙ m .named (a .name .now))
+    conflicts-rdata (a .name .now) (a .rtype) (a .own .now) (recordShown (a .p .now) (a .f)) _ (c .before .before .is-named .ensures ∙ m .named (a .name .now))
     (not-false _ (c .before .if4 .left)) (c .before .before .before .before .before .if2 .left)
     (c .before .before .before .before .before .before .before .if1 .left) (c .before .before .before .if3 .left) _
     (c .rdata-is .ensures ∙ ap (λ (x : Rdata). rdataIs x (a .own .now)) (m .content))
@@ -51,4 +51,4 @@ returns-5 c =
 pub conflicts-spec : {M : Type 1} → statement M
 conflicts-spec =
     tie.close
-    (tie.spec returns returns-2 returns-3 name-is-requires returns-4 rdata-is-requires returns-5)
+    (tie.spec returns returns-2 returns-3 is-named-requires returns-4 rdata-is-requires returns-5)

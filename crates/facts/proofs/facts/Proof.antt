@@ -27,7 +27,7 @@ unfolding messageIn
 returns c =
     let if2 = c .before .before .before in
     let a = if2 .before .before .before .before .before .args in
-    let none = sym (if2 .before .may-conflict .ensures) ∙ not-true _ (if2 .if2 .taken) in
+    let none = if2 .before .may-conflict .ensures (not-true _ (if2 .if2 .taken)) in
     says-response (a .setup) (messageIn (a .p .now) (a .l)) _ _ _ _ _ (omega arith) (c .before .before .no-record .ensures) (c .before .no-record2 .ensures) (c .no-record3 .ensures)
     (quiet-claim (a .setup) (a .p .now) (a .l) none Instance) (quiet-claim (a .setup) (a .p .now) (a .l) none Host)
 
@@ -62,14 +62,14 @@ is-truncated-requires c κs = search needs
 union-requires : tie.Need-union-requires
 union-requires c κs = search needs
 
-known-in-requires : tie.Need-known-in-requires
-known-in-requires c κs = search needs
+known-of-requires : tie.Need-known-of-requires
+known-of-requires c κs = search needs
 
-query-to-requires : tie.Need-query-to-requires
-query-to-requires c κs = search needs
+heard-in-requires : tie.Need-heard-in-requires
+heard-in-requires c κs = search needs
 
-query-to-requires-2 : tie.Need-query-to-requires-2
-query-to-requires-2 c κs = search needs
+heard-in-requires-2 : tie.Need-heard-in-requires-2
+heard-in-requires-2 c κs = search needs
 
 returns-3 : tie.Need-returns-3
 unfolding messageIn
@@ -77,7 +77,7 @@ returns-3 c =
     let a = c .before .before .before .before .before .before .before .before .before .before .args in
     let asked = c .before .before .before .before .before .before .asked-for .ensures in
     says-query (a .setup) (messageIn (a .p .now) (a .l)) _ _ _ _ _ _ (omega arith) (c .before .before .before .before .is-truncated .ensures)
-    (asked-either (a .setup) (messageIn (a .p .now) (a .l)) _ _ _ (asked .0) (asked .1) (c .before .before .before .union .ensures)) (asked .0) (c .before .before .known-in .ensures) (c .before .query-to .ensures) (c .query-to2 .ensures)
+    (asked-either (a .setup) (messageIn (a .p .now) (a .l)) _ _ _ (asked .0) (asked .1) (c .before .before .before .union .ensures)) (asked .0) (c .before .before .known-of .ensures) (c .before .heard-in .ensures) (c .heard-in2 .ensures)
 
 pub facts-spec : {M : Type 1} → statement M
 facts-spec =
@@ -97,7 +97,7 @@ facts-spec =
     asked-for-requires
     is-truncated-requires
     union-requires
-    known-in-requires
-    query-to-requires
-    query-to-requires-2
+    known-of-requires
+    heard-in-requires
+    heard-in-requires-2
     returns-3)

@@ -1,52 +1,68 @@
-use mathlib.Core.Path.{_≡_}
+use mathlib.Core.Path.{_≡_, sym, ap, _∙_}
+use mathlib.Core.Bool.{false}
+use Prim.Native.Nat.{ℕ, _+_}
 use native.Mathlib.Omega.{arith}
 use Rattle.wire.specs.Lists.{some}
+use Rattle.wire.specs.message.Layout.{recordAt}
 use Rattle.wire.specs.message.Readable.{readable}
-use Rattle.wire.proofs.message.Walk.{some-found, some-on, some-broken, some-done}
-use Rattle.facts.specs.Types.{lyingAt, typeConflicts, someType}
-use Rattle.facts.proofs.Types.{lying-found, lying-broken}
+use Rattle.facts.specs.Types.{canConflict, typeConflicts, someType}
+use Rattle.wire.proofs.message.Walk.{readable-none}
+use Rattle.facts.proofs.Steps.{some-none, stopped, stepped, record-behind}
 use borrow.Author.Needs.{needs}
 use Rattle.facts.proofs.some_type.Statement.{statement}
 use Rattle.facts.proofs.some_type.Tie as tie
 
 abbrev Inv-loop : tie.InvT-loop
-Inv-loop p here₀ left₀ here left = some typeConflicts (readable (lyingAt p) left₀ here₀) ≡ some typeConflicts (readable (lyingAt p) left here)
+Inv-loop p here₀ left₀ here left =
+    some typeConflicts (readable (recordAt p) left here) ≡ false → some typeConflicts (readable (recordAt p) left₀ here₀) ≡ false
 
 abbrev μ-loop : tie.MeasureT-loop
 μ-loop p here₀ left₀ here left = left
 
 loop-holds : tie.Need-loop-holds Inv-loop μ-loop
-loop-holds c = search needs
+loop-holds c = λ f. f
 
-record-at-requires : tie.Need-record-at-requires Inv-loop μ-loop
-record-at-requires c κs = search needs
+past-labels-requires : tie.Need-past-labels-requires Inv-loop μ-loop
+past-labels-requires c κs = search needs
 
-enum-known-f : tie.Need-enum-known-f Inv-loop μ-loop
-enum-known-f c = search needs
+returns : tie.Need-returns Inv-loop μ-loop
+unfolding someType
+returns c = λ f.
+    let l = c .before .before .before .loop in
+    l .inv (stopped (recordAt _) typeConflicts (l .left) (l .here) (λ x next is. omega (arith, record-behind _ (l .here) _ (c .before .past-labels .ensures) x next is .0)))
+
+sub-if2 : tie.Need-sub-if2 Inv-loop μ-loop
+sub-if2 c = search needs
+
+returns-2 : tie.Need-returns-2 Inv-loop μ-loop
+unfolding someType
+returns-2 c = λ f.
+    let l = c .before .before .before .before .loop in
+    l .inv (stopped (recordAt _) typeConflicts (l .left) (l .here) (λ x next is. omega (arith, record-behind _ (l .here) _ (c .before .before .past-labels .ensures) x next is .0)))
+
+be16-requires : tie.Need-be16-requires Inv-loop μ-loop
+be16-requires c κs = search needs
 
 can-conflict-requires : tie.Need-can-conflict-requires Inv-loop μ-loop
 can-conflict-requires c κs = search needs
 
-returns : tie.Need-returns Inv-loop μ-loop
-unfolding someType
-returns c =
-    let found = c .before .before .before in
-    let step = found .before .before in
-    let l = step .before .before .loop in
-    let p = step .before .before .before .before .args .p .now in
-    some-found typeConflicts (lyingAt p) _ (l .left) (l .here) (l .inv) (omega arith) (found .f .given .0 .0) _
-    (lying-found p (l .here) _ (step .record-at .ensures) _ (found .f .given .1)) _ (c .before .can-conflict .ensures) (c .if1 .taken)
+returns-3 : tie.Need-returns-3 Inv-loop μ-loop
+returns-3 c = λ f. let z : _≡_ {A = ℕ} 0 1 = cc in absurd (omega arith)
 
-enum-told : tie.Need-enum-told Inv-loop μ-loop
-enum-told c = search needs
+add-here : tie.Need-add-here Inv-loop μ-loop
+add-here c = search needs
 
-returns-2 : tie.Need-returns-2 Inv-loop μ-loop
-unfolding someType
-returns-2 c =
-    let step = c .before .before in
-    let l = step .before .before .loop in
-    let p = step .before .before .before .before .args .p .now in
-    some-broken typeConflicts (lyingAt p) _ (l .left) (l .here) (l .inv) (lying-broken p (l .here) _ (step .record-at .ensures) (c .enum-told .given .1))
+add-be16 : tie.Need-add-be16 Inv-loop μ-loop
+add-be16 c = search needs
+
+be16-requires-2 : tie.Need-be16-requires-2 Inv-loop μ-loop
+be16-requires-2 c κs = search needs
+
+cast-here : tie.Need-cast-here Inv-loop μ-loop
+cast-here c = search needs
+
+add-here-2 : tie.Need-add-here-2 Inv-loop μ-loop
+add-here-2 c = search needs
 
 sub-left : tie.Need-sub-left Inv-loop μ-loop
 sub-left c = search needs
@@ -55,22 +71,39 @@ loop-less : tie.Need-loop-less Inv-loop μ-loop
 loop-less c = search needs
 
 loop-again : tie.Need-loop-again Inv-loop μ-loop
-loop-again c =
-    let found = c .before .before .before in
-    let step = found .before .before in
-    let l = step .before .before .loop in
-    let p = step .before .before .before .before .args .p .now in
-    some-on typeConflicts (lyingAt p) _ (l .left) (l .here) (l .inv) (omega arith) (found .f .given .0 .0) _
-    (lying-found p (l .here) _ (step .record-at .ensures) _ (found .f .given .1)) _ (c .before .can-conflict .ensures) (c .if1 .left)
+loop-again c = λ f.
+    let l = c .before .before .before .before .before .before .before .before .loop in
+    let end = c .before .before .before .before .before .before .past-labels .result in
+    let type = c .before .before .before .be16 in
+    let saw = record-behind _ (l .here) _ (c .before .before .before .before .before .before .past-labels .ensures) in
+    l .inv (stepped (recordAt _) typeConflicts (l .left) (l .here) (canConflict (type .result)) _
+    (λ x next is. let k = saw x next is in (ap canConflict (k .1 ∙ sym (type .ensures)), k .2 ∙ ap (λ (n : ℕ). end + 10 + n) (sym (c .be162 .ensures))))
+    (sym (c .before .before .can-conflict .ensures) ∙ c .before .if3 .left) f)
 
-returns-3 : tie.Need-returns-3 Inv-loop μ-loop
+returns-4 : tie.Need-returns-4 Inv-loop μ-loop
 unfolding someType
-returns-3 c =
-    let l = c .before .loop in
-    let p = c .before .before .before .args .p .now in
-    some-done typeConflicts (lyingAt p) _ (l .left) (l .here) (l .inv) (omega arith)
+returns-4 c = λ f. let l = c .before .loop in l .inv (ap (some typeConflicts) (readable-none (recordAt _) (l .left) (l .here) (omega arith)) ∙ some-none typeConflicts)
 
 pub some-type-spec : {M : Type 1} → statement M
 some-type-spec =
     tie.close
-    (tie.spec Inv-loop μ-loop loop-holds record-at-requires enum-known-f can-conflict-requires returns enum-told returns-2 sub-left loop-less loop-again returns-3)
+    (tie.spec
+    Inv-loop
+    μ-loop
+    loop-holds
+    past-labels-requires
+    returns
+    sub-if2
+    returns-2
+    be16-requires
+    can-conflict-requires
+    returns-3
+    add-here
+    add-be16
+    be16-requires-2
+    cast-here
+    add-here-2
+    sub-left
+    loop-less
+    loop-again
+    returns-4)

@@ -4,7 +4,7 @@ use Rattle.wire.specs.expansion.Equal.{rdataIs}
 use Rattle.wire.specs.message.Readable.{recordShown}
 use Rattle.wire.proofs.message.Walk.{record-found}
 use borrow.Author.Tests.{not-true, not-false}
-use Rattle.facts.proofs.Tests.{suppresses-type, suppresses-class, suppresses-ttl, suppresses-name, suppresses-rdata}
+use Rattle.facts.proofs.Tests.{suppresses-type, suppresses-class, suppresses-ttl, suppresses-name, suppresses-rdata, record-long}
 use borrow.Author.Needs.{needs}
 use Rattle.facts.proofs.suppresses.Statement.{statement}
 use Rattle.facts.proofs.suppresses.Tie as tie
@@ -30,8 +30,8 @@ returns-3 c =
     let a = c .before .before .before .before .before .before .before .before .before .args in
     suppresses-ttl (a .name .now) (a .rtype) (a .own .now) (recordShown (a .p .now) (a .f)) (a .ttl) (c .if3 .taken)
 
-name-is-requires : tie.Need-name-is-requires
-name-is-requires c κs = search needs
+is-named-requires : tie.Need-is-named-requires
+is-named-requires c κs = record-long _ _ _ (c .before .before .before .before .before .before .before .before .before .pre .1)
 
 returns-4 : tie.Need-returns-4
 returns-4 c =
@@ -39,7 +39,7 @@ returns-4 c =
     let a = b .args in
     let m = record-found (a .p .now) (b .pre .0) _ (sym (b .pre .1)) (a .f) refl in
     suppresses-name (a .name .now) (a .rtype) (a .own .now) (recordShown (a .p .now) (a .f)) (a .ttl) _
-    (c .before .name-is .ensures ∙ m .named (a .name .now)) (not-true _ (c .if4 .taken))
+    (c .before .is-named .ensures ∙ m .named (a .name .now)) (not-true _ (c .if4 .taken))
 
 rdata-is-requires : tie.Need-rdata-is-requires
 rdata-is-requires c κs = search needs
@@ -50,7 +50,7 @@ returns-5 c =
     let a = b .args in
     let m = record-found (a .p .now) (b .pre .0) _ (sym (b .pre .1)) (a .f) refl in
     suppresses-rdata (a .name .now) (a .rtype) (a .own .now) (recordShown (a .p .now) (a .f)) (a .ttl) _
-    (c .before .before .name-is .ensures ∙ m .named (a .name .now)) (not-false _ (c .before .if4 .left))
+    (c .before .before .is-named .ensures ∙ m .named (a .name .now)) (not-false _ (c .before .if4 .left))
     (c .before .before .before .before .before .if2 .left) (c .before .before .before .before .before .before .before .if1 .left)
     (c .before .before .before .if3 .left) _ (c .rdata-is .ensures ∙ ap (λ (x : Rdata). rdataIs x (a .own .now)) (m .content))
 
@@ -63,7 +63,7 @@ suppresses-spec =
     cast-if3
     mul-if3
     returns-3
-    name-is-requires
+    is-named-requires
     returns-4
     rdata-is-requires
     returns-5)
