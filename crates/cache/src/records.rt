@@ -2,14 +2,15 @@
 // What the rules do to the entries follows from what was seen of them.
 ghost use mathlib.Core.Path.{_≡_};
 ghost use mathlib.Core.Bool.{false};
-ghost use lib.ListN.{take};
+ghost use lib.ListN.{length, take};
 ghost use Rattle.wire.specs.names.Answers.{nameIs};
 ghost use Rattle.wire.specs.rdata.Rdata.{rdataAt};
+ghost use Rattle.wire.specs.rdata.Answers.{dataOf};
 ghost use Rattle.wire.specs.expansion.Equal.{rdataIs};
 ghost use Rattle.cache.specs.entries.Entries.{slotOf};
 ghost use Rattle.cache.specs.entries.Cache.{cachedAs};
 ghost use Rattle.cache.specs.records.Heard.{heardAt, isTaken, isFlushing, isSought, isAlike, liveHeard, holdsHeard, flushedHeard};
-ghost use Rattle.cache.specs.records.Heard.{firstSlot, nothingSeen, freeNext, seenNext, chosenOf};
+ghost use Rattle.cache.specs.records.Heard.{Named, firstSlot, nothingSeen, freeNext, seenNext, chosenOf};
 use crate::entries::Entry;
 use crate::entries::Slot;
 
@@ -75,6 +76,19 @@ pub fn is_cached(class: u16, rtype: u16, restricted: bool) -> bool
     restricted
 }
 
+// How many bytes rdata has that holds a name, the name expanded: it is followed once, and nothing is copied.
+fn named_length(p: &[u8], f: wire::message::RecordAt, form: wire::rdata::Form) -> usize
+    requires { ⌜ Named (now p) f form ⌝ }
+    ensures { λ r. ⌜ r ≡ length (dataOf (rdataAt (now (p .entry)) f)) ⌝ }
+{
+    let before = form.before;
+    let behind = form.behind;
+    match wire::names::name_at(p, f.rdata + before) {
+        wire::names::Name::Found(span) => before + span.len + behind,
+        wire::names::Name::Malformed => 0,
+    }
+}
+
 // The record at an offset.
 pub fn hear(p: &[u8], at: usize) -> Heard
     ensures { λ r. ⌜ r ≡ heardAt (now (p .entry)) at ⌝ }
@@ -90,14 +104,10 @@ pub fn hear(p: &[u8], at: usize) -> Heard
                     named: false,
                 };
             }
-            let opened = wire::expansion::open(p, f);
-            let bytes = opened.bytes;
-            let content = wire::expansion::view(p, &bytes, opened.len, f);
-            let len = content.len();
             Heard {
                 whole: true,
                 at: f,
-                len,
+                len: named_length(p, f, form),
                 named: true,
             }
         }

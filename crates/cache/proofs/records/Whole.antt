@@ -1,19 +1,25 @@
 -- Of a record that is whole, what the code finds of an entry is what the rules say of the record that it shows. Assumes nothing.
 use mathlib.Core.Path.{_≡_, refl, sym, ap, ap₂, _∙_}
-use mathlib.Core.List.{List, [], _∷_}
-use mathlib.Core.Bool.{Bool, true, false, _&&_}
-use Prim.Native.Nat.{ℕ}
-use lib.ListN.{length, take, drop, length-drop}
+use mathlib.Core.List.{List, [], _∷_, _++_}
+use mathlib.Core.Bool.{Bool, true, false, cond, _&&_}
+use Prim.Native.Nat.{ℕ, _+_, _-_, _≤_}
+use lib.ListN.{length, take, drop, length-drop, length-append}
 use lib.Seq.{length-take-le}
 use native.Mathlib.Omega.{arith}
 use lib.Dec.{eqb}
 use borrow.Author.Tests.{eq-eqb, ne-eqb, eqb-true}
 use Rattle.wire.specs.case_folding.Fold.{lower, sameName}
 use Rattle.wire.specs.expansion.Equal.{sameBytes, rdataIs}
-use Rattle.wire.specs.expansion.Opened.{openedAt, viewOf}
+use Rattle.wire.specs.expansion.Opened.{padded, openedOf, openedName, openedAt}
 use Rattle.wire.specs.declared.expansion.Opened.{Opened}
-use Rattle.wire.proofs.expansion.Views.{within, plain-is, view-is}
-use Rattle.wire.specs.rdata.Rdata.{Rdata, rdata, rdataAt, formAt}
+use Rattle.wire.proofs.expansion.Views.{within, name-room, open-named, plain-is}
+use Rattle.wire.specs.names.Names.{Reading, name, malformed, nameAt}
+use Rattle.wire.specs.names.Answers.{foundOf}
+use Rattle.wire.specs.declared.names.Span.{Span}
+use Rattle.wire.specs.declared.names.Name.{Name}
+use Rattle.wire.specs.declared.names.Name.the-variants as nam
+use Rattle.wire.proofs.names.Use.{as-name, as-malformed, at-most-255}
+use Rattle.wire.specs.rdata.Rdata.{Rdata, rdata, unfit, rdataAt, formAt}
 use Rattle.wire.specs.rdata.Answers.{fits, dataOf}
 use Rattle.wire.specs.declared.rdata.Form.{Form}
 use Rattle.wire.specs.message.Message.{Record}
@@ -25,7 +31,7 @@ use Rattle.wire.proofs.message.Walk.{RecordMet, record-found}
 use Rattle.cache.specs.entries.Entries.{ownerHeld, rdataHeld, isLive, isOf, liveOf, holds}
 use Rattle.cache.specs.declared.entries.Entry.{Entry}
 use Rattle.cache.specs.declared.records.Heard.{Heard}
-use Rattle.cache.specs.records.Heard.{blankRecord, heardOf, heardAt, isOfHeard, liveHeard, holdsHeard}
+use Rattle.cache.specs.records.Heard.{Named, blankRecord, heardOf, heardAt, isOfHeard, liveHeard, holdsHeard}
 
 eqb-swap : (a b : ℕ) → eqb a b ≡ eqb b a
 eqb-swap a b = go (eqb a b) refl
@@ -48,15 +54,60 @@ bytes-swap [] (y ∷ ys) = refl
 bytes-swap (x ∷ xs) [] = refl
 bytes-swap (x ∷ xs) (y ∷ ys) = ap₂ (λ (m n : Bool). m && n) (eqb-swap x y) (bytes-swap xs ys)
 
+-- how many bytes rdata has that holds a name
+module _ (p : List ℕ) (f : RecordAt) (g : Form) (named : Named p f g) where
+  room : (g .before + g .behind ≤ 34) × (g .before + g .behind ≤ f .rdlength) × (f .rdata + f .rdlength ≤ length p)
+  room = name-room p f g (named .1 .0) (named .1 .1) (named .0)
+
+  abbrev front : List ℕ
+  front = take (g .before) (drop (f .rdata) p)
+
+  abbrev back : List ℕ
+  back = take (g .behind) (drop (f .rdata + (f .rdlength - g .behind)) p)
+
+  opened : (x : Reading) → nameAt p (f .rdata + g .before) ≡ x → openedName front back x .len ≡ length (dataOf (rdataAt p f))
+  opened x e =
+      let o = open-named p f g (named .1 .0) (named .1 .1) (named .0) (openedName front back x) (sym (ap (openedName front back) e)) in
+      ap (λ (y : Opened). y .len) o ∙ go (formAt p f .named) (rdataAt p f) (sym (ap (λ (y : Form). y .named) (named .1 .0)) ∙ named .1 .1)
+    where
+      go : (b : Bool) (y : Rdata) → b ≡ true → cond b (openedOf y) (padded []) .len ≡ length (dataOf y)
+      go true (rdata d) t = refl
+      go true unfit t = refl
+      go false y t = let z : _≡_ {A = ℕ} 0 1 = cc in absurd (omega arith)
+
+  pub named-in : (n : Name) → n ≡ foundOf (nameAt p (f .rdata + g .before)) → (s : Span) → n ≡ nam.Found s
+      → g .before + s .len + g .behind ≡ length (dataOf (rdataAt p f))
+  named-in n is s e =
+      let k = as-name (nameAt p (f .rdata + g .before)) n s is e in
+      let a : length front ≡ g .before = length-take-le (g .before) (drop (f .rdata) p) (omega (arith, length-drop (f .rdata) p, room .1, room .2)) in
+      let b : length back ≡ g .behind =
+      length-take-le (g .behind) (drop (f .rdata + (f .rdlength - g .behind)) p) (omega (arith, length-drop (f .rdata + (f .rdlength - g .behind)) p, room .1, room .2)) in
+      omega (arith, a, b, k .2, length-append front (k .0 ++ back), length-append (k .0) back, opened (name (k .0) (s .end)) (k .1))
+
+  pub named-bad : (n : Name) → n ≡ foundOf (nameAt p (f .rdata + g .before)) → n ≡ nam.Malformed → 0 ≡ length (dataOf (rdataAt p f))
+  named-bad n is e = opened malformed (as-malformed (nameAt p (f .rdata + g .before)) n is e)
+
+  pub named-room : f .rdata + g .before + g .behind ≤ length p
+  named-room = omega (arith, room .1, room .2)
+
+  pub named-few : g .before + g .behind ≤ 34
+  named-few = room .0
+
+  pub named-small : (n : Name) → n ≡ foundOf (nameAt p (f .rdata + g .before)) → (s : Span) → n ≡ nam.Found s → s .len ≤ 255
+  named-small n is s e =
+      let k = as-name (nameAt p (f .rdata + g .before)) n s is e in
+      omega (arith, k .2, at-most-255 p (f .rdata + g .before) (k .0) (s .end) (k .1))
+
 -- the record at an offset, from what the code has read
 module _ (p : List ℕ) (at : ℕ) (a : RecordRead) (is : a ≡ wholeRead p at) where
-  pub heard-found : (f : RecordAt) → a ≡ r.Found f → (o : Opened) → o ≡ openedAt p f → (seen : List ℕ) → seen ≡ viewOf p (o .bytes) (o .len) f
-      → (named : Bool) → named ≡ formAt p f .named → _≡_ {A = Heard} (record { whole = true; at = f; len = length seen; named = named }) (heardAt p at)
+  pub fits-found : (f : RecordAt) → a ≡ r.Found f → fits (rdataAt p f) ≡ true
+  fits-found f e = ap fits (record-found p at a is f e .content)
+
+  pub heard-found : (f : RecordAt) → a ≡ r.Found f → (n : ℕ) → n ≡ length (dataOf (rdataAt p f)) → (named : Bool) → named ≡ formAt p f .named
+      → _≡_ {A = Heard} (record { whole = true; at = f; len = n; named = named }) (heardAt p at)
   unfolding heardAt
-  heard-found f e o opened seen s named n =
-      let met : RecordMet p at f = record-found p at a is f e in
-      let bytes : rdata seen ≡ rdataAt p f = ap rdata s ∙ sym (view-is p f (ap fits (met .content)) o opened) in
-      ap₂ (λ (d : Rdata) (b : Bool). record { whole = true; at = f; len = length (dataOf d); named = b }) bytes n ∙ ap (heardOf p) (sym e ∙ is)
+  heard-found f e n size named m =
+      ap₂ (λ (k : ℕ) (b : Bool). record { whole = true; at = f; len = k; named = b }) size m ∙ ap (heardOf p) (sym e ∙ is)
 
   -- of rdata that holds no name the length is that of the record
   pub heard-lying : (f : RecordAt) → a ≡ r.Found f → (g : Form) → g ≡ formAt p f → g .named ≡ false

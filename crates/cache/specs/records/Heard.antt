@@ -1,16 +1,18 @@
 -- One record of a message as it lies, against the entries (specification, 'The cache'), as the code finds it: compared with the packet in place. Of a record
 -- that is whole these are the rules of `entries` on what it shows (proofs/records). Assumes nothing: these are definitions.
 use Prim.Native.Nat.{ℕ, suc}
+use mathlib.Core.Path.{_≡_}
 use mathlib.Core.List.{List, [], _∷_}
 use mathlib.Core.Bool.{Bool, true, false, cond, _&&_}
 use lib.ListN.{length}
 use lib.Dec.{ltb, leb, eqb}
 use Rattle.wire.specs.names.Answers.{nameIs}
 use Rattle.wire.specs.rdata.Rdata.{rdataAt, formAt}
-use Rattle.wire.specs.rdata.Answers.{dataOf}
+use Rattle.wire.specs.rdata.Answers.{fits, dataOf}
 use Rattle.wire.specs.expansion.Equal.{rdataIs}
 use Rattle.wire.specs.message.Message.{topBit}
 use Rattle.wire.specs.message.Readable.{wholeRead}
+use Rattle.wire.specs.declared.rdata.Form.{Form}
 use Rattle.wire.specs.declared.message.RecordAt.{RecordAt}
 use Rattle.wire.specs.declared.message.RecordRead.{RecordRead}
 use Rattle.wire.specs.declared.message.RecordRead.the-variants as r
@@ -33,6 +35,10 @@ heardOf p r.Malformed = record { whole = false; at = blankRecord; len = 0; named
 
 unfoldable pub heardAt : List ℕ → ℕ → Heard
 heardAt p at = heardOf p (wholeRead p at)
+
+-- rdata as its type asks, of a form that holds a name
+abbrev pub Named : List ℕ → RecordAt → Form → Type 0
+Named p f form = (fits (rdataAt p f) ≡ true) × ((form ≡ formAt p f) × (form .named ≡ true))
 
 -- the rules are for it; rule 1 is, with the top class bit; rules 2 and 3 are, where its rdata fits a slot
 unfoldable pub isTaken : Heard → Bool

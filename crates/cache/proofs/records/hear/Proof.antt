@@ -1,14 +1,13 @@
-use mathlib.Core.Path.{refl, sym, ap, _∙_}
+use mathlib.Core.Path.{sym, ap, _∙_}
 use borrow.Author.Tests.{not-true, not-false}
 use Rattle.wire.specs.declared.rdata.Form.{Form}
-use Rattle.cache.proofs.records.Whole.{heard-found, heard-lying, heard-not}
+use Rattle.cache.proofs.records.Whole.{fits-found, heard-found, heard-lying, heard-not}
 use borrow.Author.Needs.{needs}
 use Rattle.cache.proofs.records.hear.Statement.{statement}
 use Rattle.cache.proofs.records.hear.Tie as tie
 use Rattle.cache.proofs.records.hear.Reads as reads
 use Rattle.cache.proofs.records.hear.Lts as lts
-use Rattle.wire.proofs.expansion.open.Reads as open-reads
-use Rattle.wire.proofs.expansion.view.Reads as view-reads
+use Rattle.cache.proofs.records.named_length.Reads as named-length-reads
 use Rattle.wire.proofs.message.whole_record.Reads as whole-record-reads
 use Rattle.wire.proofs.rdata.form_at.Reads as form-at-reads
 
@@ -24,20 +23,16 @@ form-at-requires c κs = search needs
 returns : tie.Need-returns
 returns c = heard-lying _ _ _ (c .before .before .before .before .before .before .whole-record .ensures) _ (c .before .before .before .before .f .given .1) _ (c .before .before .form-at .ensures) (not-true _ (c .if1 .taken))
 
-open-requires : tie.Need-open-requires
-open-requires c κs = search needs
-
-slice-aggregate-view : tie.Need-slice-aggregate-view
-slice-aggregate-view c = search needs
-
-view-requires : tie.Need-view-requires
-view-requires c κs = search needs
+named-length-requires : tie.Need-named-length-requires
+named-length-requires c κs =
+    let found = c .before .before .before .before in
+    (fits-found _ _ _ (found .before .before .whole-record .ensures) _ (found .f .given .1), (c .before .before .form-at .ensures, not-false _ (c .if1 .left)))
 
 enum-told : tie.Need-enum-told
 enum-told c = search needs
 
 returns-2 : tie.Need-returns-2
-returns-2 c = heard-found _ _ _ (c .before .before .before .before .before .before .before .before .before .before .whole-record .ensures) _ (c .before .before .before .before .before .before .before .before .f .given .1) _ (c .before .before .before .open .ensures) _ (c .view .ensures .0) _ (sym (not-false _ (c .before .before .before .before .if1 .left)) ∙ ap (λ (y : Form). y .named) (c .before .before .before .before .before .before .form-at .ensures))
+returns-2 c = heard-found _ _ _ (c .before .before .before .before .before .before .before .whole-record .ensures) _ (c .before .before .before .before .before .f .given .1) _ (c .named-length .ensures) _ (sym (not-false _ (c .before .if1 .left)) ∙ ap (λ (y : Form). y .named) (c .before .before .before .form-at .ensures))
 
 returns-3 : tie.Need-returns-3
 returns-3 c = heard-not _ _ _ (c .before .before .whole-record .ensures) (c .enum-told .given .1)
@@ -50,9 +45,7 @@ hear-spec =
     enum-known-f
     form-at-requires
     returns
-    open-requires
-    slice-aggregate-view
-    view-requires
+    named-length-requires
     enum-told
     returns-2
     returns-3)
