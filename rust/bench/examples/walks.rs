@@ -1,5 +1,5 @@
 //! What reading, receiving and taking into a cache cost on the messages of `bench::chains`, whose names take long to follow: the least of seven, in microseconds.
-//! `receive` and `take` walk a message again after it was read, and follow each name anew.
+//! `receive` and `take` walk a message again after it was read, and follow each name anew; `take` does so for each entry whose type and lengths are the record's.
 
 use std::time::Instant;
 
@@ -18,6 +18,15 @@ fn least(mut call: impl FnMut()) -> f64 {
         least = least.min(begun.elapsed().as_secs_f64() * 1e6);
     }
     least
+}
+
+/// A cache whose entries are all live and agree with the records of `chains::knowing` in type and lengths.
+fn full_of_alike(entries: usize) -> Caches {
+    let mut caches = Caches::empty(entries);
+    for number in 0..entries {
+        assert_eq!(caches.proved.take(&chains::alike(number)), (0, 0));
+    }
+    caches
 }
 
 fn main() {
@@ -40,6 +49,19 @@ fn main() {
                 caches.proved.take(&response);
             });
             println!("| {size} | {name} | {read:.0} | {asked:.0} | {told:.0} | {taken:.0} |");
+        }
+    }
+    println!("\n| bytes | entries alike | take |");
+    println!("|---|---|--:|");
+    for size in [1452, 8972] {
+        for entries in [64, 512] {
+            let mut response = chains::knowing(size);
+            response[2] |= RESPONSE;
+            let mut caches = full_of_alike(entries);
+            let taken = least(|| {
+                caches.proved.take(&response);
+            });
+            println!("| {size} | {entries} | {taken:.0} |");
         }
     }
 }

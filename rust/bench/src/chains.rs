@@ -183,6 +183,66 @@ pub fn starts(size: usize, twice: bool) -> Vec<u8> {
         .unwrap_or_else(|| label_by_label(size))
 }
 
+/// A name that is as long as that of the responder's host, "dock.local", and another.
+const OTHER_HOST: &[u8] = b"\x04lock\x05local\0";
+
+/// Questions for all that a name has, of class 1: each name is a pointer to the one before, and all are as long as an own name.
+pub fn asking(size: usize) -> Vec<u8> {
+    let mut body = OTHER_HOST.to_vec();
+    body.extend([0, 255, 0, 1]);
+    let mut questions = 1;
+    let mut last = HEADER;
+    while HEADER + body.len() + 6 <= size {
+        let here = HEADER + body.len();
+        body.extend(pointer(last));
+        body.extend([0, 255, 0, 1]);
+        last = here;
+        questions += 1;
+    }
+    query(questions, &body)
+}
+
+/// As many PTR records of class 1 as fit behind `before`, owner and target on one chain, and how many they are.
+fn chained_class_1(size: usize, before: &[u8]) -> (usize, Vec<u8>) {
+    let mut body = before.to_vec();
+    let mut last = HEADER;
+    let mut count = 0;
+    while HEADER + body.len() + 14 <= size {
+        let here = HEADER + body.len();
+        body.extend(pointer(last));
+        body.extend([0, 12, 0, 1, 0, 0, 17, 148, 0, 2]);
+        body.extend(pointer(here));
+        last = here + 12;
+        count += 1;
+    }
+    (count, body)
+}
+
+/// A query with known answers: a question, and PTR records that follow one chain.
+pub fn knowing(size: usize) -> Vec<u8> {
+    let (count, body) = chained_class_1(size, &[OTHER_HOST, &[0, 255, 0, 1]].concat());
+    let mut p = query(1, &body);
+    p[6..8].copy_from_slice(&(count as u16).to_be_bytes());
+    p
+}
+
+/// A probe: the same records in the Authority section.
+pub fn claiming(size: usize) -> Vec<u8> {
+    let (count, body) = chained_class_1(size, &[OTHER_HOST, &[0, 255, 0, 1]].concat());
+    let mut p = query(1, &body);
+    p[8..10].copy_from_slice(&(count as u16).to_be_bytes());
+    p
+}
+
+/// A response with one PTR record that agrees with those of `knowing` in its owner and in all lengths; its target has a number of its own.
+pub fn alike(number: usize) -> Vec<u8> {
+    let target = format!("\x04{number:04}\x05local\0");
+    let mut body = OTHER_HOST.to_vec();
+    body.extend([0, 12, 0, 1, 0, 0, 17, 148, 0, target.len() as u8]);
+    body.extend(target.as_bytes());
+    response(1, &body)
+}
+
 /// An ordinary long message: PTR records of one service whose targets share their ends.
 pub fn ordinary(size: usize) -> Vec<u8> {
     let mut body = Vec::from(*b"\x06_voice\x04_tcp\x05local\0");
@@ -219,5 +279,8 @@ pub fn all(size: usize) -> Vec<(&'static str, Vec<u8>)> {
         ),
         ("each name from a place of its own", starts(size, false)),
         ("the same through two pointers", starts(size, true)),
+        ("questions of class 1, as long as an own name", asking(size)),
+        ("known answers of class 1, the same", knowing(size)),
+        ("Authority records of class 1, the same", claiming(size)),
     ]
 }
