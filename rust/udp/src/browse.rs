@@ -1,5 +1,6 @@
 //! The example browser.
 
+mod lapse;
 mod options;
 mod run;
 mod schedule;

@@ -1,5 +1,5 @@
 //! What the library leaves to its caller: sockets, a clock, random draws, queries and a screen. Two programs stand on it: `responder` claims two names
-//! and answers for them, `browser` finds the instances of a service. Linux only, IPv4 multicast only.
+//! and answers for them, `browser` finds the instances of a service. Linux only.
 
 pub mod arguments;
 pub mod browse;
@@ -8,6 +8,8 @@ pub mod command;
 pub mod draw;
 pub mod link;
 pub mod name;
+pub mod notify;
+pub mod places;
 pub mod proxy;
 pub mod query;
 pub mod recording;

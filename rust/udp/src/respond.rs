@@ -2,8 +2,10 @@
 
 mod control;
 mod options;
+mod rename;
 mod report;
 mod run;
+mod session;
 
 pub use options::{Options, HELP};
 pub use run::run;

@@ -1,6 +1,7 @@
 //! The two programs on the loopback interface. Names carry the process id, and each responder has an address of its own, so that runs beside each other do not
 //! meet.
 
+use std::collections::BTreeSet;
 use std::process::{Child, Command, Output, Stdio};
 
 const RESPONDER: &str = env!("CARGO_BIN_EXE_responder");
@@ -13,6 +14,11 @@ fn service(test: &str) -> String {
 
 /// A responder at an address of the loopback interface that the port tells apart.
 fn responder(service: &str, host: &str, port: u16, seconds: u64) -> Child {
+    let mut command = responder_command(service, host, port, seconds);
+    command.stdout(Stdio::piped()).spawn().unwrap()
+}
+
+fn responder_command(service: &str, host: &str, port: u16, seconds: u64) -> Command {
     let [.., high, low] = std::process::id().to_be_bytes();
     let interface = format!("127.{}.{high}.{low}", 32 + port % 16);
     let (port, seconds) = (port.to_string(), seconds.to_string());
@@ -22,6 +28,15 @@ fn responder(service: &str, host: &str, port: u16, seconds: u64) -> Child {
     command.args(["--address", "10.0.0.7", "--txt", "room=3"]);
     command.args(["--service", service, "--host", &host, "--port", &port]);
     command.args(["--seconds", &seconds]);
+    command
+}
+
+/// The same, told to pick other names where one is lost.
+fn renaming(service: &str, host: &str, port: u16, seconds: u64) -> Child {
+    let mut command = responder_command(service, host, port, seconds);
+    // another address than the others', so that their host names differ in data
+    let address = format!("10.0.1.{}", port % 256);
+    let command = command.args(["--rename", "--address", &address]);
     command.stdout(Stdio::piped()).spawn().unwrap()
 }
 
@@ -92,23 +107,48 @@ fn a_service_that_no_one_has_is_not_found() {
 }
 
 #[test]
+fn names_that_are_taken_are_picked_anew() {
+    let service = service("anew");
+    let ours = [4004, 4005, 4006].map(|port| renaming(&service, "anew", port, 8));
+    let told = ours.map(|child| lines(&child.wait_with_output().unwrap()));
+    // what each held in the end, of both kinds of names
+    for kind in ["  booth", "  anew-"] {
+        let last = |lines: &String| {
+            let mut lines = lines.lines().rev();
+            let line = lines.find(|line| line.contains(kind)).unwrap();
+            assert!(line.contains(" held "), "{told:?}");
+            line[21..].to_string()
+        };
+        let names: BTreeSet<String> = told.iter().map(last).collect();
+        assert_eq!(names.len(), 3, "{told:?}");
+    }
+    let all = told.concat();
+    for name in [
+        format!("booth (2).{service}"),
+        format!("anew-{}-2", std::process::id()),
+    ] {
+        assert!(all.contains(&format!("held      {name}.local")), "{told:?}");
+    }
+}
+
+#[test]
 fn help_and_errors() {
     for program in [RESPONDER, BROWSER] {
         let help = Command::new(program).arg("--help").output().unwrap();
         assert_eq!(help.status.code(), Some(0));
         assert!(lines(&help).contains("usage:"));
         let wrong = Command::new(program).arg("--dog").output().unwrap();
-        assert_eq!(wrong.status.code(), Some(1));
+        assert_eq!(wrong.status.code(), Some(2));
         assert!(String::from_utf8_lossy(&wrong.stderr).contains("no option '--dog'"));
     }
     let mut refused = responder("_no--good._tcp", "no", 4003, 1);
-    assert_eq!(refused.wait().unwrap().code(), Some(1));
+    assert_eq!(refused.wait().unwrap().code(), Some(2));
     let words = "--instance a\nb --service _voice._tcp --host dock --port 1 --seconds 1";
     let feed = Command::new(RESPONDER)
         .args(words.split(' '))
         .output()
         .unwrap();
-    assert_eq!(feed.status.code(), Some(1));
+    assert_eq!(feed.status.code(), Some(2));
     assert!(String::from_utf8_lossy(&feed.stderr)
         .contains("without control characters such as a line feed"));
 }

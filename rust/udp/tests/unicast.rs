@@ -2,7 +2,7 @@
 //! Names and addresses carry the process id, so that runs beside each other do not meet.
 
 use std::io::{BufRead, BufReader};
-use std::net::Ipv4Addr;
+use std::net::{IpAddr, Ipv4Addr};
 use std::process::{Child, ChildStdout, Command, Stdio};
 use std::time::{Duration, Instant};
 
@@ -57,7 +57,7 @@ fn service(test: &str) -> String {
 }
 
 /// Sends a query for a service's PTR, and gives where the first answer was sent to, its ID and after how long it came.
-fn ask(link: &mut Link, service: &str, wants: Wants) -> Option<(Ipv4Addr, [u8; 2], Duration)> {
+fn ask(link: &mut Link, service: &str, wants: Wants) -> Option<(IpAddr, [u8; 2], Duration)> {
     let label = service.split('.').next().unwrap();
     let name = name::from_labels(&[label.as_bytes(), b"_udp", b"local"]);
     let question = Question {
@@ -93,10 +93,10 @@ fn a_question_that_wants_unicast_is_answered_at_once_to_the_asker_alone() {
     // within a second of the announcement: by multicast there is no answer yet
     assert_eq!(ask(&mut link, &service, Wants::Multicast), None);
     let (destination, id, _) = ask(&mut link, &service, Wants::UnicastToo).expect("an answer");
-    assert_eq!((destination, id), (own(2), ID));
+    assert_eq!((destination, id), (own(2).into(), ID));
     std::thread::sleep(Duration::from_millis(2200));
     let (destination, id, after) = ask(&mut link, &service, Wants::Multicast).expect("an answer");
-    assert_eq!((destination, id), (GROUP, [0, 0]));
+    assert_eq!((destination, id), (GROUP.into(), [0, 0]));
     assert!(after >= Duration::from_millis(19), "{after:?}");
 }
 

@@ -1,8 +1,7 @@
 //! The browser's command line.
 
-use std::net::Ipv4Addr;
-
 use crate::arguments::{unknown, Arguments};
+use crate::places::Places;
 use crate::{name, strings};
 
 pub const HELP: &str = "\
@@ -11,7 +10,10 @@ browser: finds the instances of a service by Multicast DNS and shows name, addre
 usage: browser --service TYPE [options]
 
   --service TYPE       the service, such as '_voice._tcp'
-  --interface ADDRESS  the interface to use, by its IPv4 address; else the one that multicasts leave by
+  --interface WHICH    the interface to use, by its name or by an IPv4 address of it; else the one that multicasts leave by
+  --all-interfaces     each interface that is up and multicast; a line then begins with its name
+  --ipv4-only          speak IPv4 alone
+  --ipv6-only          speak IPv6 alone
   --factory STRING     a TXT string of the factory, such as 'volume=5', looked up where an instance has no such key; may be given several times
   --entries NUMBER     how many records the cache has room for, 1 to 512; else 64
   --count NUMBER       stop when this many instances are shown
@@ -21,7 +23,9 @@ usage: browser --service TYPE [options]
 
 An instance is shown when its host, port, TXT and an address are known, again when they change, when it says goodbye, and a second later, when it is gone.
 It keeps looking: it asks after 1, 2, 4 seconds and so on up to an hour, and again where a record is about to lapse, and tells what it knows already.
-It ends with status 0 when stopped, 1 on an error, and 3 when it showed fewer than --count.
+When its interface is down all instances there are gone; when it is up again, or has other addresses, it begins to ask anew.
+It ends with a status: 0 when stopped, 1 on an error of the system, 2 when the command line is wrong, 3 when it showed fewer than --count, 4 when port 5353 is
+taken by a program that does not share it.
 ";
 
 #[derive(Clone, Debug, Default, PartialEq, Eq)]
@@ -29,7 +33,7 @@ pub struct Options {
     /// The labels of the service.
     pub service: String,
     pub protocol: String,
-    pub interface: Option<Ipv4Addr>,
+    pub places: Places,
     pub factory: Vec<u8>,
     /// How many entries the cache has, where it is said.
     pub entries: Option<usize>,
@@ -45,10 +49,12 @@ impl Options {
         let mut options = Options::default();
         let mut factory = Vec::new();
         while let Some(option) = arguments.next_option() {
+            if options.places.take(&option, &mut arguments)? {
+                continue;
+            }
             match option.as_str() {
                 "--help" | "-h" => return Ok(None),
                 "--service" => options.take_service(&arguments.text(&option)?)?,
-                "--interface" => options.interface = Some(arguments.value(&option)?),
                 "--factory" => factory.push(arguments.text(&option)?),
                 "--entries" => options.entries = Some(entries(arguments.value(&option)?)?),
                 "--count" => options.count = Some(arguments.value(&option)?),
@@ -95,7 +101,8 @@ mod tests {
         let line = "--service _voice._tcp --interface 127.0.0.1 --factory a=1 --count 2";
         let options = read(line).unwrap().unwrap();
         assert_eq!((&*options.service, &*options.protocol), ("_voice", "_tcp"));
-        assert_eq!(options.interface, Some(Ipv4Addr::LOCALHOST));
+        let which = crate::link::Which::At([127, 0, 0, 1].into());
+        assert_eq!(options.places.which, Some(which));
         assert_eq!(options.factory, b"\x03a=1");
         assert_eq!((options.count, options.seconds), (Some(2), None));
         assert_eq!(options.entries, None);
@@ -114,6 +121,6 @@ mod tests {
         assert_eq!(read("--help --dog"), Ok(None));
         assert!(read("").unwrap_err().starts_with("--service is missing"));
         assert!(read("--service _voice").unwrap_err().contains("such as"));
-        assert!(read("--interface lo").unwrap_err().contains("can't be"));
+        assert!(read("--interface a/b").unwrap_err().contains("can't be"));
     }
 }

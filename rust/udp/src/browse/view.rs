@@ -32,7 +32,7 @@ impl Instance {
 }
 
 /// A record that was said goodbye for, or that others took the place of, lives for a second more (RFC 6762 sections 10.1 and 10.2).
-const LAST_SECOND: u64 = 1000;
+pub const LAST_SECOND: u64 = 1000;
 
 /// Whether a record that expires then is in its last second.
 pub fn is_in_last_second(expiry: u64, now: u64) -> bool {

@@ -63,7 +63,12 @@ fn want(name: &[u8], rtype: u16, reason: Reason) -> Want {
 
 /// Four fifths of its TTL are over, but it is not in its last second: that may be a goodbye, which is not to be asked about.
 fn is_stale(entry: &Found, now: u64) -> bool {
-    5 * (now - entry.received) >= 4000 * entry.ttl && !is_in_last_second(entry.expiry, now)
+    now >= stale_from(entry) && !is_in_last_second(entry.expiry, now)
+}
+
+/// When four fifths of its TTL, which is in seconds, are over.
+pub fn stale_from(entry: &Found) -> u64 {
+    entry.received + 800 * entry.ttl
 }
 
 #[cfg(test)]

@@ -2,7 +2,7 @@
 
 use std::fmt;
 use std::io;
-use std::net::{Ipv4Addr, SocketAddrV4};
+use std::net::{IpAddr, SocketAddr};
 
 use super::{GROUP, PORT};
 
@@ -11,6 +11,7 @@ const ENODEV: i32 = 19;
 const EADDRINUSE: i32 = 98;
 const EADDRNOTAVAIL: i32 = 99;
 const ENETUNREACH: i32 = 101;
+const EHOSTUNREACH: i32 = 113;
 
 /// What was tried.
 #[derive(Clone, Copy, Debug, PartialEq, Eq)]
@@ -18,10 +19,13 @@ pub enum Step {
     Open,
     FindInterface,
     Bind,
-    Join(Ipv4Addr),
+    Join(IpAddr),
+    /// Of changes of interfaces.
+    Watch,
     Receive,
-    Send,
-    Reply(SocketAddrV4),
+    /// From an address to the group.
+    Send(IpAddr),
+    Reply(SocketAddr),
 }
 
 #[derive(Debug)]
@@ -34,11 +38,21 @@ impl LinkError {
     pub fn at(step: Step) -> impl Fn(io::Error) -> LinkError {
         move |cause| LinkError { step, cause }
     }
+
+    /// Whether another program has the port and doesn't share it.
+    pub fn is_port_taken(&self) -> bool {
+        (self.step, self.cause.raw_os_error()) == (Step::Bind, Some(EADDRINUSE))
+    }
 }
 
 /// As the system says it.
 pub fn no_such_interface() -> io::Error {
     io::Error::from_raw_os_error(ENODEV)
+}
+
+/// The same, of one that is not on the link.
+pub fn not_near() -> io::Error {
+    io::Error::from_raw_os_error(EHOSTUNREACH)
 }
 
 impl fmt::Display for LinkError {
@@ -48,26 +62,26 @@ impl fmt::Display for LinkError {
             (Step::Open, _) => write!(f, "can't open a UDP socket: {cause}"),
             (Step::FindInterface, Some(ENETUNREACH)) => write!(
                 f,
-                "no multicast route: no interface leads to {GROUP}; name one by its address with --interface, or add a route"
+                "no multicast route: no interface leads to {GROUP}; name one with --interface, or add a route"
             ),
             (Step::FindInterface, _) => write!(f, "can't find an interface for {GROUP}: {cause}"),
             (Step::Bind, Some(EADDRINUSE)) => write!(
                 f,
-                "port {PORT} is taken by a program that doesn't share it (it was bound without SO_REUSEADDR)"
+                "port {PORT} is taken by a program that doesn't share it (it was bound without SO_REUSEADDR); 'ss -ulpn sport = :{PORT}' lists who has it"
             ),
             (Step::Bind, _) => write!(f, "can't bind port {PORT}: {cause}"),
             (Step::Join(interface), Some(ENODEV | EADDRNOTAVAIL)) => {
                 write!(f, "no interface of this machine has the address {interface}")
             }
             (Step::Join(interface), _) => {
-                write!(f, "can't join {GROUP} on {interface}: {cause}")
+                write!(f, "can't join the group of {interface}: {cause}")
             }
+            (Step::Watch, _) => write!(f, "can't watch the interfaces: {cause}"),
             (Step::Receive, _) => write!(f, "receiving failed: {cause}"),
-            (Step::Send, Some(ENETUNREACH)) => write!(
-                f,
-                "sending failed: no multicast route on this interface, or it is down; start again when it is up, so that the names are claimed anew"
-            ),
-            (Step::Send, _) => write!(f, "sending failed: {cause}"),
+            (Step::Send(from), Some(ENETUNREACH)) => {
+                write!(f, "sending from {from} failed: no multicast route on this interface, or it is down")
+            }
+            (Step::Send(from), _) => write!(f, "sending from {from} failed: {cause}"),
             (Step::Reply(to), _) => write!(f, "the reply to {to} failed: {cause}"),
         }
     }
@@ -87,8 +101,14 @@ mod tests {
     fn errors_say_what_to_do() {
         assert!(said(Step::FindInterface, ENETUNREACH).starts_with("no multicast route"));
         assert!(said(Step::Bind, EADDRINUSE).starts_with("port 5353 is taken"));
-        assert!(said(Step::Join(Ipv4Addr::LOCALHOST), ENODEV).ends_with("address 127.0.0.1"));
-        assert!(said(Step::Send, ENETUNREACH).contains("route"));
+        let join = Step::Join([127, 0, 0, 1].into());
+        assert!(said(join, ENODEV).ends_with("address 127.0.0.1"));
+        let send = Step::Send([127, 0, 0, 1].into());
+        assert!(said(send, ENETUNREACH).contains("route"));
+        let taken = LinkError::at(Step::Bind)(io::Error::from_raw_os_error(EADDRINUSE));
+        assert!(taken.is_port_taken());
+        let denied = LinkError::at(Step::Bind)(io::Error::from_raw_os_error(13));
+        assert!(!denied.is_port_taken());
         assert!(said(Step::Bind, 13).starts_with("can't bind port 5353: Permission"));
     }
 }

@@ -1,12 +1,23 @@
-//! An interface of this machine: its number, and the subnets of its IPv4 addresses.
+//! The interfaces of this machine: number, name, whether it is up, and the subnets of its addresses.
 
-use std::ffi::{c_char, c_void};
+use std::ffi::{c_char, c_void, CStr};
 use std::io;
-use std::net::Ipv4Addr;
+use std::net::{IpAddr, Ipv4Addr, Ipv6Addr};
 use std::ptr;
 
-use super::system::{check, SocketAddress, AF_INET};
+use super::system::{check, AF_INET};
 use super::LOOPBACK;
+
+// Linux's flags of an interface.
+const IFF_UP: u32 = 1;
+const IFF_LOOPBACK: u32 = 8;
+const IFF_RUNNING: u32 = 0x40;
+const IFF_MULTICAST: u32 = 0x1000;
+
+/// Whether an interface with these flags is up and has a carrier.
+pub fn is_running(flags: u32) -> bool {
+    flags & IFF_UP != 0 && flags & IFF_RUNNING != 0
+}
 
 #[derive(Clone, Copy, Debug, PartialEq, Eq)]
 pub struct Subnet {
@@ -22,38 +33,136 @@ impl Subnet {
     }
 }
 
-#[derive(Clone, Debug, PartialEq, Eq)]
+/// An IPv6 address that may be used, and its prefix.
+#[derive(Clone, Copy, Debug, PartialEq, Eq, PartialOrd, Ord)]
+pub struct Subnet6 {
+    /// One that is no longer to be used for new things.
+    pub is_deprecated: bool,
+    /// One that is given up after a while, so that who has it can't be followed.
+    pub is_temporary: bool,
+    pub address: Ipv6Addr,
+    pub length: u32,
+}
+
+impl Subnet6 {
+    pub fn contains(&self, source: Ipv6Addr) -> bool {
+        let part = |address: Ipv6Addr| {
+            let behind = 128 - self.length.min(128);
+            u128::from(address).checked_shr(behind).unwrap_or(0)
+        };
+        part(self.address) == part(source)
+    }
+}
+
+#[derive(Clone, Debug, Default, PartialEq, Eq)]
 pub struct Interface {
     pub index: u32,
+    pub name: String,
+    pub flags: u32,
+    /// In the system's order.
     pub subnets: Vec<Subnet>,
+    /// In rising order, those that are to be preferred first.
+    pub subnets6: Vec<Subnet6>,
 }
 
 impl Interface {
-    /// The interface that has this address, as it is set up now.
-    pub fn of(address: Ipv4Addr) -> io::Result<Option<Interface>> {
+    /// All interfaces, as they are set up now.
+    pub fn all() -> io::Result<Vec<Interface>> {
         let mut interfaces: Vec<Interface> = Vec::new();
-        for (index, subnet) in subnets()? {
-            match interfaces.iter_mut().find(|found| found.index == index) {
-                Some(found) => found.subnets.push(subnet),
+        for part in parts()? {
+            match interfaces.iter_mut().find(|one| one.index == part.index) {
+                Some(found) => found.subnets.extend(part.subnet),
                 None => interfaces.push(Interface {
-                    index,
-                    subnets: vec![subnet],
+                    index: part.index,
+                    name: part.name,
+                    flags: part.flags,
+                    subnets: part.subnet.into_iter().collect(),
+                    subnets6: Vec::new(),
                 }),
             }
         }
-        Ok(interfaces.into_iter().find(|found| found.has(address)))
+        let list = std::fs::read_to_string("/proc/net/if_inet6").unwrap_or_default();
+        for (index, subnet) in list.lines().filter_map(ipv6_line) {
+            let of_it = |one: &&mut Interface| one.index == index;
+            if let Some(found) = interfaces.iter_mut().find(of_it) {
+                found.subnets6.push(subnet);
+            }
+        }
+        for interface in &mut interfaces {
+            interface.subnets6.sort();
+        }
+        Ok(interfaces)
     }
 
-    /// Whether an address is its own. On the loopback interface all addresses of its subnets are, so that programs on one machine have one each.
-    pub fn has(&self, address: Ipv4Addr) -> bool {
+    /// The interface that has this address, as it is set up now.
+    pub fn of(address: Ipv4Addr) -> io::Result<Option<Interface>> {
+        let all = Interface::all()?;
+        Ok(all.into_iter().find(|found| found.has(address.into())))
+    }
+
+    pub fn is_running(&self) -> bool {
+        is_running(self.flags)
+    }
+
+    /// Whether it is a link to others on which multicasts are sent.
+    pub fn is_multicast(&self) -> bool {
+        self.flags & IFF_MULTICAST != 0 && self.flags & IFF_LOOPBACK == 0
+    }
+
+    /// Whether an address is its own. On the loopback interface all addresses of its IPv4 subnets are, so that programs on one machine have one each.
+    pub fn has(&self, address: IpAddr) -> bool {
         let all = self.index == LOOPBACK;
-        let is_own = |subnet: &Subnet| subnet.address == address || all && subnet.contains(address);
-        self.subnets.iter().any(is_own)
+        match address {
+            IpAddr::V4(address) => self
+                .subnets
+                .iter()
+                .any(|subnet| subnet.address == address || all && subnet.contains(address)),
+            IpAddr::V6(address) => self.subnets6.iter().any(|one| one.address == address),
+        }
     }
 
-    pub fn is_near(&self, source: Ipv4Addr) -> bool {
-        self.subnets.iter().any(|subnet| subnet.contains(source))
+    /// Whether a source is in a subnet of it; an address of a link's own always is.
+    pub fn is_near(&self, source: IpAddr) -> bool {
+        match source {
+            IpAddr::V4(source) => self.subnets.iter().any(|subnet| subnet.contains(source)),
+            IpAddr::V6(source) => {
+                source.is_unicast_link_local()
+                    || self.subnets6.iter().any(|subnet| subnet.contains(source))
+            }
+        }
     }
+}
+
+// Linux's flags of an IPv6 address.
+const IFA_F_TEMPORARY: u32 = 0x01;
+const IFA_F_DADFAILED: u32 = 0x08;
+const IFA_F_DEPRECATED: u32 = 0x20;
+const IFA_F_TENTATIVE: u32 = 0x40;
+
+/// A line of the system's list of IPv6 addresses: address, interface, prefix length, scope and flags in hex, and a name. Nothing where the address may not be used,
+/// or not yet.
+fn ipv6_line(line: &str) -> Option<(u32, Subnet6)> {
+    let mut fields = line.split_whitespace();
+    let address = u128::from_str_radix(fields.next()?, 16).ok()?;
+    let mut number = || u32::from_str_radix(fields.next()?, 16).ok();
+    let (index, length, _scope, flags) = (number()?, number()?, number()?, number()?);
+    let has = |flag| flags & flag != 0;
+    let subnet = Subnet6 {
+        is_deprecated: has(IFA_F_DEPRECATED),
+        is_temporary: has(IFA_F_TEMPORARY),
+        address: address.into(),
+        length,
+    };
+    (!has(IFA_F_TENTATIVE) && !has(IFA_F_DADFAILED)).then_some((index, subnet))
+}
+
+/// An IPv4 address as the system's list has it.
+#[repr(C)]
+struct Ipv4Socket {
+    family: u16,
+    port: [u8; 2],
+    address: [u8; 4],
+    zero: [u8; 8],
 }
 
 /// An entry of the system's list of addresses.
@@ -62,9 +171,9 @@ struct Entry {
     next: *const Entry,
     name: *const c_char,
     flags: u32,
-    address: *const SocketAddress,
-    mask: *const SocketAddress,
-    other_end: *const SocketAddress,
+    address: *const Ipv4Socket,
+    mask: *const Ipv4Socket,
+    other_end: *const Ipv4Socket,
     data: *const c_void,
 }
 
@@ -74,8 +183,15 @@ extern "C" {
     fn if_nametoindex(name: *const c_char) -> u32;
 }
 
-/// The subnets of all IPv4 addresses of this machine, each with its interface's number.
-fn subnets() -> io::Result<Vec<(u32, Subnet)>> {
+/// What one entry of the list says of an interface.
+struct Part {
+    index: u32,
+    name: String,
+    flags: u32,
+    subnet: Option<Subnet>,
+}
+
+fn parts() -> io::Result<Vec<Part>> {
     let mut first = ptr::null();
     // SAFETY: the list's start is written here; it is ours until it is freed below.
     check(unsafe { getifaddrs(&mut first) })?;
@@ -83,7 +199,7 @@ fn subnets() -> io::Result<Vec<(u32, Subnet)>> {
     let mut next = first;
     // SAFETY: each entry is one of the list or null, and the list is not freed yet.
     while let Some(entry) = unsafe { next.as_ref() } {
-        found.extend(subnet_of(entry));
+        found.push(part_of(entry));
         next = entry.next;
     }
     // SAFETY: nothing found points into the list.
@@ -91,17 +207,34 @@ fn subnets() -> io::Result<Vec<(u32, Subnet)>> {
     Ok(found)
 }
 
-fn subnet_of(entry: &Entry) -> Option<(u32, Subnet)> {
+fn part_of(entry: &Entry) -> Part {
+    // SAFETY: a name of the list ends with a zero byte.
+    let (index, name) = unsafe { (if_nametoindex(entry.name), CStr::from_ptr(entry.name)) };
+    let name = name.to_string_lossy();
+    Part {
+        index,
+        // a second address may have a label of its own, such as eth0:1
+        name: name.split(':').next().unwrap_or_default().to_string(),
+        flags: entry.flags,
+        subnet: subnet_of(entry),
+    }
+}
+
+fn subnet_of(entry: &Entry) -> Option<Subnet> {
     // SAFETY: the list's pointers are null or good while it is not freed; of an address of another family only the family is read.
     let (address, mask) = unsafe {
         if entry.address.is_null() || (*entry.address).family != AF_INET as u16 {
             return None;
         }
-        (entry.address.as_ref()?.ip(), entry.mask.as_ref()?.ip())
+        (
+            entry.address.as_ref()?.address,
+            entry.mask.as_ref()?.address,
+        )
     };
-    // SAFETY: a name of the list ends with a zero byte.
-    let index = unsafe { if_nametoindex(entry.name) };
-    Some((index, Subnet { address, mask }))
+    Some(Subnet {
+        address: address.into(),
+        mask: mask.into(),
+    })
 }
 
 #[cfg(test)]
@@ -126,14 +259,49 @@ mod tests {
     }
 
     #[test]
+    fn lines_of_ipv6_addresses() {
+        let line = "fd770000000000000000000000000001 02 40 00 80     wire";
+        let (index, subnet) = ipv6_line(line).unwrap();
+        assert_eq!((index, subnet.length), (2, 64));
+        assert_eq!(subnet.address, "fd77::1".parse::<Ipv6Addr>().unwrap());
+        assert!(!subnet.is_deprecated && !subnet.is_temporary);
+        assert!(
+            ipv6_line(&line.replace(" 80 ", " a1 "))
+                .unwrap()
+                .1
+                .is_temporary
+        );
+        assert!(
+            ipv6_line(&line.replace(" 80 ", " a0 "))
+                .unwrap()
+                .1
+                .is_deprecated
+        );
+        for bad in [line.replace(" 80 ", " c0 "), line.replace(" 80 ", " 88 ")] {
+            assert_eq!(ipv6_line(&bad), None, "{bad}");
+        }
+        assert_eq!(ipv6_line("fd77 02"), None);
+        for (source, is_near) in [("fd77::9", true), ("fd77:0:0:1::9", false)] {
+            assert_eq!(subnet.contains(source.parse().unwrap()), is_near);
+        }
+        let all = Subnet6 {
+            length: 0,
+            ..subnet
+        };
+        assert!(all.contains("2001:db8::1".parse().unwrap()));
+    }
+
+    #[test]
     fn the_loopback_interface() {
         let found = Interface::of(Ipv4Addr::LOCALHOST).unwrap().unwrap();
-        assert!(found.has(Ipv4Addr::LOCALHOST));
-        assert!(found.has(Ipv4Addr::new(127, 0, 0, 2)));
+        assert_eq!(found.name, "lo");
+        assert!(found.is_running() && !found.is_multicast());
+        assert!(found.has(Ipv4Addr::LOCALHOST.into()));
+        assert!(found.has([127, 0, 0, 2].into()));
         let other = Interface::of(Ipv4Addr::new(127, 1, 2, 3)).unwrap();
         assert_eq!(other, Some(found.clone()));
-        assert!(found.is_near(Ipv4Addr::new(127, 9, 9, 9)));
-        assert!(!found.is_near(Ipv4Addr::new(192, 0, 2, 1)));
+        assert!(found.is_near([127, 9, 9, 9].into()));
+        assert!(!found.is_near([192, 0, 2, 1].into()));
         assert_eq!(Interface::of(Ipv4Addr::new(192, 0, 2, 199)).unwrap(), None);
     }
 }

@@ -24,7 +24,8 @@ usage: proxy --listen ADDRESS --rich DOMAIN --host-domain DOMAIN --server NAME [
 
 A name under either domain is asked for on the link with 'local' in the domain's place. What the cache knows is answered at once; else the link is asked, and the
 answer is sent when it comes, or after six seconds without one. Records come back with services under the one domain and hosts under the other, and with a TTL of
-at most ten seconds. It ends with status 0 when stopped and 1 on an error.
+at most ten seconds. It ends with status 0 when stopped, 1 on an error, 2 when the command line is wrong and 4 when port 5353 is taken by a program that does not
+share it.
 ";
 
 const DNS_PORT: u16 = 53;

@@ -2,7 +2,10 @@
 
 use std::net::{Ipv4Addr, Ipv6Addr};
 
+use super::rename::{label, Kind};
 use crate::arguments::{unknown, Arguments};
+use crate::link::Place;
+use crate::places::Places;
 use crate::recording::Start;
 use crate::{name, strings};
 
@@ -17,8 +20,13 @@ usage: responder --instance LABEL --service TYPE --host LABEL --port NUMBER [opt
   --port NUMBER        the port that the service listens on (in SRV)
   --txt STRING         a TXT string, such as 'room=3'; may be given several times
   --address IPV4       the host's address (in A); else the interface's
-  --address6 IPV6      the host's IPv6 address (in AAAA); else there is no AAAA
-  --interface ADDRESS  the interface to use, by its IPv4 address, which no other responder on this machine uses; else the one that multicasts leave by
+  --address6 IPV6      the host's IPv6 address (in AAAA); else the interface's, if it has one
+  --interface WHICH    the interface to use, by its name, or by an IPv4 address of it, which no other responder on this machine uses; else the one that
+                       multicasts leave by
+  --all-interfaces     each interface that is up and multicast, with a responder of its own
+  --ipv4-only          speak IPv4 alone, and tell no IPv6 address but --address6
+  --ipv6-only          speak IPv6 alone
+  --rename             where a name is lost, take another: 'booth (2)' for an instance, 'dock-2' for a host, and so on
   --draw NUMBER        wait this many milliseconds (0..250) before the first probe; else a random time
   --at MILLISECONDS    begin at this time of the wall clock (since 1970), so that several begin together
   --seconds NUMBER     stop after this many seconds; else on Ctrl-C or SIGTERM
@@ -28,12 +36,15 @@ usage: responder --instance LABEL --service TYPE --host LABEL --port NUMBER [opt
   --verbose            also tell of each packet that the library refuses, and of unicast answers that can't be sent
   --help               this text
 
-It prints one line for each change of a claim: waiting, probing, deferred, held or lost. A lost name is lost for good: start again with another.
+It prints one line for each change of a claim: waiting, probing, deferred, held or lost. Without --rename a lost name is lost for good: start again with another.
 When it stops, it says goodbye for the names that it holds, so that others forget them within a second.
 A changed port or TXT is announced at once where the name is held; else it is claimed anew with it. There may be one change every six seconds.
+When its interface is down it waits; when it is up again, or has other addresses, it claims its names anew.
 Once a name is held, plain DNS clients are answered too, such as 'dig -p 5353 @ADDRESS dock.local A', if they are in a subnet of the interface.
-It hears what is sent to 224.0.0.251 and to ADDRESS, port 5353, also beside programs such as Avahi that are bound to all addresses.
-It ends with status 0 when stopped, 1 on an error, and 3 when both names are lost.
+It hears what is sent to 224.0.0.251, to ff02::fb and to its own addresses, port 5353, also beside programs such as Avahi that are bound to all addresses.
+Where NOTIFY_SOCKET is set it tells a supervisor READY=1, STATUS= and STOPPING=1, and WATCHDOG=1 at half of WATCHDOG_USEC.
+It ends with a status: 0 when stopped, 1 on an error of the system, 2 when the command line is wrong or the library refuses its names or data, 3 when both names
+are lost, 4 when port 5353 is taken by a program that does not share it.
 ";
 
 #[derive(Clone, Debug, Default, PartialEq, Eq)]
@@ -46,7 +57,8 @@ pub struct Options {
     pub txt: Vec<u8>,
     pub address: Option<Ipv4Addr>,
     pub address6: Option<Ipv6Addr>,
-    pub interface: Option<Ipv4Addr>,
+    pub places: Places,
+    pub rename: bool,
     pub draw: Option<u64>,
     pub at: Option<u64>,
     pub seconds: Option<u64>,
@@ -63,6 +75,9 @@ impl Options {
         let mut txt = Vec::new();
         let mut port = None;
         while let Some(option) = arguments.next_option() {
+            if options.places.take(&option, &mut arguments)? {
+                continue;
+            }
             match option.as_str() {
                 "--help" | "-h" => return Ok(None),
                 "--instance" => options.instance = arguments.text(&option)?,
@@ -72,7 +87,7 @@ impl Options {
                 "--txt" => txt.push(arguments.text(&option)?),
                 "--address" => options.address = Some(arguments.value(&option)?),
                 "--address6" => options.address6 = Some(arguments.value(&option)?),
-                "--interface" => options.interface = Some(arguments.value(&option)?),
+                "--rename" => options.rename = true,
                 "--draw" => options.draw = Some(arguments.value(&option)?),
                 "--at" => options.at = Some(arguments.value(&option)?),
                 "--seconds" => options.seconds = Some(arguments.value(&option)?),
@@ -109,21 +124,31 @@ impl Options {
         Ok(())
     }
 
-    /// How the library is started, on an interface of this address.
-    pub fn start(&self, interface: Ipv4Addr, now: u64, draw: u64) -> Start {
-        Start {
+    /// The labels of the instance and of the host at the tries of these numbers.
+    pub fn labels(&self, tries: [u32; 2]) -> [String; 2] {
+        let [instance, host] = tries;
+        [
+            label(&self.instance, Kind::Instance, instance),
+            label(&self.host, Kind::Host, host),
+        ]
+    }
+
+    /// How the library is started at a place, at the tries of these numbers; nothing where there is no address for the A, which a host always has.
+    pub fn start(&self, place: &Place, tries: [u32; 2], now: u64, draw: u64) -> Option<Start> {
+        let [instance, host] = self.labels(tries);
+        Some(Start {
             now,
             draw,
-            instance: self.instance.clone().into(),
+            instance: instance.into(),
             service: self.service.clone().into(),
             protocol: self.protocol.clone().into(),
-            host: self.host.clone().into(),
+            host: host.into(),
             domain: b"local".to_vec(),
             port: self.port,
             txt: self.txt.clone(),
-            a: self.address.unwrap_or(interface).octets(),
-            aaaa: self.address6.map(|address| address.octets()),
-        }
+            a: self.address.or(place.a)?.octets(),
+            aaaa: self.address6.or(place.aaaa).map(|address| address.octets()),
+        })
     }
 }
 

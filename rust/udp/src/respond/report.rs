@@ -18,24 +18,58 @@ pub fn all_lost(claims: Claims) -> bool {
 
 /// The two names as text, and how their claims stood when last told of.
 pub struct Report {
+    /// What a line begins with, where there are several interfaces.
+    mark: String,
     names: [String; 2],
     told: [Option<Claim>; 2],
 }
 
+/// Of a claim that stood in one way and now in another: whether a conflict was met (RFC 6762 sections 8.1 and 9).
+fn is_conflict(before: Option<Claim>, now: Claim) -> bool {
+    match now {
+        Claim::Lost => before != Some(Claim::Lost),
+        Claim::Waiting => before == Some(Claim::Held),
+        _ => false,
+    }
+}
+
 impl Report {
-    pub fn new(options: &Options) -> Report {
-        let instance = [
-            options.instance.as_bytes(),
+    /// Of the labels of the instance and of the host.
+    pub fn new(options: &Options, labels: &[String; 2], mark: String) -> Report {
+        let [instance, host] = labels.each_ref().map(|label| label.as_bytes());
+        let instance: [&[u8]; 4] = [
+            instance,
             options.service.as_bytes(),
             options.protocol.as_bytes(),
             b"local",
         ];
-        let host = [options.host.as_bytes(), b"local"];
+        let host: [&[u8]; 2] = [host, b"local"];
         let text = |labels: &[&[u8]]| name::text(&name::from_labels(labels));
         Report {
+            mark,
             names: [text(&instance), text(&host)],
             told: [None; 2],
         }
+    }
+
+    pub fn mark(&self) -> &str {
+        &self.mark
+    }
+
+    /// How both stand, in one line.
+    pub fn summary(&self) -> String {
+        let of = |at: usize| {
+            let word = self.told[at].map_or("not begun", |claim| claim.word());
+            format!("{} {word}", self.names[at])
+        };
+        format!("{}{}, {}", self.mark, of(0), of(1))
+    }
+
+    /// How many of the claims met a conflict since the last time.
+    pub fn conflicts(&self, claims: Claims) -> usize {
+        let both = self.told.iter().zip(claims);
+        both.filter(|(before, now)| is_conflict(**before, *now))
+            .count()
     }
 
     /// The lines for what changed since the last time.
@@ -43,7 +77,8 @@ impl Report {
         let mut lines = Vec::new();
         for ((name, told), claim) in self.names.iter().zip(&mut self.told).zip(claims) {
             if told.replace(claim) != Some(claim) {
-                lines.push(format!("{now:6} ms  {:8}  {name}", claim.word()));
+                let mark = &self.mark;
+                lines.push(format!("{mark}{now:6} ms  {:8}  {name}", claim.word()));
             }
         }
         lines
@@ -63,7 +98,8 @@ mod tests {
             host: "dock".into(),
             ..Options::default()
         };
-        let mut report = Report::new(&options);
+        let labels = ["booth".to_string(), "dock".to_string()];
+        let mut report = Report::new(&options, &labels, String::new());
         assert_eq!(
             report.changes(0, [Claim::Waiting; 2]),
             [
@@ -78,5 +114,21 @@ mod tests {
         );
         assert!(!all_lost([Claim::Waiting, Claim::Lost]));
         assert!(all_lost([Claim::Lost; 2]));
+    }
+
+    #[test]
+    fn conflicts_are_counted() {
+        use Claim::{Deferred, Held, Lost, Probing, Waiting};
+        for (before, now, is_met) in [
+            (None, Waiting, false),
+            (Some(Probing), Lost, true),
+            (Some(Lost), Lost, false),
+            (Some(Held), Waiting, true),
+            (Some(Probing), Waiting, false),
+            (Some(Probing), Deferred, false),
+            (Some(Probing), Held, false),
+        ] {
+            assert_eq!(is_conflict(before, now), is_met, "{before:?} {now:?}");
+        }
     }
 }

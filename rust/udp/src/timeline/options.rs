@@ -16,7 +16,7 @@ usage: timeline [options] DEVICE=FILE[@DISTANCE] ..
 
 It prints a line for each time that a name was held: the name, the device, from when, to when, and how long; 'end' is the end of a recording. Where two devices held
 one name at once a line says so. A recording whose end is torn off, as by a power cut, is used up to there, and a line on standard error says what was left out.
-It ends with status 0, 1 on an error, and 3 where nobody held what --name and --at ask for.
+It ends with status 0, 1 on an error, 2 when the command line is wrong, and 3 where nobody held what --name and --at ask for.
 ";
 
 #[derive(Clone, Debug, PartialEq, Eq)]
