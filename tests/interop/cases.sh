@@ -1,6 +1,6 @@
 # The cases. Each prints what was seen and answers 0 where it is as it should be.
 
-cases="avahi_finds_us zeroconf_finds_us systemd_finds_us we_find_avahi we_find_zeroconf says_that_there_is_no_aaaa
+cases="avahi_finds_us avahi_finds_us_by_ipv6 zeroconf_finds_us systemd_finds_us we_find_avahi we_find_avahi_by_ipv6 we_find_zeroconf says_that_there_is_no_aaaa
     yields_the_instance_to_avahi yields_the_host_to_avahi yields_the_instance_to_zeroconf
     keeps_the_instance_against_avahi keeps_the_host_against_avahi keeps_the_instance_against_zeroconf
     dig_is_answered a_reply_as_it_lies no_reply_beyond_the_link
@@ -65,6 +65,15 @@ avahi_finds_us() {
     has "$seen" '^dock\.local\s+fd77::1$'
 }
 
+avahi_finds_us_by_ipv6() {
+    local seen
+    we_hold && avahi_speaks=ipv6 avahi_is_up other || return 1
+    seen=$(on b avahi-browse -rpt $service 2>&1)
+    has "$seen" '^=;wire;IPv6;booth;_voice._tcp;local;dock\.local;(fd77::1|10\.77\.0\.1);4000;("PassReq" "room=3"|"room=3" "PassReq")' && ! grep ';IPv4;' <<<"$seen" || return 1
+    seen=$(on b avahi-resolve -6 -n dock.local 2>&1)
+    has "$seen" '^dock\.local\s+fd77::1$'
+}
+
 zeroconf_finds_us() {
     local seen
     we_hold || return 1
@@ -75,12 +84,14 @@ zeroconf_finds_us() {
         has "$seen" '^address fd77::1$' && has "$seen" '^txt room=3$' && has "$seen" '^txt PassReq$'
 }
 
-# systemd-resolved asks for A by IPv4 and for AAAA by IPv6 alone, which our programs don't speak.
+# systemd-resolved asks for A by IPv4 and for AAAA by IPv6 alone.
 systemd_finds_us() {
     local seen
     we_hold && resolved_is_up || return 1
     seen=$(resolve query -4 dock.local)
     has "$seen" '^dock\.local: 10\.77\.0\.1 ' || return 1
+    seen=$(resolve query -6 dock.local)
+    has "$seen" '^dock\.local: fd77::1 ' || return 1
     seen=$(resolve service booth $service local)
     has "$seen" '^booth/_voice\._tcp/local: dock\.local:4000 ' && has "$seen" '^ +room=3$' && has "$seen" '^ +PassReq$'
 }
@@ -103,6 +114,18 @@ we_find_avahi() {
     wait_for 5 ours '^gone +parlour$' && has "$(cat "$work/ours")" '^gone +parlour$'
 }
 
+we_find_avahi_by_ipv6() {
+    local seen
+    avahi_speaks=ipv6 avahi_is_up other || return 1
+    start_on b peer avahi-publish -s parlour $service 4001 room=7
+    # Avahi announces for some three seconds; after that we have to ask
+    wait_for 5 peer Established && sleep 3.5 || return 1
+    start_browser a ours --service $service --ipv6-only
+    wait_for 8 ours 'room=7' || return 1
+    seen=$(cat "$work/ours")
+    has "$seen" '^found +parlour$' && has "$seen" '^  host +other\.local$' && has "$seen" '^  address +fe80::'
+}
+
 we_find_zeroconf() {
     local seen
     start_on c peer "$python" "$root/tests/interop/zeroconf_publish.py" 10.77.0.3 $service.local. 'Hall, west' hall.local. 4002 room=9
@@ -117,7 +140,7 @@ we_find_zeroconf() {
 # A host without AAAA: what its NSEC changes for those who ask. Avahi 0.8 and python-zeroconf 0.47 ask for both kinds of address; how long each takes is shown.
 says_that_there_is_no_aaaa() {
     local seen begun
-    start_responder a ours --instance booth --service $service --host dock --port 4000 --txt room=3
+    start_responder a ours --ipv4-only --instance booth --service $service --host dock --port 4000 --txt room=3
     wait_for 5 ours "held +$booth" && wait_for 5 ours 'held +dock.local' && sleep 1.2 || return 1
     start_browser b peer --service $service
     wait_for 8 peer 'no IPv6' && has "$(cat "$work/peer")" 'no IPv6' || return 1

@@ -1,6 +1,6 @@
 """A plain resolver: asks one question from a port of its own and shows the reply as it lies in the packet.
 
-FROM TO NAME TYPE: the own address, the address to ask, the name as it is to be spelled, the type's number.
+FROM TO NAME TYPE: the own address, the address to ask (a link's own as fe80::1%wire), the name as it is to be spelled, the type's number.
 Prints who replied, the header, whether the question came back byte for byte, and a line for each record: owner, type, class, TTL, and the target of a PTR or
 SRV with 'whole' or 'cut' for how it is written. Prints 'no reply' after a second without one."""
 
@@ -25,12 +25,13 @@ def show(packet, query, question):
 
 def main():
     source, to, spelled, kind = sys.argv[1:]
-    asker = socket.socket(socket.AF_INET, socket.SOCK_DGRAM)
-    asker.bind((source, 0))
+    family, _, _, _, own = socket.getaddrinfo(source, 0, type=socket.SOCK_DGRAM)[0]
+    asker = socket.socket(family, socket.SOCK_DGRAM)
+    asker.bind(own)
     asker.settimeout(WAIT)
     question = name(spelled) + struct.pack("!HH", int(kind), 1)
     query = struct.pack("!6H", random.randrange(1, 65536), 0x0100, 1, 0, 0, 0) + question
-    asker.sendto(query, (to, 5353))
+    asker.sendto(query, socket.getaddrinfo(to, 5353, family, socket.SOCK_DGRAM)[0][4])
     try:
         packet, sender = asker.recvfrom(9000)
     except TimeoutError:

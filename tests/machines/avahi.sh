@@ -1,14 +1,17 @@
 # Avahi's daemon on a machine.
 
-# Its settings, in a folder: IPv4 on the wire alone.
+# Its settings, in a folder: on the wire alone, by IPv4, or where avahi_speaks says so by ipv6 or by both.
 write_avahi_settings() { # FOLDER HOST D-BUS (yes or no)
+    local ipv4=yes ipv6=yes
+    [ "${avahi_speaks:-ipv4}" != ipv4 ] || ipv6=no
+    [ "${avahi_speaks:-ipv4}" != ipv6 ] || ipv4=no
     mkdir -p "$1"
     cat >"$1/avahi.conf" <<CONF
 [server]
 host-name=$2
 domain-name=local
-use-ipv4=yes
-use-ipv6=no
+use-ipv4=$ipv4
+use-ipv6=$ipv6
 allow-interfaces=wire
 enable-dbus=$3
 ratelimit-interval-usec=1000000

@@ -28,15 +28,31 @@ make_bridges() { # NAME...
 # The address of a machine whose name is a number.
 address_of() { echo "10.79.0.$1"; } # MACHINE
 
+# A machine with an interface 'wire'. Its IPv6 addresses are good at once: no one else has them, so nothing is asked first (no duplicate address detection).
 make_machine() { # MACHINE BRIDGE
     machines="$machines $1"
     ip netns add "$net-$1" || skip "a network namespace can't be made here"
+    ip netns exec "$net-$1" sh -c 'for which in all default; do echo 0 >/proc/sys/net/ipv6/conf/$which/accept_dad; done' 2>/dev/null
     ip -n "$net-$1" link set lo up
-    ip -n "$net-$1" link add wire type veth peer name "to-$1" netns "$net-bridges" 2>/dev/null || skip "a veth can't be made here"
-    ip -n "$net-$1" addr add "$(address_of "$1")/24" dev wire
-    ip -n "$net-$1" link set wire up
-    ip -n "$net-bridges" link set "to-$1" master "$2" up
+    add_wire "$1" wire "to-$1" "$2" "$(address_of "$1")"
 }
+
+# Joins a machine to a bridge by an interface, which has a carrier from the start, and waits until its IPv6 address is there, where IPv6 is.
+add_wire() { # MACHINE INTERFACE OTHER-END BRIDGE ADDRESS
+    local tries=20
+    ip -n "$net-$1" link add "$2" type veth peer name "$3" netns "$net-bridges" 2>/dev/null || skip "a veth can't be made here"
+    ip -n "$net-$1" addr add "$5/24" dev "$2"
+    ip -n "$net-bridges" link set "$3" master "$4" up
+    ip -n "$net-$1" link set "$2" up
+    [ -e /proc/net/if_inet6 ] || return 0
+    until has_ipv6 "$1" "$2" || [ "$tries" = 0 ]; do
+        tries=$((tries - 1))
+        sleep 0.05
+    done
+}
+
+# Whether an interface has an IPv6 address of the link's own that may be used.
+has_ipv6() { ip -n "$net-$1" -6 addr show dev "$2" scope link -tentative 2>/dev/null | grep -q inet6; } # MACHINE INTERFACE
 
 # Runs a command on a machine, for at most 60 s.
 on() { # MACHINE COMMAND...
