@@ -14,6 +14,7 @@ use crate::clock::Clock;
 use crate::command::End;
 use crate::link::{self, Hears, Link};
 use crate::name;
+use crate::notify::Notify;
 use crate::query::{compose, Question, Wants};
 use crate::refusal::text;
 use crate::stop;
@@ -55,6 +56,7 @@ pub fn run(options: &Options) -> Result<End, Box<dyn Error>> {
         clock: Clock::begin(),
         cache: Cache::with_entries(options.entries)?,
         pendings: Pendings::default(),
+        notify: Notify::open(),
     };
     println!(
         "answering on {listen} for {} and {}",
@@ -72,6 +74,7 @@ struct Session<'a> {
     clock: Clock,
     cache: Cache,
     pendings: Pendings,
+    notify: Notify,
 }
 
 impl Session<'_> {
@@ -81,12 +84,15 @@ impl Session<'_> {
             .seconds
             .unwrap_or(u64::MAX)
             .saturating_mul(1000);
+        self.notify.ready();
         while !stop::asked() && self.clock.now() < end {
+            self.notify.live(self.clock.now());
             self.hear_link()?;
             self.hear_clients()?;
             self.answer_ready()?;
             self.ask_link()?;
         }
+        self.notify.stopping();
         Ok(End::Stopped)
     }
 
