@@ -68,7 +68,7 @@ held=$(grep -c "^$name  dock-[13]  " "$work/table")
 [ "$held" = 2 ] || fail "the name has $held holders in turn, and not two"
 ! grep -q 'two at once' "$work/table" || fail "two held it at once"
 [ "$(grep -o 'class="held"' "$work/timeline.html" | wc -l)" = "$(grep -c . "$work/table")" ] || fail "the page has other intervals than the table"
-at=$(($(begun_at dock-1) + 2000))
+at=$(($(begun_at dock-1) + 1300))
 [ "$("$timeline" --name "$name" --at "$at" "${sources[@]}")" = "$name  dock-1" ] || fail "who held it at $at"
 # a power cut in the middle of a record
 head -c -5 "$work/dock-2.trace" >"$work/torn"

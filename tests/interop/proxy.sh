@@ -70,7 +70,7 @@ what_the_proxy_says_itself() {
     has "$seen" 'status: REFUSED' || return 1
     # a service that nobody has: no error, no answer, after six seconds
     seen=$(asked '_none._tcp.Building 1.example' PTR)
-    has "$seen" 'ANSWER: 0, AUTHORITY: 1' && has "$seen" 'Query time: 6[0-9]{3} msec'
+    has "$seen" 'ANSWER: 0, AUTHORITY: 1' && has "$seen" 'Query time: (5999|6[0-9]{3}) msec'
 }
 
 # An answer that is too long for UDP is cut and asked for by TCP; a client that says that it takes more gets it whole.
