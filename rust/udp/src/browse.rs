@@ -1,5 +1,6 @@
 //! The example browser.
 
+mod caches;
 mod lapse;
 mod options;
 mod run;

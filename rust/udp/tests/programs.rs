@@ -18,6 +18,12 @@ fn responder(service: &str, host: &str, port: u16, seconds: u64) -> Child {
     command.stdout(Stdio::piped()).spawn().unwrap()
 }
 
+fn responder_of(instance: &str, service: &str, host: &str, port: u16, seconds: u64) -> Child {
+    let mut command = responder_command(service, host, port, seconds);
+    let command = command.args(["--instance", instance]);
+    command.stdout(Stdio::piped()).spawn().unwrap()
+}
+
 fn responder_command(service: &str, host: &str, port: u16, seconds: u64) -> Command {
     let [.., high, low] = std::process::id().to_be_bytes();
     let interface = format!("127.{}.{high}.{low}", 32 + port % 16);
@@ -97,6 +103,24 @@ fn signals_stop_a_program_cleanly() {
         assert_eq!(output.status.code(), Some(0));
         assert!(lines(&output).ends_with("stopped\n"), "{}", lines(&output));
     }
+}
+
+#[test]
+fn names_alone_and_a_full_cache() {
+    let service = service("names");
+    let booth = responder_of("booth", &service, "booth", 4004, 5);
+    let hall = responder_of("hall", &service, "hall", 4005, 5);
+    let mut command = Command::new(BROWSER);
+    command.args(["--interface", "127.0.0.1", "--service", &service, "--names"]);
+    command.args(["--entries", "1", "--seconds", "4"]);
+    let found = lines(&command.output().unwrap());
+    for child in [booth, hall] {
+        child.wait_with_output().unwrap();
+    }
+    let count = |word: &str| found.lines().filter(|line| line.starts_with(word)).count();
+    assert_eq!((count("found"), count("  ")), (1, 0), "{found}");
+    assert_eq!(count("full      1 PTR records are known"), 1, "{found}");
+    assert!(found.contains(" PTR records were turned away, "), "{found}");
 }
 
 #[test]

@@ -15,13 +15,15 @@ usage: browser --service TYPE [options]
   --ipv4-only          speak IPv4 alone
   --ipv6-only          speak IPv6 alone
   --factory STRING     a TXT string of the factory, such as 'volume=5', looked up where an instance has no such key; may be given several times
-  --entries NUMBER     how many records the cache has room for, 1 to 512; else 64
+  --names              show names alone, each as soon as it is heard of, and ask for nothing else
+  --entries NUMBER     how many records of each type there is room for, 1 to 512; else 512
   --count NUMBER       stop when this many instances are shown
   --seconds NUMBER     stop after this many seconds; else on Ctrl-C
   --verbose            also tell of each packet that the library refuses
   --help               this text
 
 An instance is shown when its host, port, TXT and an address are known, again when they change, when it says goodbye, and a second later, when it is gone.
+Where there is no room for a record it is turned away, and that is told: more instances than --entries are not shown.
 It keeps looking: it asks after 1, 2, 4 seconds and so on up to an hour, and again where a record is about to lapse, and tells what it knows already.
 When its interface is down all instances there are gone; when it is up again, or has other addresses, it begins to ask anew.
 It ends with a status: 0 when stopped, 1 on an error of the system, 2 when the command line is wrong, 3 when it showed fewer than --count, 4 when port 5353 is
@@ -35,7 +37,9 @@ pub struct Options {
     pub protocol: String,
     pub places: Places,
     pub factory: Vec<u8>,
-    /// How many entries the cache has, where it is said.
+    /// Whether names alone are shown.
+    pub names: bool,
+    /// How many entries each cache has, where it is said.
     pub entries: Option<usize>,
     pub count: Option<usize>,
     pub seconds: Option<u64>,
@@ -56,6 +60,7 @@ impl Options {
                 "--help" | "-h" => return Ok(None),
                 "--service" => options.take_service(&arguments.text(&option)?)?,
                 "--factory" => factory.push(arguments.text(&option)?),
+                "--names" => options.names = true,
                 "--entries" => options.entries = Some(entries(arguments.value(&option)?)?),
                 "--count" => options.count = Some(arguments.value(&option)?),
                 "--seconds" => options.seconds = Some(arguments.value(&option)?),
@@ -105,7 +110,7 @@ mod tests {
         assert_eq!(options.places.which, Some(which));
         assert_eq!(options.factory, b"\x03a=1");
         assert_eq!((options.count, options.seconds), (Some(2), None));
-        assert_eq!(options.entries, None);
+        assert_eq!((options.entries, options.names), (None, false));
     }
 
     #[test]

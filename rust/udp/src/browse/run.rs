@@ -1,29 +1,32 @@
-//! Drives the cache: questions out, packets in, what it knows on the screen.
+//! Drives the caches: questions out, packets in, what they know on the screen.
 
 use std::error::Error;
 use std::io::{self, Write};
 use std::os::fd::BorrowedFd;
 
-use kurgashel::{Browser, BrowserDraws, Cache, OUT_BYTES};
+use kurgashel::{Browser, BrowserDraws, MOST_ENTRIES, OUT_BYTES};
 
+use super::caches::Caches;
 use super::lapse;
 use super::options::Options;
 use super::schedule::Schedule;
 use super::show::{lacking, Screen};
-use super::view::instances;
+use super::view::{instances, names};
 use super::wants::wants;
 use crate::clock::Clock;
 use crate::command::{End, Misuse};
 use crate::draw::{self, Draws};
 use crate::link::{ready, Change, Follow, Hears, Interface, Link, LinkError, Place, Which};
+use crate::name::from_labels;
 use crate::query::{compose, Question, Wants};
 use crate::refusal::{text, Tally};
 use crate::stop;
 
 /// How long it waits, in milliseconds, after a link that failed, unless something changes there.
 const RETRY: u64 = 5000;
-/// How many packets of one link are taken before another link's turn.
-const MOST_AT_ONCE: usize = 16;
+/// How many packets of one link are taken before anything is asked or shown, and before another link's turn: of many instances that takes longer than taking a
+/// packet does.
+const MOST_AT_ONCE: usize = 100;
 
 pub fn run(options: &Options) -> Result<End, Box<dyn Error>> {
     let choice = options.places.choice()?;
@@ -204,6 +207,7 @@ impl<'a> Browsing<'a> {
 
     /// Begins at a place; where there is a session already, it begins to ask anew there, and keeps what it knows.
     fn begin(&mut self, place: &Place, interface: &Interface) -> Result<(), Box<dyn Error>> {
+        let delay = self.draws.within(&draw::REPLY)?;
         let draws = BrowserDraws {
             first: self.draws.within(&draw::REPLY)?,
             refresh: self.draws.within(&draw::REFRESH)?,
@@ -223,6 +227,8 @@ impl<'a> Browsing<'a> {
         } else {
             String::new()
         };
+        let labels = [&options.service, &options.protocol, "local"].map(str::as_bytes);
+        let entries = options.entries.unwrap_or(MOST_ENTRIES);
         self.sessions.push(Session {
             options,
             place: place.clone(),
@@ -231,14 +237,12 @@ impl<'a> Browsing<'a> {
             link,
             clock: self.clock,
             browser,
-            cache: match options.entries {
-                Some(entries) => Cache::with_entries(entries)?,
-                None => Cache::default(),
-            },
-            schedule: Schedule::default(),
+            caches: Caches::new(from_labels(&labels), entries)?,
+            entries,
+            schedule: Schedule::new(delay),
             screen: Screen::default(),
             refused: Tally::default(),
-            turned_away: 0,
+            full: Vec::new(),
             passed_over: 0,
         });
         Ok(())
@@ -255,12 +259,15 @@ struct Session<'a> {
     clock: &'a Clock,
     /// Looks for instances.
     browser: Browser,
-    cache: Cache,
+    caches: Caches,
+    /// How many entries each of them has.
+    entries: usize,
     /// What is asked of the instances that there are.
     schedule: Schedule,
     screen: Screen,
     refused: Tally,
-    turned_away: u64,
+    /// The types of records of which it was told that there is no room for more.
+    full: Vec<&'static str>,
     passed_over: u64,
 }
 
@@ -268,8 +275,8 @@ impl Session<'_> {
     /// When something is to be asked, or what is shown changes by time alone.
     fn due(&self) -> Result<u64, Box<dyn Error>> {
         let now = self.clock.now();
-        let due = self.browser.due(&self.cache, now)?;
-        let lapse = lapse::next(&self.cache, now, &self.browser)?;
+        let due = self.browser.due(self.caches.pointers(), now)?;
+        let lapse = lapse::next(&self.caches, now, &self.browser)?;
         let due = due.min(lapse.unwrap_or(u64::MAX));
         Ok(due.min(self.schedule.next().unwrap_or(u64::MAX)))
     }
@@ -282,7 +289,9 @@ impl Session<'_> {
             }
         }
         self.look()?;
-        self.resolve()?;
+        if !self.options.names {
+            self.resolve()?;
+        }
         self.show()?;
         for failure in self.link.take_failures() {
             eprintln!("{}{failure}", self.mark);
@@ -290,15 +299,14 @@ impl Session<'_> {
         Ok(())
     }
 
-    /// Has the cache take a packet, if one is there.
+    /// Has the caches take a packet, if one is there.
     fn hear(&mut self) -> Result<bool, Box<dyn Error>> {
         let Some(packet) = self.link.take()? else {
             return Ok(false);
         };
         let (now, source) = (self.clock.now(), packet.header.source);
-        match self.cache.take(now, source.port(), packet.bytes) {
+        match self.caches.take(now, source.port(), packet.bytes) {
             Ok(taken) => {
-                self.turned_away += u64::from(taken.turned_away);
                 self.passed_over += u64::from(taken.passed_over);
             }
             Err(refusal) => {
@@ -316,7 +324,8 @@ impl Session<'_> {
     fn look(&mut self) -> Result<(), Box<dyn Error>> {
         let mut out = [0; OUT_BYTES];
         loop {
-            let ticked = self.browser.tick(&self.cache, self.clock.now(), &mut out)?;
+            let now = self.clock.now();
+            let ticked = self.browser.tick(self.caches.pointers(), now, &mut out)?;
             if ticked.length > 0 {
                 self.link.send(&out[..ticked.length])?;
             }
@@ -329,13 +338,13 @@ impl Session<'_> {
     /// Sends queries with all questions about instances that are due. Answers go to all, so that devices which claim one name hear of each other.
     fn resolve(&mut self) -> Result<(), Box<dyn Error>> {
         let now = self.clock.now();
-        let wants = wants(&self.cache, now, &self.browser)?;
+        let wants = wants(&self.caches, now, &self.browser)?;
         let mut due = self.schedule.due(now, wants);
         while !due.is_empty() {
             let questions: Vec<Question> = due.iter().map(|want| want.question.clone()).collect();
             let (packet, asked) = compose(&questions, Wants::Multicast, &[]);
             for want in due.drain(..asked.max(1)) {
-                self.schedule.mark_asked(now, want);
+                self.schedule.mark_asked(now, &want);
             }
             self.link.send(&packet)?;
         }
@@ -344,9 +353,31 @@ impl Session<'_> {
 
     fn show(&mut self) -> Result<(), Box<dyn Error>> {
         let now = self.clock.now();
-        let found = instances(&self.cache, now, &self.browser)?;
-        for line in self.screen.changes(&found, &self.options.factory) {
+        let lines = if self.options.names {
+            let found = names(&self.caches, now, &self.browser)?;
+            self.screen.changed_names(&found)
+        } else {
+            let found = instances(&self.caches, now, &self.browser)?;
+            self.screen.changes(&found, &self.options.factory)
+        };
+        for line in lines {
             writeln!(io::stdout(), "{}{line}", self.mark)?;
+        }
+        self.tell_what_is_full()
+    }
+
+    /// Tells, once for each type, that there is no room for more of its records.
+    fn tell_what_is_full(&mut self) -> Result<(), Box<dyn Error>> {
+        for (kind, _) in self.caches.turned_away() {
+            if !self.full.contains(&kind) {
+                self.full.push(kind);
+                let known = format!("{} {kind} records are known", self.entries);
+                let mark = &self.mark;
+                writeln!(
+                    io::stdout(),
+                    "{mark}full      {known}, and more are turned away"
+                )?;
+            }
         }
         Ok(())
     }
@@ -363,26 +394,24 @@ impl Session<'_> {
     fn close(&mut self) -> Result<(), Box<dyn Error>> {
         let now = self.clock.now();
         let mut out = io::stdout();
-        let all_live = format!(
-            "turned away, since all {} entries of the cache are live",
-            self.cache.entries()
-        );
-        for instance in instances(&self.cache, now, &self.browser)? {
-            if let Some(line) = lacking(&instance) {
-                writeln!(out, "{}{line}", self.mark)?;
+        let mark = &self.mark;
+        if !self.options.names {
+            let found = instances(&self.caches, now, &self.browser)?;
+            for line in found.iter().filter_map(lacking) {
+                writeln!(out, "{mark}{line}")?;
             }
         }
         write!(out, "{}{}", self.refused, self.link.dropped())?;
-        for (count, why) in [
-            (self.turned_away, all_live.as_str()),
-            (
-                self.passed_over,
-                "passed over, since their data are over 768 bytes",
-            ),
-        ] {
-            if count > 0 {
-                writeln!(out, "{}{count} records were {why}", self.mark)?;
-            }
+        for (kind, count) in self.caches.turned_away() {
+            let all_live = format!("since all {} entries for them are live", self.entries);
+            writeln!(
+                out,
+                "{mark}{count} {kind} records were turned away, {all_live}"
+            )?;
+        }
+        if self.passed_over > 0 {
+            let long = "passed over, since their data are over 768 bytes";
+            writeln!(out, "{mark}{} records were {long}", self.passed_over)?;
         }
         Ok(())
     }

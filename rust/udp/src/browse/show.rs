@@ -19,7 +19,25 @@ impl Screen {
     /// The lines for what is new, changed, leaving or gone.
     pub fn changes(&mut self, instances: &[Instance], factory: &[u8]) -> Vec<String> {
         let mut lines = self.drop_gone(instances);
-        for instance in instances.iter().filter(|instance| instance.is_complete()) {
+        let complete = instances.iter().filter(|instance| instance.is_complete());
+        lines.extend(self.shown_anew(complete, factory));
+        lines
+    }
+
+    /// The same where names alone are shown.
+    pub fn changed_names(&mut self, names: &[Instance]) -> Vec<String> {
+        let mut lines = self.drop_gone(names);
+        lines.extend(self.shown_anew(names.iter(), b""));
+        lines
+    }
+
+    fn shown_anew<'a>(
+        &mut self,
+        instances: impl Iterator<Item = &'a Instance>,
+        factory: &[u8],
+    ) -> Vec<String> {
+        let mut lines = Vec::new();
+        for instance in instances {
             let same = |shown: &&mut Instance| shown.name.eq_ignore_ascii_case(&instance.name);
             match self.shown.iter_mut().find(same) {
                 Some(shown) if shown == instance => continue,
@@ -186,6 +204,19 @@ mod tests {
         let lacks = "incomplete  booth: no SRV, no address was heard";
         assert_eq!(lacking(&bare), Some(lacks.into()));
         assert_eq!(lacking(&instance()), None);
+    }
+
+    #[test]
+    fn names_alone() {
+        let mut bare = instance();
+        (bare.server, bare.txt, bare.addresses) = (None, None, vec![]);
+        let mut screen = Screen::default();
+        let found = screen.changed_names(std::slice::from_ref(&bare));
+        assert_eq!(found, ["found     booth"]);
+        assert_eq!(screen.count(), 1);
+        bare.is_leaving = true;
+        assert_eq!(screen.changed_names(&[bare]), ["leaving   booth"]);
+        assert_eq!(screen.changed_names(&[]), ["gone      booth"]);
     }
 
     #[test]

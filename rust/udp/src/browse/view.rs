@@ -1,9 +1,10 @@
-//! What the cache knows of the instances of a service.
+//! What the caches know of the instances of a service.
 
 use std::net::IpAddr;
 
 use kurgashel::{Browser, Cache, Data, Found, Refusal};
 
+use super::caches::Caches;
 use crate::rtype;
 
 #[derive(Clone, Debug, PartialEq, Eq)]
@@ -26,6 +27,18 @@ pub struct Server {
 }
 
 impl Instance {
+    /// Of which no more than its name is known.
+    fn of_name(name: &[u8]) -> Instance {
+        Instance {
+            name: name.to_vec(),
+            server: None,
+            txt: None,
+            addresses: Vec::new(),
+            no_ipv6: false,
+            is_leaving: false,
+        }
+    }
+
     pub fn is_complete(&self) -> bool {
         self.server.is_some() && self.txt.is_some() && !self.addresses.is_empty()
     }
@@ -44,36 +57,41 @@ pub fn latest<'a>(found: &[Found<'a>]) -> Option<Found<'a>> {
     found.iter().copied().max_by_key(|entry| entry.received)
 }
 
-/// The instances on the browser's list.
-pub fn instances(cache: &Cache, now: u64, browser: &Browser) -> Result<Vec<Instance>, Refusal> {
-    let listed = browser.instances(cache, now)?;
-    let instances = listed.map(|listed| {
-        Ok(Instance {
-            is_leaving: is_in_last_second(listed.expiry, now),
-            ..instance(cache, now, listed.target)?
-        })
+/// The instances on the browser's list, by name alone.
+pub fn names(caches: &Caches, now: u64, browser: &Browser) -> Result<Vec<Instance>, Refusal> {
+    let listed = browser.instances(caches.pointers(), now)?;
+    let names = listed.map(|listed| Instance {
+        is_leaving: is_in_last_second(listed.expiry, now),
+        ..Instance::of_name(listed.target)
     });
-    instances.collect()
+    Ok(names.collect())
 }
 
-fn instance(cache: &Cache, now: u64, name: &[u8]) -> Result<Instance, Refusal> {
-    let server = latest(&cache.all(now, name, rtype::SRV)?).and_then(|entry| server(entry.rdata));
-    let txt = latest(&cache.all(now, name, rtype::TXT)?).map(|entry| entry.rdata.to_vec());
+/// The instances on the browser's list.
+pub fn instances(caches: &Caches, now: u64, browser: &Browser) -> Result<Vec<Instance>, Refusal> {
+    let names = names(caches, now, browser)?.into_iter();
+    names.map(|bare| resolved(caches, now, bare)).collect()
+}
+
+/// An instance with what is known beside its name.
+fn resolved(caches: &Caches, now: u64, bare: Instance) -> Result<Instance, Refusal> {
+    let name = &bare.name;
+    let server = latest(&caches.all(now, name, rtype::SRV)?).and_then(|entry| server(entry.rdata));
+    let txt = latest(&caches.all(now, name, rtype::TXT)?).map(|entry| entry.rdata.to_vec());
     let addresses = match &server {
-        Some(server) => addresses(cache, now, &server.host)?,
+        Some(server) => addresses(caches, now, &server.host)?,
         None => Vec::new(),
     };
     let no_ipv6 = match &server {
-        Some(server) => is_denied(cache, now, &server.host, rtype::AAAA)?,
+        Some(server) => is_denied(caches.denials(), now, &server.host, rtype::AAAA)?,
         None => false,
     };
     Ok(Instance {
-        name: name.to_vec(),
         server,
         txt,
         addresses,
         no_ipv6,
-        is_leaving: false,
+        ..bare
     })
 }
 
@@ -97,10 +115,10 @@ pub fn is_denied(cache: &Cache, now: u64, name: &[u8], rtype: u16) -> Result<boo
 }
 
 /// A host's addresses in rising order.
-fn addresses(cache: &Cache, now: u64, host: &[u8]) -> Result<Vec<IpAddr>, Refusal> {
+fn addresses(caches: &Caches, now: u64, host: &[u8]) -> Result<Vec<IpAddr>, Refusal> {
     let mut addresses = Vec::new();
     for rtype in [rtype::A, rtype::AAAA] {
-        for entry in cache.all(now, host, rtype)? {
+        for entry in caches.all(now, host, rtype)? {
             addresses.extend(address(rtype, entry.rdata));
         }
     }
@@ -151,15 +169,20 @@ pub mod tests {
     /// A record of class 1: owner, type, TTL and rdata.
     pub type Told = (Vec<u8>, u16, u32, Vec<u8>);
 
-    /// A cache that took a response with these records at time 0.
-    pub fn heard(records: &[Told]) -> Cache {
-        let mut cache = Cache::default();
-        hear(&mut cache, 0, 0, records);
-        cache
+    /// Caches that took a response with these records at time 0.
+    pub fn heard(records: &[Told]) -> Caches {
+        let mut caches = Caches::new(service_name(), 64).unwrap();
+        hear(&mut caches, 0, 0, records);
+        caches
     }
 
     /// Takes a response with these records, with the cache flush bit where `flush` is 0x80.
-    pub fn hear(cache: &mut Cache, now: u64, flush: u8, records: &[Told]) {
+    pub fn hear(caches: &mut Caches, now: u64, flush: u8, records: &[Told]) {
+        caches.take(now, 5353, &response(flush, records)).unwrap();
+    }
+
+    /// A response with these records, with the cache flush bit where `flush` is 0x80.
+    pub fn response(flush: u8, records: &[Told]) -> Vec<u8> {
         let mut packet = vec![0, 0, 0x84, 0, 0, 0, 0, records.len() as u8, 0, 0, 0, 0];
         for (owner, rtype, ttl, rdata) in records {
             packet.extend(owner);
@@ -169,41 +192,41 @@ pub mod tests {
             packet.extend((rdata.len() as u16).to_be_bytes());
             packet.extend(rdata);
         }
-        cache.take(now, 5353, &packet).unwrap();
+        packet
     }
 
     #[test]
     fn changed_data_are_seen_at_once() {
         let old = (instance_name(), rtype::TXT, 4500, b"\x06room=3".to_vec());
-        let mut cache = heard(&[(service_name(), rtype::PTR, 4500, instance_name()), old]);
+        let mut caches = heard(&[(service_name(), rtype::PTR, 4500, instance_name()), old]);
         let new = (instance_name(), rtype::TXT, 4500, b"\x06room=4".to_vec());
-        hear(&mut cache, 5000, 0x80, &[new]);
+        hear(&mut caches, 5000, 0x80, &[new]);
         for now in [5000, 5999, 6000] {
-            let found = &instances(&cache, now, &browser()).unwrap()[0];
+            let found = &instances(&caches, now, &browser()).unwrap()[0];
             assert_eq!(found.txt.as_deref(), Some(&b"\x06room=4"[..]), "{now}");
         }
     }
 
     #[test]
     fn a_goodbye_is_seen_at_once() {
-        let mut cache = heard(&[(service_name(), rtype::PTR, 4500, instance_name())]);
-        assert!(!instances(&cache, 4999, &browser()).unwrap()[0].is_leaving);
+        let mut caches = heard(&[(service_name(), rtype::PTR, 4500, instance_name())]);
+        assert!(!instances(&caches, 4999, &browser()).unwrap()[0].is_leaving);
         let goodbye = (service_name(), rtype::PTR, 0, instance_name());
-        hear(&mut cache, 5000, 0, &[goodbye]);
-        assert!(instances(&cache, 5000, &browser()).unwrap()[0].is_leaving);
-        assert!(instances(&cache, 6000, &browser()).unwrap().is_empty());
+        hear(&mut caches, 5000, 0, &[goodbye]);
+        assert!(instances(&caches, 5000, &browser()).unwrap()[0].is_leaving);
+        assert!(instances(&caches, 6000, &browser()).unwrap().is_empty());
     }
 
     #[test]
     fn an_instance_is_put_together() {
-        let cache = heard(&[
+        let caches = heard(&[
             (service_name(), rtype::PTR, 4500, instance_name()),
             (instance_name(), rtype::SRV, 120, srv()),
             (instance_name(), rtype::TXT, 4500, vec![0]),
             (host_name(), rtype::A, 120, vec![10, 0, 0, 8]),
             (host_name(), rtype::A, 120, vec![10, 0, 0, 7]),
         ]);
-        let found = instances(&cache, 1, &browser()).unwrap();
+        let found = instances(&caches, 1, &browser()).unwrap();
         assert_eq!(found.len(), 1);
         assert!(found[0].is_complete());
         let server = found[0].server.as_ref().unwrap();
@@ -211,18 +234,20 @@ pub mod tests {
         let expected: [IpAddr; 2] = [[10, 0, 0, 7].into(), [10, 0, 0, 8].into()];
         assert_eq!(found[0].addresses, expected);
         // SRV and A lapse after 120 s, the rest after 4,500 s
-        assert!(!instances(&cache, 120_000, &browser()).unwrap()[0].is_complete());
-        assert!(instances(&cache, 4_500_000, &browser()).unwrap().is_empty());
+        assert!(!instances(&caches, 120_000, &browser()).unwrap()[0].is_complete());
+        assert!(instances(&caches, 4_500_000, &browser())
+            .unwrap()
+            .is_empty());
     }
 
     #[test]
     fn a_name_in_two_cases_is_one_instance() {
         let capitals = from_labels(&[b"BOOTH", b"_voice", b"_tcp", b"local"]);
-        let cache = heard(&[
+        let caches = heard(&[
             (service_name(), rtype::PTR, 4500, instance_name()),
             (service_name(), rtype::PTR, 4500, capitals),
         ]);
-        assert_eq!(instances(&cache, 1, &browser()).unwrap().len(), 1);
+        assert_eq!(instances(&caches, 1, &browser()).unwrap().len(), 1);
     }
 
     pub fn no_aaaa() -> Vec<u8> {
@@ -231,10 +256,11 @@ pub mod tests {
 
     #[test]
     fn a_denial_counts_while_it_lives() {
-        let cache = heard(&[(host_name(), rtype::NSEC, 120, no_aaaa())]);
-        assert!(is_denied(&cache, 119_999, &host_name(), rtype::AAAA).unwrap());
-        assert!(!is_denied(&cache, 119_999, &host_name(), rtype::A).unwrap());
-        assert!(!is_denied(&cache, 120_000, &host_name(), rtype::AAAA).unwrap());
+        let caches = heard(&[(host_name(), rtype::NSEC, 120, no_aaaa())]);
+        let denials = caches.denials();
+        assert!(is_denied(denials, 119_999, &host_name(), rtype::AAAA).unwrap());
+        assert!(!is_denied(denials, 119_999, &host_name(), rtype::A).unwrap());
+        assert!(!is_denied(denials, 120_000, &host_name(), rtype::AAAA).unwrap());
     }
 
     #[test]

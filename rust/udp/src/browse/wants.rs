@@ -1,10 +1,10 @@
 //! What is to be asked of the instances on the list: SRV, TXT, A and AAAA that are missing, unless an NSEC says that there is none, and those about to lapse
 //! (RFC 6762 section 5.2). Who there is, the library's browser asks by itself.
 
-use kurgashel::{Browser, Cache, Found, Refusal};
+use kurgashel::{Browser, Found, Refusal};
 
+use super::caches::Caches;
 use super::view::{is_denied, is_in_last_second, latest, server};
-
 use crate::query::Question;
 use crate::rtype;
 
@@ -21,14 +21,14 @@ pub struct Want {
     pub reason: Reason,
 }
 
-pub fn wants(cache: &Cache, now: u64, browser: &Browser) -> Result<Vec<Want>, Refusal> {
+pub fn wants(caches: &Caches, now: u64, browser: &Browser) -> Result<Vec<Want>, Refusal> {
     let mut wants = Vec::new();
-    for instance in browser.instances(cache, now)? {
-        let servers = need(cache, now, instance.target, rtype::SRV, &mut wants)?;
-        need(cache, now, instance.target, rtype::TXT, &mut wants)?;
+    for instance in browser.instances(caches.pointers(), now)? {
+        let servers = need(caches, now, instance.target, rtype::SRV, &mut wants)?;
+        need(caches, now, instance.target, rtype::TXT, &mut wants)?;
         for host in servers.iter().filter_map(|entry| server(entry.rdata)) {
-            need(cache, now, &host.host, rtype::A, &mut wants)?;
-            need(cache, now, &host.host, rtype::AAAA, &mut wants)?;
+            need(caches, now, &host.host, rtype::A, &mut wants)?;
+            need(caches, now, &host.host, rtype::AAAA, &mut wants)?;
         }
     }
     wants.sort();
@@ -38,15 +38,15 @@ pub fn wants(cache: &Cache, now: u64, browser: &Browser) -> Result<Vec<Want>, Re
 
 /// Wants records that are missing or about to lapse; gives those there are.
 fn need<'a>(
-    cache: &'a Cache,
+    caches: &'a Caches,
     now: u64,
     name: &[u8],
     rtype: u16,
     wants: &mut Vec<Want>,
 ) -> Result<Vec<Found<'a>>, Refusal> {
-    let found = cache.all(now, name, rtype)?;
+    let found = caches.all(now, name, rtype)?;
     if found.is_empty() {
-        if !is_denied(cache, now, name, rtype)? {
+        if !is_denied(caches.denials(), now, name, rtype)? {
             wants.push(want(name, rtype, Reason::Missing));
         }
     } else if latest(&found).is_some_and(|entry| is_stale(&entry, now)) {
@@ -78,8 +78,8 @@ mod tests {
     };
     use super::*;
 
-    fn types(cache: &Cache, now: u64, reason: Reason) -> Vec<u16> {
-        let wants = wants(cache, now, &browser()).unwrap();
+    fn types(caches: &Caches, now: u64, reason: Reason) -> Vec<u16> {
+        let wants = wants(caches, now, &browser()).unwrap();
         let of_reason = wants.into_iter().filter(|want| want.reason == reason);
         let mut types: Vec<_> = of_reason.map(|want| want.question.rtype).collect();
         types.sort();
@@ -88,44 +88,44 @@ mod tests {
 
     #[test]
     fn what_is_missing_is_wanted() {
-        let nothing = Cache::default();
+        let nothing = heard(&[]);
         assert_eq!(types(&nothing, 0, Reason::Missing), []);
         let pointer = (service_name(), rtype::PTR, 4500, instance_name());
-        let cache = heard(std::slice::from_ref(&pointer));
-        assert_eq!(types(&cache, 0, Reason::Missing), [rtype::TXT, rtype::SRV]);
-        let cache = heard(&[
+        let caches = heard(std::slice::from_ref(&pointer));
+        assert_eq!(types(&caches, 0, Reason::Missing), [rtype::TXT, rtype::SRV]);
+        let caches = heard(&[
             pointer,
             (instance_name(), rtype::SRV, 120, srv()),
             (instance_name(), rtype::TXT, 4500, vec![0]),
             (host_name(), rtype::A, 120, vec![10, 0, 0, 7]),
         ]);
-        assert_eq!(types(&cache, 0, Reason::Missing), [rtype::AAAA]);
-        assert_eq!(types(&cache, 95_999, Reason::Refresh), []);
+        assert_eq!(types(&caches, 0, Reason::Missing), [rtype::AAAA]);
+        assert_eq!(types(&caches, 95_999, Reason::Refresh), []);
         // at 80 percent of 120 s
         let stale = [rtype::A, rtype::SRV];
-        assert_eq!(types(&cache, 96_000, Reason::Refresh), stale);
-        assert_eq!(types(&cache, 3_600_000, Reason::Refresh), [rtype::TXT]);
+        assert_eq!(types(&caches, 96_000, Reason::Refresh), stale);
+        assert_eq!(types(&caches, 3_600_000, Reason::Refresh), [rtype::TXT]);
     }
 
     #[test]
     fn what_does_not_exist_is_not_wanted() {
-        let cache = heard(&[
+        let caches = heard(&[
             (service_name(), rtype::PTR, 4500, instance_name()),
             (instance_name(), rtype::SRV, 120, srv()),
             (instance_name(), rtype::TXT, 4500, vec![0]),
             (host_name(), rtype::NSEC, 120, no_aaaa()),
         ]);
-        assert_eq!(types(&cache, 0, Reason::Missing), [rtype::A]);
+        assert_eq!(types(&caches, 0, Reason::Missing), [rtype::A]);
     }
 
     #[test]
     fn what_was_said_goodbye_for_or_replaced_is_not_asked_for() {
         let pointer = |ttl| (service_name(), rtype::PTR, ttl, instance_name());
         let txt = |ttl, data: &[u8]| (instance_name(), rtype::TXT, ttl, data.to_vec());
-        let mut cache = heard(&[pointer(4500), txt(4500, b"\x01a")]);
-        hear(&mut cache, 5000, 0x80, &[txt(4500, b"\x01b")]);
-        assert_eq!(types(&cache, 5000, Reason::Refresh), []);
-        hear(&mut cache, 9000, 0, &[pointer(0), txt(0, b"\x01b")]);
-        assert_eq!(types(&cache, 9000, Reason::Refresh), []);
+        let mut caches = heard(&[pointer(4500), txt(4500, b"\x01a")]);
+        hear(&mut caches, 5000, 0x80, &[txt(4500, b"\x01b")]);
+        assert_eq!(types(&caches, 5000, Reason::Refresh), []);
+        hear(&mut caches, 9000, 0, &[pointer(0), txt(0, b"\x01b")]);
+        assert_eq!(types(&caches, 9000, Reason::Refresh), []);
     }
 }
