@@ -54,18 +54,18 @@ add_wire() { # MACHINE INTERFACE OTHER-END BRIDGE ADDRESS
 # Whether an interface has an IPv6 address of the link's own that may be used.
 has_ipv6() { ip -n "$net-$1" -6 addr show dev "$2" scope link -tentative 2>/dev/null | grep -q inet6; } # MACHINE INTERFACE
 
-# Runs a command on a machine, for at most 60 s.
+# Runs a command on a machine, for at most 60 s, or as many as `longest` says.
 on() { # MACHINE COMMAND...
     local machine=$1
     shift
-    timeout -k 2 60 ip netns exec "$net-$machine" "$@"
+    timeout -k 2 "${longest:-60}" ip netns exec "$net-$machine" "$@"
 }
 
 # Starts a command on a machine in the background, with its output in a file of the work folder; its process id is then in $last. It reads from $input.
 start_on() { # MACHINE FILE COMMAND...
     local machine=$1 file=$2
     shift 2
-    timeout -k 2 60 ip netns exec "$net-$machine" "$@" >"$work/$file" 2>&1 <"${input:-/dev/null}" &
+    timeout -k 2 "${longest:-60}" ip netns exec "$net-$machine" "$@" >"$work/$file" 2>&1 <"${input:-/dev/null}" &
     last=$!
     running="$running $last"
 }
