@@ -3,7 +3,7 @@
 OWN FILE SECONDS ADDRESS..: the own address, a file in which a moment of the wall clock will stand, in milliseconds since 1970, how long to watch after that
 moment, the machines' addresses. Prints 'watching', and one line of JSON when the time is over. For each of the two names: 'first', the first time at which one
 held it; 'two', the last time at which two or more held it; 'one', the time from which on one and the same machine alone held it, up to the end; 'holders', how
-many hold it at the end. Times are in milliseconds after the moment, null where there is none.
+many hold it at the end; 'together', for how long in all two or more held it. Times are in milliseconds after the moment, null where there is none.
 
 A machine that answers a question within 100 ms holds the name at the time it was asked. One that answers within a second is slow, as on a busy machine: it did
 not hold the name then for 'first' and 'two', and did not give it up for 'one' and 'holders'."""
@@ -66,13 +66,14 @@ def told(rounds, which, moment):
     held = [(at, *answered[which]) for at, answered in rounds]
     first = next((at for at, holders, _ in held if holders), None)
     two = next((at for at, holders, _ in reversed(held) if len(holders) > 1), None)
+    together = sum(end - at for (at, holders, _), (end, *_) in zip(held, held[1:]) if len(holders) > 1)
     last, one = held[-1][1] | held[-1][2], None
     if len(last) == 1:
         for at, holders, late in reversed(held):
             if holders | late != last:
                 break
             one = at if holders else one
-    return {"first": after(first), "two": after(two), "one": after(one), "holders": len(last)}
+    return {"first": after(first), "two": after(two), "one": after(one), "holders": len(last), "together": round(together * 1000)}
 
 
 def main():

@@ -1,0 +1,154 @@
+"""Judges a soak: by what each responder printed of its claims, and by the samples. When may two hold one name with different data?
+
+Never, while what demand 3 asks is met (docs/DEMAND-3.md): a killed responder holds nothing from then on, and one that is started again is a new one. A link
+that is down breaks it for that machine: two may hold until the link is up and one has heard a multicast of the other (links joined), which the queries every
+1.1 s bring about, within MENDED ms. And so does the machine on which all run, where it is too busy: a packet that took over 124 ms, which the proof does not
+bear, or steps of a responder that were over 50 ms late. What is so is counted apart; what is left is a failure."""
+
+import re
+
+LINE = re.compile(r"^ *(\d+) ms  (waiting|probing|deferred|held|lost|down) +(\S+)$")
+BEGUN = re.compile(r"^begun on .+ at (\d+), start draw")
+MENDED, PROBING, STEPS, LATE, IN_TIME, SLACK = 2500, 1300, 750, 50, 1200, 300
+
+
+class Holding:
+    """One responder holds one name for a time."""
+
+    def __init__(self, machine, name, since, until, is_late):
+        self.machine, self.name, self.since, self.until, self.is_late = machine, name, since, until, is_late
+
+
+def changes(life):
+    """When it began, and each (time, state, name) that it printed."""
+    lines = life.file.read_text().splitlines()
+    begun = next((int(found[1]) for line in lines if (found := BEGUN.match(line))), None)
+    return begun, [(begun + int(f[1]), f[2], f[3]) for line in lines if begun and (f := LINE.match(line))]
+
+
+def holdings(life):
+    """Its holdings; a holding is late where the three waits between probing and held took over 50 ms more than they should, so that a step was late."""
+    _, told = changes(life)
+    for at, (since, state, name) in enumerate(told):
+        if state == "held":
+            until = next((time for time, word, other in told[at + 1 :] if other == name or word == "down"), life.killed)
+            probed = max((time for time, word, other in told[:at] if (word, other) == ("probing", name)), default=since)
+            yield Holding(life.machine, name, since, until, since - probed > STEPS + LATE)
+
+
+def is_down(flaps, machines, time):
+    """Whether the link of one was down then, or up again only so long ago that the two need not have heard each other."""
+    return any(machine in machines and down <= time <= up + MENDED for machine, down, up in flaps)
+
+
+def is_busy(late, pair, since):
+    """Whether a packet of one to the other was late while the later one probed, or a step of either."""
+    machines = {holding.machine for holding in pair}
+    between = any(since - PROBING <= time <= since and {one, other} <= machines for time, one, other in late)
+    return between or any(holding.is_late for holding in pair)
+
+
+def overlaps(all_holdings):
+    """Each two of different machines that hold one name at once, and from when to when."""
+    for name in sorted({holding.name for holding in all_holdings}):
+        same = sorted((h for h in all_holdings if h.name == name), key=lambda h: h.since)
+        for at, one in enumerate(same):
+            for other in same[at + 1 :]:
+                since, until = max(one.since, other.since), min(one.until, other.until)
+                if since < until and one.machine != other.machine:
+                    yield (one, other), since, until
+
+
+def excuse(soak, late, pair, since, until):
+    """Why two hold from a time on: 'link', 'busy', or '' for no reason. A link that was down excuses every moment of it."""
+    machines = {holding.machine for holding in pair}
+    if all(is_down(soak.flaps, machines, time) for time in range(int(since), int(until) + 1, 10)) and is_down(soak.flaps, machines, until):
+        return "link"
+    return "busy" if is_busy(late, pair, since) else ""
+
+
+def late_packets(folder):
+    words = (line.split() for line in (folder / "relay").read_text().splitlines() if line.startswith("late "))
+    return [(int(time), int(one), int(other)) for _, time, one, other, _ in words]
+
+
+def told_of_two(soak, all_holdings, late):
+    found = [(excuse(soak, late, *each), each) for each in overlaps(all_holdings)]
+    for why, (pair, since, until) in found:
+        if why != "link":
+            machines = " and ".join(str(holding.machine) for holding in pair)
+            print(f"  {machines} both held {pair[0].name} for {until - since:.0f} ms, from {since - soak.begun:.0f} ms on: {why or 'NOT EXCUSED'}")
+    of = lambda word: [until - since for why, (_, since, until) in found if why == word]
+    print(
+        f"two holders at once: {len(of('link'))} times by a link that was down, longest {max(of('link'), default=0):.0f} ms; "
+        f"{len(of('busy'))} times as the machine was too busy; {len(of(''))} times without excuse"
+    )
+    return len(of(""))
+
+
+def told_of_samples(soak, all_holdings, late):
+    """Of the rounds in which two answered for one name, those that no two holders, excused above, explain."""
+    two, wrong = 0, 0
+    for time, answered in soak.samples.rounds:
+        for name, machines in answered.items():
+            if len(machines) > 1:
+                two += 1
+                near = [each for each in overlaps([h for h in all_holdings if h.machine in machines]) if each[1] - 200 <= time <= each[2] + 200]
+                wrong += not near and not is_down(soak.flaps, machines, time)
+    answers = sum(len(machines) for _, answered in soak.samples.rounds for machines in answered.values())
+    print(f"samples: {len(soak.samples.rounds)} rounds, {answers} answers; two answered for one name {two} times, {wrong} of them not explained by the above")
+    return wrong + (answers == 0)
+
+
+def told_of_own_names(soak, labels):
+    """Each name that nobody else wants is held in time."""
+    took, never = [], 0
+    for life in soak.lives:
+        begun, told = changes(life)
+        own = next((label for label in labels(life.machine) if label.startswith("own-")))
+        held = next((time - begun for time, state, name in told if state == "held" and name.startswith(own + ".")), None)
+        if held is not None:
+            took.append(held)
+        elif life.killed - (begun or life.begun) > 3000 and not any(m == life.machine and d < life.killed and u > life.begun for m, d, u in soak.flaps):
+            never += 1
+            print(f"  {life.machine} never held its own name: {told[-2:]}")
+    mean = sum(took) / max(len(took), 1)
+    print(
+        f"names that nobody else wants: held {len(took)} times, {mean:.0f} ms after the start in the mean, {max(took, default=0)} ms at most, "
+        f"{sum(time > IN_TIME for time in took)} times over {IN_TIME} ms; {never} never within 3 s"
+    )
+    return never
+
+
+def told_of_memory(soak):
+    grown = [(life.memory[-1] - life.memory[0], life) for life in soak.lives if len(life.memory) > 1]
+    most = max(grown, key=lambda each: each[0], default=None)
+    if most is None:
+        print("memory: no responder lived long enough to be measured twice")
+        return 1
+    longest = max(life.killed - life.begun for _, life in grown) / 1000
+    first, last = most[1].memory[0], most[1].memory[-1]
+    print(f"memory: {len(grown)} measured twice or more, up to {longest:.0f} s; the most that one grew by is {most[0]} KiB, from {first} to {last} KiB")
+    return sum(grew > SLACK for grew, _ in grown)
+
+
+def judge(soak, contended, labels):
+    late = late_packets(soak.folder)
+    wanted = {contended(machine).rsplit("/", 1)[0] + "." for machine in soak.machines}
+    wanted |= {name.rstrip(".") for name in wanted}
+    all_holdings = [h for life in soak.lives for h in holdings(life)]
+    of_contended = [h for h in all_holdings if h.name in wanted]
+    unheld = {contended(m).rsplit("/", 1)[0] for m in soak.machines} - {h.name.rstrip(".") for h in of_contended}
+    ended = [life for life in soak.lives if life.status is not None]
+    badly = [life for life in ended if life.status != 0]
+    killed = len(soak.lives) - len(ended) - len(soak.died)
+    print(f"faults: {killed} killed, each started again, and {len(soak.flaps)} links taken down and up, in {soak.seconds:.0f} s")
+    print(f"names that five want: {len(wanted) // 2}, held {len(of_contended)} times; never held: {sorted(unheld) or 'none'}")
+    failures = told_of_own_names(soak, labels) + len(unheld)
+    failures += told_of_two(soak, of_contended, late) + told_of_samples(soak, of_contended, late)
+    failures += told_of_memory(soak)
+    for life in soak.died + badly:
+        print(f"  {life.machine} ended by itself, status {life.process.returncode}: {life.file.read_text().splitlines()[-3:]}")
+    print(f"programs that died: {len(soak.died)}; stopped at the end with another status than 0: {len(badly)}")
+    failures += len(soak.died) + len(badly)
+    return 1 if failures else 0
