@@ -22,8 +22,10 @@ class Holding:
 def changes(life):
     """When it began, and each (time, state, name) that it printed."""
     lines = life.file.read_text().splitlines()
-    begun = next((int(found[1]) for line in lines if (found := BEGUN.match(line))), None)
-    return begun, [(begun + int(f[1]), f[2], f[3]) for line in lines if begun and (f := LINE.match(line))]
+    at, begun = next(((at, int(found[1])) for at, line in enumerate(lines) if (found := BEGUN.match(line))), (0, None))
+    told = [(int(f[1]), f[2], f[3]) for line in lines[at:] if begun and (f := LINE.match(line))]
+    # its clock ran before it began where its link was down
+    return begun, [(begun + time - told[0][0], state, name) for time, state, name in told]
 
 
 def holdings(life):
