@@ -47,7 +47,7 @@ start_quiet_avahi() {
 start_browsers() { # KIND
     local kind=names names=--names resolve=
     [ "$1" != resolved ] || kind=resolved names='' resolve=r
-    ! is_there ours || start_stamped_on $ours ours "$browser" --interface "$(address_of $ours)" --service $service ${names:+"$names"}
+    ! is_there ours || start_stamped_on $ours ours "$browser" --ipv4-only --interface "$(address_of $ours)" --service $service ${names:+"$names"}
     ! is_there avahi || start_stamped_on $avahi avahi avahi-browse -p$resolve $service
     ! is_there zeroconf ||
         start_stamped_on $zeroconf zeroconf "$python" "$root/tests/browsers/zeroconf_browse.py" "$(address_of $zeroconf)" $service.local. $kind
