@@ -95,7 +95,7 @@ trial() { # KIND LOST
     start_on "$watcher" asker python3 "$root/tests/soak/ask.py" "$(address_of "$watcher")" $((watched + 3)) 'Booth 3._voice._tcp.local/SRV' dock.local/A
     set_moment $((200 + 100 * contenders))
     for number in $(seq "$contenders"); do
-        if [ "$1" = ours ]; then start_ours "$number" --at "$moment"; else start_avahi "$number" "$moment"; fi
+        if [ "$1" = ours ]; then start_ours "$number" --ipv4-only --at "$moment"; else start_avahi "$number" "$moment"; fi
     done
     for number in $(seq "$contenders"); do wait_for 10 "dock-$number" '^begun ' || return 1; done
     wait "$watch"
