@@ -10,9 +10,9 @@ A copy is checked over a copy of what the proof of its crate left behind (target
 here is a test, and never a verdict of proof: nothing is called proved by it. Every crate has to be proved before (`rt check`). The edits of must-fail/ are
 tried from nothing by `rt ci`; of those that it has tried the first error is judged here as well.
 
-Edits of the bodies of different functions share a copy: a function is proved from the contracts of those that it calls, which none of these edits changes,
-so whether its own body meets its own contract is what it would be alone. Each needs a failed fact in the proof of its own function; one that has none there is
-tried again alone. An edit of anything else (a contract, a constant, a definition) is tried alone.
+Edits of different functions share a copy: a function is proved from the contracts of those that it calls, so whether its own body meets its own contract is
+what it would be alone, as long as no function in the copy names another whose contract is changed there. Each needs a failed fact in the proof of its own
+function; one that has none there is tried again alone. An edit of anything else (a constant, a definition, a theorem) is tried alone.
 
 An edit fails the run where the copy is not refused, where the prover was not reached, where its text no longer stands exactly once in its file, or where
 the refusal only says that the proof no longer has the code's shape (a `Need-..` that is not there)."""
@@ -30,7 +30,7 @@ ROOT = pathlib.Path(__file__).resolve().parent.parent
 TARGET = ROOT / "target"
 PARTS = ("src", "specs", "proofs")
 # so many edits share a copy
-MOST_TOGETHER = 8
+MOST_TOGETHER = 24
 # what is no failed fact: a name or a field that is not there (the needs of a function, and what is known at each, are called after its statements), a text that does
 # not parse, a tuple of another size
 SHAPE = re.compile(r"that can be named from here|record `[^`]*` has no field|: error: expected |this tuple has \d+ components")
@@ -50,6 +50,7 @@ class Function:
         self.public, self.name = bool(head.group(1)), head.group(2)
         self.file, self.first, self.last = file, first, last
         self.body = next((n for n in range(first, last + 1) if lines[n].rstrip().endswith("{")), first)
+        self.words = set(re.findall(r"\w+", "\n".join(lines[first:last + 1]))) - {self.name}
         module = pathlib.Path(file).with_suffix("").parts[1:]
         self.module = () if module in (("lib",), ("main",)) else module
         folder = pathlib.Path(crate, "proofs", *self.module)
@@ -124,9 +125,9 @@ def touched(edit, bodies):
     return found
 
 
-def body_of(edit):
-    """The one function whose body an edit changes, if it changes nothing else."""
-    found = touched(edit, True)
+def one_of(edit, bodies):
+    """The one function whose text an edit changes, or whose body alone, if it changes nothing else."""
+    found = touched(edit, bodies)
     one = found[0] if found else None
     return one if one and all(f and (f.file, f.first) == (one.file, one.first) for f in found) else None
 
@@ -207,20 +208,29 @@ def judged(status, log, function=None):
     return False, "refused, and nothing says which fact fails"
 
 
+def disturbs(edit, function, other):
+    """Whether what an edit changes of its function is what another function is proved from."""
+    return function.name in other.words and not one_of(edit, True)
+
+
+def go_together(edit, function, other_edit, other):
+    return function.proof != other.proof and not disturbs(edit, function, other) and not disturbs(other_edit, other, function)
+
+
 def batches(every):
-    """The edits in groups that share a copy: of one crate, and of the bodies of different functions."""
+    """The edits in groups that share a copy: of one crate and of different functions, none of which is proved from what is changed of another."""
     groups, alone = [], []
     for edit in every:
-        body = body_of(edit)
-        if not body:
+        function = one_of(edit, False)
+        if not function:
             alone.append([(edit, None)])
             continue
-        fits = lambda g: crate_of(g[0][0]) == crate_of(edit) and len(g) < MOST_TOGETHER and all(body.proof != f.proof for _, f in g)
+        fits = lambda g: crate_of(g[0][0]) == crate_of(edit) and len(g) < MOST_TOGETHER and all(go_together(edit, function, *other) for other in g)
         group = next((g for g in groups if fits(g)), None)
         if group:
-            group.append((edit, body))
+            group.append((edit, function))
         else:
-            groups.append([(edit, body)])
+            groups.append([(edit, function)])
     return groups + alone
 
 
