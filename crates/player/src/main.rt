@@ -20,6 +20,9 @@ const MOST_INPUT: usize = 4194304;
 // The word before the fields of a start, which the input leaves out.
 const START: usize = 6;
 
+// The most bytes of the first line with that word: the line itself has at most 40,000, as in the console.
+const MOST_LINE: usize = 40006;
+
 // Says on standard error that the first line is not of its form.
 fn bad_line() {
     io::write_all(STDERR_FILENO, b"bad line\n");
@@ -152,6 +155,9 @@ fn checked(trace: &[u8], begun: State, text: &mut [u8; 4096]) {
 
 // Starts a responder by the first line, and plays the trace to it.
 fn run(line: &[u8], trace: &[u8], text: &mut [u8; 4096]) {
+    if MOST_LINE < line.len() {
+        return bad_line();
+    }
     if !console_responder::setup::is_start(line) {
         return bad_line();
     }
