@@ -244,15 +244,16 @@ def tried_alone(kit, edit):
 
 def tried(kit, group):
     """The edits of a group, each with whether it is refused for a fact, and where or why not."""
-    began, results, texts = time.monotonic(), [], {}
-    if len(group) > 1:
+    began, results, texts, together = time.monotonic(), [], {}, []
+    for edit, function in group:
         try:
-            for edit, _ in group:
-                applied(edit, texts)
-            status, log = kit.checked(crate_of(group[0][0]), f"{group[0][0].stem}+{len(group) - 1}", texts)
-            results = [(edit, *judged(status, log, body)) for edit, body in group]
+            texts = applied(edit, dict(texts))
+            together.append((edit, function))
         except Unfit:
-            pass  # which one it is shows where each is tried alone
+            pass  # with the others it does not apply
+    if len(together) > 1:
+        status, log = kit.checked(crate_of(group[0][0]), f"{group[0][0].stem}+{len(together) - 1}", texts)
+        results = [(edit, *judged(status, log, function)) for edit, function in together]
     results = [r for r in results if r[1]] + [(e, *tried_alone(kit, e)) for e, _ in group if e not in [r[0] for r in results if r[1]]]
     return results, time.monotonic() - began
 
