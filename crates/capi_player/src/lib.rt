@@ -1,5 +1,5 @@
-// The player for C and Rust: the event at an offset of a trace, played to a responder whose state the caller lends as bytes (`capi_responder::codec`), with what it
-// came to in numbers. c/include/kurgashel.h declares the function.
+// The player for C and Rust: the event at an offset of a trace, played to a responder whose state the caller lends as bytes (`capi_responder::codec`), with
+// what it came to in numbers. c/include/kurgashel.h declares the function.
 ghost use mathlib.Core.Path.{_≡_};
 ghost use Rattle.capi_player.specs.Laid.{dataLaid, Lays};
 ghost use Rattle.capi_player.specs.Played.{isTaken, noState, turnNumbers, Plays};
@@ -9,9 +9,9 @@ use own::records::Setup;
 use playing::Turn;
 use responder::State;
 
-// What playing from an offset came to: 7, 12 or 0; 0 at the trace's end or where it is refused, 1 for a call that was made, 2 for a claim that was recorded; the
-// refusal number of that call, or 0; whether the responder agrees with what was recorded; the offset behind the event, or that of the refusal; and of the claim the
-// last time, its number and its state.
+// What playing from an offset came to: 7, 12 or 0; 0 at the trace's end or where it is refused, 1 for a call that was made, 2 for a claim that was recorded;
+// the refusal number of that call, or 0; whether the responder agrees with what was recorded; the offset behind the event, or that of the refusal; and of the
+// claim the last time, its number and its state.
 #[repr(C)]
 pub struct PlayedTurn {
     pub refusal: u8,

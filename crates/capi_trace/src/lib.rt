@@ -12,8 +12,8 @@ use trace::reading::Event;
 use trace::reading::Step;
 use trace::writing::Written;
 
-// An event of a trace: 12 or 0; the kind of its record, 0 at the trace's end or where it is refused; the offset behind it, or that of the refusal; the time; of a
-// packet the halves of its source address, its port and draws; of an update the port; the claim and its state; and how many bytes it brings.
+// An event of a trace: 12 or 0; the kind of its record, 0 at the trace's end or where it is refused; the offset behind it, or that of the refusal; the time; of
+// a packet the halves of its source address, its port and draws; of an update the port; the claim and its state; and how many bytes it brings.
 #[repr(C)]
 pub struct TraceEvent {
     pub refusal: u8,
