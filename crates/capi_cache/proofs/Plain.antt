@@ -26,71 +26,73 @@ use Rattle.cache.proofs.entries.Entry as T
 use Rattle.cache.proofs.entries.Entry.Laws as T′
 use Rattle.capi_cache.specs.declared.LookedNumbers.{LookedNumbers}
 use Rattle.capi_cache.proofs.LookedNumbers as LN
-use Rattle.capi_cache.specs.Refusals.{lateness, worse, ended}
+use Rattle.capi_cache.specs.Refusals.{noMost, mostWith, ended}
+use Rattle.capi_cache.specs.declared.Most.{Most}
+use Rattle.capi_cache.proofs.Most as MO
+use Rattle.capi_cache.proofs.Most.Laws as MO′
 use Rattle.capi_cache.specs.Numbers.{refusedLook, nothingLook, refusedTake}
 use Rattle.capi_cache.specs.declared.TakenNumbers.{TakenNumbers}
 use Rattle.capi_cache.proofs.TakenNumbers as TN
 use Rattle.capi_cache.proofs.Calls.{R}
-use Rattle.capi_cache.proofs.late as late
-use Rattle.capi_cache.proofs.after_entry as after-entry
+use Rattle.capi_cache.proofs.no_most as no-most
+use Rattle.capi_cache.proofs.most_with as most-with
 use Rattle.capi_cache.proofs.at_end as at-end
 use Rattle.capi_cache.proofs.refused_look as refused-look
 use Rattle.capi_cache.proofs.nothing_look as nothing-look
 use Rattle.capi_cache.proofs.refused_take as refused-take
 
 module _ {M : Type 1} (𝓤 : URA M) (H : Heap 𝓤) (A : Atoms 𝓤) (W : Given 𝓤 H A) (at-mem : Memory → SProp 𝓤) (run : Routine → Fun 𝓤) where
-  -- the refusal of a time
-  abbrev pub Late : Contract 𝓤
-  Late = tripleOf 𝓤 H A late.signature (late.spec 𝓤 H A at-mem run)
+  -- the greatest numbers of no entries
+  abbrev pub NoMost : Contract 𝓤
+  NoMost = tripleOf 𝓤 H A no-most.signature (no-most.spec 𝓤 H A at-mem run)
 
-  module _ (time : ℕ) where
-    abbrev pub to-late : Late .Ghost
-    to-late = ((tt, tt, tt, (time, tt), (vint w64 time ∷ [], tt)), tt)
+  abbrev pub to-no-most : NoMost .Ghost
+  to-no-most = ((tt, tt, tt, tt, tt), tt)
 
-    pub goes-late : time < 2 ^ 64 → ent 𝓤 (emp 𝓤) (Late .pre to-late)
-    goes-late gtime = qed W [] ∵ nothing ! $ nothing ! $ owned ! u64 (Is u64) (uint-makes 𝓤 H A W w64) time _ (refl, gtime) $ fjoin ! $ nothing ! $ join ! $ done !
+  pub goes-no-most : ent 𝓤 (emp 𝓤) (NoMost .pre to-no-most)
+  goes-no-most = qed W [] ∵ nothing ! $ nothing ! $ join ! $ nothing ! $ move ! (1 ∷ 0 ∷ []) $ done !
 
-    pub gives-late : (w : Val) → ent 𝓤 (Late .post to-late w) (H .⇛ (guard 𝓤 (w ≡ vint w8 (lateness time)) (emp 𝓤)))
-    gives-late w =
-        qed W (raw (Late .post to-late w) ∷ []) ∵ updating ! $
-        use1 W (later (some (λ (y : ℕ). (‵ ftrue ⊛ ‵ (u8 .own y (w ∷ []))) ⊛ raw (ensured 𝓤 H A late.ended (late.clauses 𝓤 H A at-mem run) tt (time, tt) tt y)))) (id⊢ 𝓤 _) $ await ! tt $ pick ! (λ y.
-        split ! $ move ! (1 ∷ []) $ use1 W (raw (fact 𝓤 (y ≡ lateness time))) (exE 𝓤 _ (λ ws. snd∗ 𝓤 (sem 𝓤 H A (lasts late.ended tt (time, tt) ws)) (fact 𝓤 (y ≡ lateness time)))) $ heard ! (y ≡ lateness time) (λ same.
-        split ! $ drop ! $ peeks ! u8 (Is u8) (shows 𝓤 H A u8) y (w ∷ []) (λ is. at-once ! $ check ! (ap only (is .0) ∙ ap (vint w8) same) $ drop ! $ done !)))
+  pub gives-no-most : (w : Val) → ent 𝓤 (NoMost .post to-no-most w) (H .⇛ (guard 𝓤 (Is MO.the-row noMost (w ∷ [])) (emp 𝓤)))
+  gives-no-most w =
+      qed W (raw (NoMost .post to-no-most w) ∷ []) ∵ updating ! $
+      use1 W (later (some (λ (y : Most). (‵ ftrue ⊛ ‵ (MO.the-row .own y (w ∷ []))) ⊛ raw (ensured 𝓤 H A no-most.ended (no-most.clauses 𝓤 H A at-mem run) tt tt tt y)))) (id⊢ 𝓤 _) $ await ! tt $ pick ! (λ y.
+      split ! $ move ! (1 ∷ []) $ use1 W (raw (fact 𝓤 (y ≡ noMost))) (exE 𝓤 _ (λ ws. snd∗ 𝓤 (sem 𝓤 H A (lasts no-most.ended tt tt ws)) (fact 𝓤 (y ≡ noMost)))) $ heard ! (y ≡ noMost) (λ same.
+      split ! $ drop ! $ peeks ! MO.the-row (Is MO.the-row) (shows 𝓤 H A MO.the-row) y (w ∷ []) (λ is. at-once ! $ check ! (subst (λ (k : Most). Is MO.the-row k (w ∷ [])) same is) $ drop ! $ done !)))
 
-  -- the refusal after one entry more
-  abbrev pub AfterEntry : Contract 𝓤
-  AfterEntry = tripleOf 𝓤 H A after-entry.signature (after-entry.spec 𝓤 H A at-mem run)
+  -- and of one more
+  abbrev pub MostWith : Contract 𝓤
+  MostWith = tripleOf 𝓤 H A most-with.signature (most-with.spec 𝓤 H A at-mem run)
 
-  module _ (r : ℕ) (e : Entry) (time : ℕ) (ve : Val) where
-    abbrev pub to-after-entry : AfterEntry .Ghost
-    to-after-entry = ((tt, tt, tt, (r, (e, (time, tt))), (vint w8 r ∷ [], (ve ∷ [], (vint w64 time ∷ [], tt)))), tt)
+  module _ (m : Most) (vm : Val) (e : Entry) (ve : Val) where
+    abbrev pub to-most-with : MostWith .Ghost
+    to-most-with = ((tt, tt, tt, (m, (e, tt)), (vm ∷ [], (ve ∷ [], tt))), tt)
 
-    pub goes-after-entry : r < 2 ^ 8 → Is R e (ve ∷ []) → time < 2 ^ 64 → ent 𝓤 (emp 𝓤) (AfterEntry .pre to-after-entry)
-    goes-after-entry gr e-is gtime = qed W [] ∵ nothing ! $ nothing ! $ owned ! u64 (Is u64) (uint-makes 𝓤 H A W w64) time _ (refl, gtime) $ fjoin ! $ owned ! R (Is R) ((LL.makes T.the-type T′.the-plain) 𝓤 H A) e _ e-is $ fjoin ! $ owned ! u8 (Is u8) (uint-makes 𝓤 H A W w8) r _ (refl, gr) $ fjoin ! $ nothing ! $ join ! $ done !
+    pub goes-most-with : Is MO.the-row m (vm ∷ []) → Is R e (ve ∷ []) → ent 𝓤 (emp 𝓤) (MostWith .pre to-most-with)
+    goes-most-with m-is e-is = qed W [] ∵ nothing ! $ nothing ! $ owned ! R (Is R) ((LL.makes T.the-type T′.the-plain) 𝓤 H A) e _ e-is $ fjoin ! $ owned ! MO.the-row (Is MO.the-row) ((LL.makes MO.the-type MO′.the-plain) 𝓤 H A) m _ m-is $ fjoin ! $ nothing ! $ join ! $ done !
 
-    pub gives-after-entry : (w : Val) → ent 𝓤 (AfterEntry .post to-after-entry w) (H .⇛ (guard 𝓤 (w ≡ vint w8 (worse time r e)) (emp 𝓤)))
-    gives-after-entry w =
-        qed W (raw (AfterEntry .post to-after-entry w) ∷ []) ∵ updating ! $
-        use1 W (later (some (λ (y : ℕ). (‵ ftrue ⊛ ‵ (u8 .own y (w ∷ []))) ⊛ raw (ensured 𝓤 H A after-entry.ended (after-entry.clauses 𝓤 H A at-mem run) tt (r, (e, (time, tt))) tt y)))) (id⊢ 𝓤 _) $ await ! tt $ pick ! (λ y.
-        split ! $ move ! (1 ∷ []) $ use1 W (raw (fact 𝓤 (y ≡ worse time r e))) (exE 𝓤 _ (λ ws. snd∗ 𝓤 (sem 𝓤 H A (lasts after-entry.ended tt (r, (e, (time, tt))) ws)) (fact 𝓤 (y ≡ worse time r e)))) $ heard ! (y ≡ worse time r e) (λ same.
-        split ! $ drop ! $ peeks ! u8 (Is u8) (shows 𝓤 H A u8) y (w ∷ []) (λ is. at-once ! $ check ! (ap only (is .0) ∙ ap (vint w8) same) $ drop ! $ done !)))
+    pub gives-most-with : (w : Val) → ent 𝓤 (MostWith .post to-most-with w) (H .⇛ (guard 𝓤 (Is MO.the-row (mostWith m e) (w ∷ [])) (emp 𝓤)))
+    gives-most-with w =
+        qed W (raw (MostWith .post to-most-with w) ∷ []) ∵ updating ! $
+        use1 W (later (some (λ (y : Most). (‵ ftrue ⊛ ‵ (MO.the-row .own y (w ∷ []))) ⊛ raw (ensured 𝓤 H A most-with.ended (most-with.clauses 𝓤 H A at-mem run) tt (m, (e, tt)) tt y)))) (id⊢ 𝓤 _) $ await ! tt $ pick ! (λ y.
+        split ! $ move ! (1 ∷ []) $ use1 W (raw (fact 𝓤 (y ≡ mostWith m e))) (exE 𝓤 _ (λ ws. snd∗ 𝓤 (sem 𝓤 H A (lasts most-with.ended tt (m, (e, tt)) ws)) (fact 𝓤 (y ≡ mostWith m e)))) $ heard ! (y ≡ mostWith m e) (λ same.
+        split ! $ drop ! $ peeks ! MO.the-row (Is MO.the-row) (shows 𝓤 H A MO.the-row) y (w ∷ []) (λ is. at-once ! $ check ! (subst (λ (k : Most). Is MO.the-row k (w ∷ [])) same is) $ drop ! $ done !)))
 
   -- the refusal after all entries
   abbrev pub AtEnd : Contract 𝓤
   AtEnd = tripleOf 𝓤 H A at-end.signature (at-end.spec 𝓤 H A at-mem run)
 
-  module _ (r : ℕ) (n : ℕ) where
+  module _ (m : Most) (vm : Val) (n time : ℕ) where
     abbrev pub to-at-end : AtEnd .Ghost
-    to-at-end = ((tt, tt, tt, (r, (n, tt)), (vint w8 r ∷ [], (vint w64 n ∷ [], tt))), tt)
+    to-at-end = ((tt, tt, tt, (m, (n, (time, tt))), (vm ∷ [], (vint w64 n ∷ [], (vint w64 time ∷ [], tt)))), tt)
 
-    pub goes-at-end : r < 2 ^ 8 → n < 2 ^ 64 → ent 𝓤 (emp 𝓤) (AtEnd .pre to-at-end)
-    goes-at-end gr gn = qed W [] ∵ nothing ! $ nothing ! $ owned ! usize (Is usize) (uint-makes 𝓤 H A W w64) n _ (refl, gn) $ fjoin ! $ owned ! u8 (Is u8) (uint-makes 𝓤 H A W w8) r _ (refl, gr) $ fjoin ! $ nothing ! $ join ! $ done !
+    pub goes-at-end : Is MO.the-row m (vm ∷ []) → n < 2 ^ 64 → time < 2 ^ 64 → ent 𝓤 (emp 𝓤) (AtEnd .pre to-at-end)
+    goes-at-end m-is gn gt = qed W [] ∵ nothing ! $ nothing ! $ owned ! u64 (Is u64) (uint-makes 𝓤 H A W w64) time _ (refl, gt) $ fjoin ! $ owned ! usize (Is usize) (uint-makes 𝓤 H A W w64) n _ (refl, gn) $ fjoin ! $ owned ! MO.the-row (Is MO.the-row) ((LL.makes MO.the-type MO′.the-plain) 𝓤 H A) m _ m-is $ fjoin ! $ nothing ! $ join ! $ done !
 
-    pub gives-at-end : (w : Val) → ent 𝓤 (AtEnd .post to-at-end w) (H .⇛ (guard 𝓤 (w ≡ vint w8 (ended r n)) (emp 𝓤)))
+    pub gives-at-end : (w : Val) → ent 𝓤 (AtEnd .post to-at-end w) (H .⇛ (guard 𝓤 (w ≡ vint w8 (ended time m n)) (emp 𝓤)))
     gives-at-end w =
         qed W (raw (AtEnd .post to-at-end w) ∷ []) ∵ updating ! $
-        use1 W (later (some (λ (y : ℕ). (‵ ftrue ⊛ ‵ (u8 .own y (w ∷ []))) ⊛ raw (ensured 𝓤 H A at-end.ended (at-end.clauses 𝓤 H A at-mem run) tt (r, (n, tt)) tt y)))) (id⊢ 𝓤 _) $ await ! tt $ pick ! (λ y.
-        split ! $ move ! (1 ∷ []) $ use1 W (raw (fact 𝓤 (y ≡ ended r n))) (exE 𝓤 _ (λ ws. snd∗ 𝓤 (sem 𝓤 H A (lasts at-end.ended tt (r, (n, tt)) ws)) (fact 𝓤 (y ≡ ended r n)))) $ heard ! (y ≡ ended r n) (λ same.
+        use1 W (later (some (λ (y : ℕ). (‵ ftrue ⊛ ‵ (u8 .own y (w ∷ []))) ⊛ raw (ensured 𝓤 H A at-end.ended (at-end.clauses 𝓤 H A at-mem run) tt (m, (n, (time, tt))) tt y)))) (id⊢ 𝓤 _) $ await ! tt $ pick ! (λ y.
+        split ! $ move ! (1 ∷ []) $ use1 W (raw (fact 𝓤 (y ≡ ended time m n))) (exE 𝓤 _ (λ ws. snd∗ 𝓤 (sem 𝓤 H A (lasts at-end.ended tt (m, (n, (time, tt))) ws)) (fact 𝓤 (y ≡ ended time m n)))) $ heard ! (y ≡ ended time m n) (λ same.
         split ! $ drop ! $ peeks ! u8 (Is u8) (shows 𝓤 H A u8) y (w ∷ []) (λ is. at-once ! $ check ! (ap only (is .0) ∙ ap (vint w8) same) $ drop ! $ done !)))
 
   -- the answers in numbers

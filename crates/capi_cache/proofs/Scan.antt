@@ -1,12 +1,12 @@
--- The refusal of a table entry by entry: after i entries, and at the end. Assumes nothing.
-use mathlib.Core.Path.{_≡_, refl, sym, ap, subst, _∙_}
+-- The refusal of a table by the greatest numbers of its entries: after i entries, and at the end. Assumes nothing.
+use mathlib.Core.Path.{_≡_, refl, sym, ap, ap₂, subst, _∙_}
 use mathlib.Core.List.{List, [], _∷_}
 use mathlib.Core.Bool.{Bool, true, false, cond, not, _||_}
 use Prim.Native.Nat.{ℕ, _+_, _<_, _≤_, _^_}
 use native.Mathlib.Omega.{arith}
 use lib.ListN.{length, getD, drop, drop-of-length-le}
-use lib.Dec.{T, ltb, eqb}
-use borrow.Author.Tests.{lt-ltb, le-ltb, eq-eqb, ne-eqb}
+use lib.Dec.{T, ltb}
+use borrow.Author.Tests.{lt-ltb, le-ltb, ltb-true, ltb-false}
 use mir.Syntax.{w8, w64, tyInt, tyBool}
 use mir.Val.{Val, WT, vint, vbool, hasTy}
 use Rattle.cache.specs.entries.Entries.{blank, heardAhead, tooLong}
@@ -14,73 +14,58 @@ use Rattle.wire.specs.Lists.{some}
 use Rattle.cache.specs.entries.Cache.{isSize, badTime, badTable, entriesRefusal}
 use Rattle.cache.specs.declared.entries.Entry.{Entry}
 use Rattle.cache.proofs.entries.Searches.{at-slot}
-use Rattle.capi_cache.specs.Refusals.{lateness, combined, worse, ended}
+use Rattle.capi_cache.specs.Refusals.{greater, noMost, mostWith, ended}
+use Rattle.capi_cache.specs.declared.Most.{Most}
 
 -- ---- the covered steps
-pub is-late : (now : ℕ) → 2 ^ 62 < now → 1 ≡ lateness now
-unfolding lateness
-is-late now h = sym (simp (lt-ltb _ _ h))
+pub greater-is : (a b : ℕ) → a < b → b ≡ greater a b
+greater-is a b h = sym (simp (lt-ltb _ _ h))
 
-pub not-late : (now : ℕ) → now ≤ 2 ^ 62 → 0 ≡ lateness now
-unfolding lateness
-not-late now h = sym (simp (le-ltb _ _ h))
+pub greater-not : (a b : ℕ) → b ≤ a → a ≡ greater a b
+greater-not a b h = sym (simp (le-ltb _ _ h))
 
-module _ (now r : ℕ) (e : Entry) where
-  pub worse-one : r ≡ 1 → 1 ≡ worse now r e
-  unfolding worse
-  worse-one h = sym (simp (eq-eqb _ _ h))
+pub most-is : (m : Most) (e : Entry) (received rdata owner : ℕ) → received ≡ greater (m .received) (e .received) → rdata ≡ greater (m .rdata) (e .rdata) → owner ≡ greater (m .owner) (e .owner)
+    → _≡_ {A = Most} (record { received = received; rdata = rdata; owner = owner }) (mostWith m e)
+unfolding mostWith
+most-is m e received rdata owner a b c = λ i. record { received = a i; rdata = b i; owner = c i }
 
-  module _ (a : r ≡ 1 → ⊥) where
-    pub worse-ahead : heardAhead now e ≡ true → 1 ≡ worse now r e
-    unfolding worse
-    worse-ahead h = sym (simp (ne-eqb _ _ a, h))
-
-    module _ (h : heardAhead now e ≡ false) where
-      pub worse-eight : r ≡ 8 → 8 ≡ worse now r e
-      unfolding worse
-      worse-eight k = sym (simp (ne-eqb _ _ a, h, eq-eqb _ _ k))
-
-      pub worse-long : (r ≡ 8 → ⊥) → tooLong e ≡ true → 8 ≡ worse now r e
-      unfolding worse
-      worse-long k l = sym (simp (ne-eqb _ _ a, h, ne-eqb _ _ k, l))
-
-      pub worse-none : (r ≡ 8 → ⊥) → tooLong e ≡ false → 0 ≡ worse now r e
-      unfolding worse
-      worse-none k l = sym (simp (ne-eqb _ _ a, h, ne-eqb _ _ k, l))
-
-module _ (r n : ℕ) where
-  pub ended-one : r ≡ 1 → 1 ≡ ended r n
+module _ (now : ℕ) (m : Most) (n : ℕ) where
+  pub ended-late : 2 ^ 62 < now → 1 ≡ ended now m n
   unfolding ended
-  ended-one h = sym (simp (eq-eqb _ _ h))
+  ended-late h = sym (simp (lt-ltb _ _ h))
 
-  pub ended-eight : (r ≡ 1 → ⊥) → r ≡ 8 → 8 ≡ ended r n
-  unfolding ended
-  ended-eight a h = sym (simp (ne-eqb _ _ a, eq-eqb _ _ h))
+  module _ (a : now ≤ 2 ^ 62) where
+    pub ended-ahead : now < m .received → 1 ≡ ended now m n
+    unfolding ended
+    ended-ahead h = sym (simp (le-ltb _ _ a, lt-ltb _ _ h))
 
-  pub ended-size : (r ≡ 1 → ⊥) → (r ≡ 8 → ⊥) → isSize n ≡ false → 8 ≡ ended r n
-  unfolding ended
-  ended-size a b h = sym (simp (ne-eqb _ _ a, ne-eqb _ _ b, h))
+    module _ (b : m .received ≤ now) where
+      pub ended-size : isSize n ≡ false → 8 ≡ ended now m n
+      unfolding ended
+      ended-size h = sym (simp (le-ltb _ _ a, le-ltb _ _ b, h))
 
-  pub ended-none : (r ≡ 1 → ⊥) → (r ≡ 8 → ⊥) → isSize n ≡ true → 0 ≡ ended r n
-  unfolding ended
-  ended-none a b h = sym (simp (ne-eqb _ _ a, ne-eqb _ _ b, h))
+      module _ (h : isSize n ≡ true) where
+        pub ended-owner : 255 < m .owner → 8 ≡ ended now m n
+        unfolding ended
+        ended-owner k = sym (simp (le-ltb _ _ a, le-ltb _ _ b, h, lt-ltb _ _ k))
+
+        pub ended-rdata : m .owner ≤ 255 → 768 < m .rdata → 8 ≡ ended now m n
+        unfolding ended
+        ended-rdata k l = sym (simp (le-ltb _ _ a, le-ltb _ _ b, h, le-ltb _ _ k, lt-ltb _ _ l))
+
+        pub ended-none : m .owner ≤ 255 → m .rdata ≤ 768 → 0 ≡ ended now m n
+        unfolding ended
+        ended-none k l = sym (simp (le-ltb _ _ a, le-ltb _ _ b, h, le-ltb _ _ k, le-ltb _ _ l))
 
 -- ---- the whole scan
--- what is answered where the number so far is r and the entries es are left of n
-unfoldable pub restOf : ℕ → ℕ → ℕ → List Entry → ℕ
-restOf now n r [] = ended r n
-restOf now n r (e ∷ es) = restOf now n (worse now r e) es
+-- what is answered where m is of the entries so far and the entries es are left of n
+unfoldable pub restOf : ℕ → ℕ → Most → List Entry → ℕ
+restOf now n m [] = ended now m n
+restOf now n m (e ∷ es) = restOf now n (mostWith m e) es
 
 -- the number of two tests
 abbrev num : Bool → Bool → ℕ
 num a b = cond a 1 (cond b 8 0)
-
-num-more : (a b x y : Bool) → combined (num a b) x y ≡ num (a || x) (b || y)
-num-more true b x y = refl
-num-more false true true y = refl
-num-more false true false y = refl
-num-more false false true y = refl
-num-more false false false y = refl
 
 or-assoc : (a b c : Bool) → ((a || b) || c) ≡ (a || (b || c))
 or-assoc true b c = refl
@@ -90,59 +75,58 @@ or-false : (a : Bool) → (a || false) ≡ a
 or-false true = refl
 or-false false = refl
 
-or-swap : (a b : Bool) → (a || b) ≡ (b || a)
-or-swap true true = refl
-or-swap true false = refl
-or-swap false true = refl
-or-swap false false = refl
+-- two tests of each of two, and more
+or-four : (a b c d x : Bool) → (((a || b) || (c || d)) || x) ≡ ((a || c) || ((b || d) || x))
+or-four true b c d x = refl
+or-four false true true d x = refl
+or-four false true false d x = refl
+or-four false false true d x = refl
+or-four false false false d x = refl
 
-rest-is : (now n : ℕ) (a b : Bool) (es : List Entry) → restOf now n (num a b) es ≡ num (a || some (heardAhead now) es) ((b || some tooLong es) || not (isSize n))
-unfolding restOf worse ended some
-rest-is now n a b [] = num-more a b false (not (isSize n)) ∙ ap (λ (c : Bool). num (a || false) (c || not (isSize n))) (sym (or-false b))
-rest-is now n a b (e ∷ es) =
-    ap (λ (r : ℕ). restOf now n r es) (num-more a b (heardAhead now e) (tooLong e))
-    ∙ rest-is now n (a || heardAhead now e) (b || tooLong e) es
-    ∙ ap (λ (c : Bool). num c (((b || tooLong e) || some tooLong es) || not (isSize n))) (or-assoc a (heardAhead now e) (some (heardAhead now) es))
-    ∙ ap (λ (c : Bool). num (a || (heardAhead now e || some (heardAhead now) es)) (c || not (isSize n))) (or-assoc b (tooLong e) (some tooLong es))
+-- the greater of two is over a number where one of them is
+over-greater : (k a b : ℕ) → ltb k (greater a b) ≡ (ltb k a || ltb k b)
+over-greater k a b = go (ltb a b) refl (ltb k a) refl
+  where
+    go : (t : Bool) → ltb a b ≡ t → (u : Bool) → ltb k a ≡ u → ltb k (cond t b a) ≡ (u || ltb k b)
+    go true e true f = lt-ltb k b (omega (arith, ltb-true a b e, ltb-true k a f))
+    go true e false f = refl
+    go false e true f = f
+    go false e false f = f ∙ sym (le-ltb k b (omega (arith, ltb-false a b e, ltb-false k a f)))
 
-pub scan-start : (now : ℕ) (es : List Entry) → restOf now (length es) (lateness now) es ≡ entriesRefusal now es
-unfolding entriesRefusal lateness
+rest-is : (now n : ℕ) (m : Most) (es : List Entry)
+    → restOf now n m es ≡ num (ltb (2 ^ 62) now || (ltb now (m .received) || some (heardAhead now) es)) (not (isSize n) || ((ltb 255 (m .owner) || ltb 768 (m .rdata)) || some tooLong es))
+unfolding restOf mostWith ended some
+rest-is now n m [] =
+    ap₂ (λ (a b : Bool). num (ltb (2 ^ 62) now || a) (not (isSize n) || b)) (sym (or-false (ltb now (m .received)))) (sym (or-false (ltb 255 (m .owner) || ltb 768 (m .rdata))))
+rest-is now n m (e ∷ es) =
+    rest-is now n (mostWith m e) es
+    ∙ ap₂ (λ (a b : Bool). num (ltb (2 ^ 62) now || a) (not (isSize n) || b))
+    (ap (λ (a : Bool). a || some (heardAhead now) es) (over-greater now (m .received) (e .received)) ∙ or-assoc (ltb now (m .received)) (ltb now (e .received)) (some (heardAhead now) es))
+    (ap₂ (λ (a b : Bool). (a || b) || some tooLong es) (over-greater 255 (m .owner) (e .owner)) (over-greater 768 (m .rdata) (e .rdata))
+    ∙ or-four (ltb 255 (m .owner)) (ltb 255 (e .owner)) (ltb 768 (m .rdata)) (ltb 768 (e .rdata)) (some tooLong es))
+
+pub scan-start : (now : ℕ) (es : List Entry) → restOf now (length es) noMost es ≡ entriesRefusal now es
+unfolding entriesRefusal
 scan-start now es =
-    rest-is now (length es) (ltb (2 ^ 62) now) false es
-    ∙ ap (λ (c : Bool). num (ltb (2 ^ 62) now || some (heardAhead now) es) c) (or-swap (some tooLong es) (not (isSize (length es))))
+    rest-is now (length es) noMost es
+    ∙ ap (λ (a : Bool). num (ltb (2 ^ 62) now || (a || some (heardAhead now) es)) (not (isSize (length es)) || some tooLong es)) (le-ltb now 0 (omega arith))
 
-pub scan-on : (now n r : ℕ) (es : List Entry) (i : ℕ) → i < length es → restOf now n r (drop i es) ≡ restOf now n (worse now r (getD es i blank)) (drop (i + 1) es)
+pub scan-on : (now n : ℕ) (m : Most) (es : List Entry) (i : ℕ) → i < length es → restOf now n m (drop i es) ≡ restOf now n (mostWith m (getD es i blank)) (drop (i + 1) es)
 unfolding restOf
-scan-on now n r es i h = ap (restOf now n r) (at-slot es i h)
+scan-on now n m es i h = ap (restOf now n m) (at-slot es i h)
 
-pub scan-end : (now n r : ℕ) (es : List Entry) (i : ℕ) → length es ≤ i → restOf now n r (drop i es) ≡ ended r n
+pub scan-end : (now n : ℕ) (m : Most) (es : List Entry) (i : ℕ) → length es ≤ i → restOf now n m (drop i es) ≡ ended now m n
 unfolding restOf
-scan-end now n r es i h = ap (restOf now n r) (drop-of-length-le es h)
+scan-end now n m es i h = ap (restOf now n m) (drop-of-length-le es h)
 
--- the numbers fit a byte
-combined-fits : (r : ℕ) (a b : Bool) → combined r a b < 2 ^ 8
-combined-fits r a b = go (eqb r 1 || a) (eqb r 8 || b)
+pub ended-fits : (now : ℕ) (m : Most) (n : ℕ) → ended now m n < 2 ^ 8
+unfolding ended
+ended-fits now m n = go (ltb (2 ^ 62) now || ltb now (m .received)) (not (isSize n) || (ltb 255 (m .owner) || ltb 768 (m .rdata)))
   where
     go : (x y : Bool) → num x y < 2 ^ 8
     go true y = omega arith
     go false true = omega arith
     go false false = omega arith
-
-pub late-fits : (now : ℕ) → lateness now < 2 ^ 8
-unfolding lateness
-late-fits now = go (ltb (2 ^ 62) now)
-  where
-    go : (b : Bool) → cond b 1 0 < 2 ^ 8
-    go true = omega arith
-    go false = omega arith
-
-pub worse-fits : (now r : ℕ) (e : Entry) → worse now r e < 2 ^ 8
-unfolding worse
-worse-fits now r e = combined-fits r (heardAhead now e) (tooLong e)
-
-pub ended-fits : (r n : ℕ) → ended r n < 2 ^ 8
-unfolding ended
-ended-fits r n = combined-fits r false (not (isSize n))
 
 -- the number of a whole table fits a byte
 pub entries-fits : (now : ℕ) (es : List Entry) → entriesRefusal now es < 2 ^ 8

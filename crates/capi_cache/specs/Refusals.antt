@@ -1,23 +1,22 @@
--- The refusals 1 and 8 of a table, entry by entry: what is known after some entries, and at the end. Assumes nothing: these are definitions.
+-- The refusals 1 and 8 of a table, by the latest time of receipt and the greatest lengths of its entries. Assumes nothing: these are definitions.
 use Prim.Native.Nat.{ℕ, _^_}
-use mathlib.Core.Bool.{Bool, false, cond, not, _||_}
-use lib.Dec.{ltb, eqb}
-use Rattle.cache.specs.entries.Entries.{heardAhead, tooLong}
+use mathlib.Core.Bool.{cond, not, _||_}
+use lib.Dec.{ltb}
 use Rattle.cache.specs.entries.Cache.{isSize}
 use Rattle.cache.specs.declared.entries.Entry.{Entry}
+use Rattle.capi_cache.specs.declared.Most.{Most}
 
--- the number before the first entry: 1 where the time is above 2^62
-unfoldable pub lateness : ℕ → ℕ
-lateness now = cond (ltb (2 ^ 62) now) 1 0
+-- the greater of two numbers
+abbrev pub greater : ℕ → ℕ → ℕ
+greater a b = cond (ltb a b) b a
 
--- the number so far, after tests that give 1 and 8; 1 comes before 8
-abbrev pub combined : ℕ → Bool → Bool → ℕ
-combined number one eight = cond (eqb number 1 || one) 1 (cond (eqb number 8 || eight) 8 0)
+-- of no entries, and of one more
+abbrev pub noMost : Most
+noMost = record { received = 0; rdata = 0; owner = 0 }
 
--- the number after one entry more
-unfoldable pub worse : ℕ → ℕ → Entry → ℕ
-worse now number e = combined number (heardAhead now e) (tooLong e)
+unfoldable pub mostWith : Most → Entry → Most
+mostWith m e = record { received = greater (m .received) (e .received); rdata = greater (m .rdata) (e .rdata); owner = greater (m .owner) (e .owner) }
 
--- the number after all: a table of another size is refused as 8
-unfoldable pub ended : ℕ → ℕ → ℕ
-ended number n = combined number false (not (isSize n))
+-- the number after n entries: 1 comes before 8
+unfoldable pub ended : ℕ → Most → ℕ → ℕ
+ended now m n = cond (ltb (2 ^ 62) now || ltb now (m .received)) 1 (cond (not (isSize n) || (ltb 255 (m .owner) || ltb 768 (m .rdata))) 8 0)

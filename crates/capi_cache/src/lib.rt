@@ -13,7 +13,7 @@ ghost use Rattle.cache.specs.lookup.Answers.{lookedOf};
 ghost use Rattle.cache.specs.Answers.{takenOf};
 ghost use Rattle.cache.specs.records.Heard.{heardAt};
 ghost use Rattle.cache.specs.records.Taking.{flushedIn, chosenIn, entryHeard, changed, changedIn, keptIn, counting};
-ghost use Rattle.capi_cache.specs.Refusals.{lateness, worse, ended};
+ghost use Rattle.capi_cache.specs.Refusals.{greater, noMost, mostWith, ended};
 ghost use Rattle.capi_cache.specs.Numbers.{refusedLook, foundLook, nothingLook, refusedTake, countedTake, takenNumbers, lookedNumbers};
 ghost use Rattle.capi_cache.specs.Cursors.{Fits, Filling, Keeping, Taking, stillAt, beginOf, isMore, nextAt, sectionPast, pastOf, recordsFrom, cacheAt};
 use cache::entries::Entry;
@@ -88,46 +88,75 @@ fn put_entry(table: &mut [Entry], i: usize, e: Entry)
     table[i] = e;
 }
 
-// The refusal of a time, before any entry is looked at: 1 above 2^62, or 0.
-fn late(time: u64) -> u8
-    ensures { λ r. ⌜ r ≡ lateness time ⌝ }
+// The latest time of receipt and the greatest lengths of some entries. No entry is tested by a branch of its own.
+struct Most {
+    received: u64,
+    rdata: u32,
+    owner: u32,
+}
+
+// Of no entries.
+fn no_most() -> Most
+    ensures { λ r. ⌜ r ≡ noMost ⌝ }
+{
+    Most {
+        received: 0,
+        rdata: 0,
+        owner: 0,
+    }
+}
+
+// The later of two times.
+fn later(a: u64, b: u64) -> u64
+    ensures { λ r. ⌜ r ≡ greater a b ⌝ }
+{
+    if a < b {
+        return b;
+    }
+    a
+}
+
+// The greater of two lengths.
+fn longer(a: u32, b: u32) -> u32
+    ensures { λ r. ⌜ r ≡ greater a b ⌝ }
+{
+    if a < b {
+        return b;
+    }
+    a
+}
+
+// Of one entry more.
+fn most_with(m: Most, e: Entry) -> Most
+    ensures { λ r. ⌜ r ≡ mostWith m e ⌝ }
+{
+    let received = later(m.received, e.received);
+    let rdata = longer(m.rdata, e.rdata);
+    let owner = longer(m.owner, e.owner as u32);
+    Most {
+        received,
+        rdata,
+        owner,
+    }
+}
+
+// The refusal after all entries: 1 of a time above 2^62 or before one of receipt; 8 of a table of another size than 1 to 512 or of a length over a slot's.
+fn at_end(m: Most, n: usize, time: u64) -> u8
+    ensures { λ r. ⌜ r ≡ ended time m n ⌝ }
 {
     if cache::lookup::LATEST < time {
         return wire::refusals::TIME;
     }
-    0
-}
-
-// The refusal so far, after one entry more.
-fn after_entry(refusal: u8, e: Entry, time: u64) -> u8
-    ensures { λ r. ⌜ r ≡ worse time refusal e ⌝ }
-{
-    if refusal == wire::refusals::TIME {
+    if time < m.received {
         return wire::refusals::TIME;
-    }
-    if cache::entries::is_ahead(e, time) {
-        return wire::refusals::TIME;
-    }
-    if refusal == wire::refusals::TABLE {
-        return wire::refusals::TABLE;
-    }
-    if cache::entries::is_too_long(e) {
-        return wire::refusals::TABLE;
-    }
-    0
-}
-
-// The refusal after all entries: a table of another size than 1 to 512 is refused as 8.
-fn at_end(refusal: u8, n: usize) -> u8
-    ensures { λ r. ⌜ r ≡ ended refusal n ⌝ }
-{
-    if refusal == wire::refusals::TIME {
-        return wire::refusals::TIME;
-    }
-    if refusal == wire::refusals::TABLE {
-        return wire::refusals::TABLE;
     }
     if !cache::lookup::is_size(n) {
+        return wire::refusals::TABLE;
+    }
+    if (cache::entries::MOST_OWNER as u32) < m.owner {
+        return wire::refusals::TABLE;
+    }
+    if cache::entries::MOST_RDATA < m.rdata {
         return wire::refusals::TABLE;
     }
     0
@@ -138,13 +167,13 @@ pub fn table_refusal(table: &[Entry], time: u64) -> u8
     ensures { λ r. ⌜ r ≡ entriesRefusal time (now (table .entry)) ⌝ }
 {
     let n = entry_count(table);
-    let mut refusal = late(time);
+    let mut most = no_most();
     let mut i = 0;
     while i < n {
-        refusal = after_entry(refusal, entry_at(table, i), time);
+        most = most_with(most, entry_at(table, i));
         i += 1;
     }
-    at_end(refusal, n)
+    at_end(most, n, time)
 }
 
 // The answers in numbers.
