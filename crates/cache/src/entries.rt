@@ -61,10 +61,13 @@ pub fn is_of(e: Entry, i: usize, store: &[u8], name: &[u8], rtype: u16) -> bool
     wire::case_folding::same_name(wire::rdata::part(slot_of(store, i), 0, len), name)
 }
 
-// Whether the entry in slot i is a live one of a name and a type.
+// Whether the entry in slot i is a live one of a name and a type. The type, in which most entries differ, is compared first.
 pub fn is_live_of(e: Entry, i: usize, store: &[u8], time: u64, name: &[u8], rtype: u16) -> bool
     ensures { λ r. ⌜ r ≡ liveOf time (now (store .entry)) (now (name .entry)) rtype i e ⌝ }
 {
+    if e.rtype != rtype {
+        return false;
+    }
     if !is_live(e, time) {
         return false;
     }

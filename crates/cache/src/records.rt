@@ -1,18 +1,15 @@
-// One record of a message as it lies, against one entry by value (specification, 'The cache'): its owner and rdata are compared with the packet in place.
-// What the rules do to the entries follows from what was seen of them.
+// One record of a message against one entry by value (specification, 'The cache'). Its owner and rdata, names expanded, lie in the slot that it would fill, and
+// are compared as bytes. What the rules do to the entries follows from what was found of them.
 ghost use mathlib.Core.Path.{_≡_};
-ghost use mathlib.Core.Bool.{false};
 ghost use lib.ListN.{length, take};
-ghost use Rattle.wire.specs.names.Answers.{nameIs};
+ghost use Rattle.wire.specs.case_folding.Fold.{sameName};
 ghost use Rattle.wire.specs.rdata.Rdata.{rdataAt};
 ghost use Rattle.wire.specs.rdata.Answers.{dataOf};
-ghost use Rattle.wire.specs.expansion.Equal.{rdataIs};
 ghost use Rattle.cache.specs.entries.Entries.{slotOf};
 ghost use Rattle.cache.specs.entries.Cache.{cachedAs};
 ghost use Rattle.cache.specs.records.Heard.{heardAt, isTaken, isFlushing, isSought, isAlike, liveHeard, holdsHeard, flushedHeard};
-ghost use Rattle.cache.specs.records.Heard.{Named, firstSlot, nothingSeen, freeNext, seenNext, chosenOf};
+ghost use Rattle.cache.specs.records.Heard.{Named, firstSlot, isFilling, chosenOf};
 use crate::entries::Entry;
-use crate::entries::Slot;
 
 // A record of a message as it lies; whether it is whole, how many bytes its rdata has, names expanded, and whether it holds a name, which of an NSEC says
 // that it is of the restricted kind.
@@ -21,12 +18,6 @@ pub struct Heard {
     pub at: wire::message::RecordAt,
     pub len: usize,
     pub named: bool,
-}
-
-// What was seen of a table's entries: the lowest live equal entry, and, as long as there is none, the lowest entry not live.
-pub struct Seen {
-    pub equal: Slot,
-    pub free: Slot,
 }
 
 // What becomes of a record: a kind of change, and the slot that it changes.
@@ -166,78 +157,63 @@ pub fn is_sought(h: Heard) -> bool
     is_taken(h)
 }
 
-// Whether the owner in slot i, of so many bytes, is the name at an offset of a packet. It takes numbers and no record, so that a loop over a table copies no
-// record for each entry.
-pub fn is_owner(store: &[u8], i: usize, len: usize, p: &[u8], at: usize) -> bool
-    ensures { λ r. ⌜ r ≡ nameIs (now (p .entry)) at (take len (slotOf (now (store .entry)) i)) ⌝ }
+// Whether the owner in slot i, of `len` bytes, is that of a record, the first `span` bytes of the slot that it would fill. It takes numbers and no record, so
+// that a loop over a table copies no record for each entry.
+pub fn is_owner(store: &[u8], i: usize, len: usize, slot: &[u8], span: usize) -> bool
+    ensures { λ r. ⌜ r ≡ sameName (take len (slotOf (now (store .entry)) i)) (take span (now (slot .entry))) ⌝ }
 {
-    wire::names::name_is(
-        p,
-        at,
-        wire::rdata::part(crate::entries::slot_of(store, i), 0, len),
-    )
+    let held = wire::rdata::part(crate::entries::slot_of(store, i), 0, len);
+    wire::case_folding::same_name(held, wire::rdata::part(slot, 0, span))
 }
 
-// Whether an entry is live and agrees with a record in its type and in the length of its owner: before any byte is looked at.
+// Whether an entry agrees with a record in its type and in the length of its owner, and is live: before any byte is looked at.
 fn is_alike(e: Entry, time: u64, h: Heard) -> bool
     ensures { λ r. ⌜ r ≡ isAlike time h e ⌝ }
 {
     let f = h.at;
-    if !crate::entries::is_live(e, time) {
-        return false;
-    }
     if e.rtype != f.rtype {
         return false;
     }
-    e.owner as usize == f.span.len
+    if e.owner as usize != f.span.len {
+        return false;
+    }
+    crate::entries::is_live(e, time)
 }
 
 // Whether the entry in slot i is a live one of a record's name and type.
-pub fn is_live_heard(e: Entry, i: usize, store: &[u8], time: u64, p: &[u8], h: Heard) -> bool
-    ensures { λ r. ⌜ r ≡ liveHeard time (now (store .entry)) (now (p .entry)) h i e ⌝ }
+pub fn is_live_heard(e: Entry, i: usize, store: &[u8], time: u64, slot: &[u8], h: Heard) -> bool
+    ensures { λ r. ⌜ r ≡ liveHeard time (now (store .entry)) (now (slot .entry)) h i e ⌝ }
 {
     let f = h.at;
     if !is_alike(e, time, h) {
         return false;
     }
-    is_owner(store, i, e.owner as usize, p, f.owner)
+    is_owner(store, i, e.owner as usize, slot, f.span.len)
 }
 
-// Whether expanded bytes may be the rdata of a record: of a PTR record only where they are its name but for case. It is compared in place, nothing is expanded.
-fn may_be_rdata(p: &[u8], f: wire::message::RecordAt, other: &[u8]) -> bool
-    ensures { λ r. ⌜ (r ≡ false → rdataIs (rdataAt (now (p .entry)) f) (now (other .entry)) ≡ false) ⌝ }
-{
-    if f.rtype != wire::rdata::PTR {
-        return true;
-    }
-    wire::names::name_is(p, f.rdata, other)
-}
-
-// Whether the entry in slot i is live and holds a record.
-pub fn is_equal(e: Entry, i: usize, store: &[u8], time: u64, p: &[u8], h: Heard) -> bool
-    ensures { λ r. ⌜ r ≡ holdsHeard time (now (store .entry)) (now (p .entry)) h i e ⌝ }
+// Whether the entry in slot i is live and holds a record. Rdata, in which records of a name and a type differ, is compared before the owner.
+pub fn is_equal(e: Entry, i: usize, store: &[u8], time: u64, slot: &[u8], h: Heard) -> bool
+    ensures { λ r. ⌜ r ≡ holdsHeard time (now (store .entry)) (now (slot .entry)) h i e ⌝ }
 {
     let f = h.at;
+    if !is_alike(e, time, h) {
+        return false;
+    }
     let len = e.rdata as usize;
     if len != h.len {
         return false;
     }
-    if !is_alike(e, time, h) {
-        return false;
-    }
     let held = wire::rdata::part(crate::entries::slot_of(store, i), 256, len);
-    if !may_be_rdata(p, f, held) {
+    let heard = wire::rdata::part(slot, 256, h.len);
+    if !wire::expansion::same_bytes(held, heard) {
         return false;
     }
-    if !is_owner(store, i, e.owner as usize, p, f.owner) {
-        return false;
-    }
-    wire::expansion::rdata_is(p, f, held)
+    is_owner(store, i, e.owner as usize, slot, f.span.len)
 }
 
 // Rule 1 on the entry in slot i.
-pub fn flush_heard(e: Entry, i: usize, store: &[u8], time: u64, p: &[u8], h: Heard) -> Entry
-    ensures { λ r. ⌜ r ≡ flushedHeard time (now (store .entry)) (now (p .entry)) h i e ⌝ }
+pub fn flush_heard(e: Entry, i: usize, store: &[u8], time: u64, slot: &[u8], h: Heard) -> Entry
+    ensures { λ r. ⌜ r ≡ flushedHeard time (now (store .entry)) (now (slot .entry)) h i e ⌝ }
 {
     if time <= e.received {
         return e;
@@ -245,7 +221,7 @@ pub fn flush_heard(e: Entry, i: usize, store: &[u8], time: u64, p: &[u8], h: Hea
     if time - e.received <= 1000 {
         return e;
     }
-    if !is_live_heard(e, i, store, time, p, h) {
+    if !is_live_heard(e, i, store, time, slot, h) {
         return e;
     }
     if !is_flushing(h) {
@@ -273,61 +249,23 @@ pub fn seek_from(h: Heard, n: usize) -> usize
     n
 }
 
-// What is seen before the first entry.
-pub fn nothing_seen() -> Seen
-    ensures { λ r. ⌜ r ≡ nothingSeen ⌝ }
+// Where the search for an entry that is not live begins, after that for an equal one gave `equal`: only where there is none and the TTL is not 0.
+pub fn fill_from(h: Heard, n: usize, equal: usize) -> usize
+    ensures { λ r. ⌜ r ≡ firstSlot (isFilling h n equal) n ⌝ }
 {
-    Seen {
-        equal: Slot::Nowhere,
-        free: Slot::Nowhere,
+    let f = h.at;
+    if equal < n {
+        return n;
     }
+    if f.ttl == 0 {
+        return n;
+    }
+    seek_from(h, n)
 }
 
-// The lowest entry not live, after the one in slot i.
-fn free_after(free: Slot, e: Entry, i: usize, time: u64) -> Slot
-    ensures { λ r. ⌜ r ≡ freeNext time i free e ⌝ }
-{
-    match free {
-        Slot::At(k) => Slot::At(k),
-        Slot::Nowhere => {
-            if crate::entries::is_live(e, time) {
-                return Slot::Nowhere;
-            }
-            Slot::At(i)
-        }
-    }
-}
-
-// What is seen after the entry in slot i.
-pub fn visit(seen: Seen, e: Entry, i: usize, store: &[u8], time: u64, p: &[u8], h: Heard) -> Seen
-    ensures { λ r. ⌜ r ≡ seenNext time (now (store .entry)) (now (p .entry)) h i seen e ⌝ }
-{
-    let equal = seen.equal;
-    let free = seen.free;
-    match equal {
-        Slot::At(k) => Seen {
-            equal: Slot::At(k),
-            free,
-        },
-        Slot::Nowhere => {
-            let next = free_after(free, e, i, time);
-            if is_equal(e, i, store, time, p, h) {
-                return Seen {
-                    equal: Slot::At(i),
-                    free: next,
-                };
-            }
-            Seen {
-                equal: Slot::Nowhere,
-                free: next,
-            }
-        }
-    }
-}
-
-// What becomes of a record, after what was seen.
-pub fn chosen(h: Heard, seen: Seen) -> Choice
-    ensures { λ r. ⌜ r ≡ chosenOf h seen ⌝ }
+// What becomes of a record, after the two searches in a table of n entries: a slot of n or more is none.
+pub fn chosen(h: Heard, n: usize, equal: usize, free: usize) -> Choice
+    ensures { λ r. ⌜ r ≡ chosenOf h n equal free ⌝ }
 {
     if !is_taken(h) {
         return Choice {
@@ -342,38 +280,32 @@ pub fn chosen(h: Heard, seen: Seen) -> Choice
         };
     }
     let f = h.at;
-    let equal = seen.equal;
-    let free = seen.free;
-    match equal {
-        Slot::At(i) => {
-            if f.ttl == 0 {
-                return Choice {
-                    kind: EXPIRE,
-                    slot: i,
-                };
-            }
-            Choice {
-                kind: REFRESH,
-                slot: i,
-            }
+    if equal < n {
+        if f.ttl == 0 {
+            return Choice {
+                kind: EXPIRE,
+                slot: equal,
+            };
         }
-        Slot::Nowhere => {
-            if f.ttl == 0 {
-                return Choice {
-                    kind: LEAVE,
-                    slot: 0,
-                };
-            }
-            match free {
-                Slot::At(i) => Choice {
-                    kind: FILL,
-                    slot: i,
-                },
-                Slot::Nowhere => Choice {
-                    kind: TURN_AWAY,
-                    slot: 0,
-                },
-            }
-        }
+        return Choice {
+            kind: REFRESH,
+            slot: equal,
+        };
+    }
+    if f.ttl == 0 {
+        return Choice {
+            kind: LEAVE,
+            slot: 0,
+        };
+    }
+    if free < n {
+        return Choice {
+            kind: FILL,
+            slot: free,
+        };
+    }
+    Choice {
+        kind: TURN_AWAY,
+        slot: 0,
     }
 }

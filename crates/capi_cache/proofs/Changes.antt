@@ -1,10 +1,10 @@
 -- What the covered steps of taking a record give, from what the code has tested. Assumes nothing.
 use mathlib.Core.Path.{_≡_, refl, sym, ap, _∙_}
 use mathlib.Core.List.{List, _++_}
-use mathlib.Core.Bool.{true, false}
+use mathlib.Core.Bool.{Bool, true, false, _&&_}
 use Prim.Native.Nat.{ℕ, _+_, _-_, _*_, _<_, _≤_}
 use native.Mathlib.Omega.{arith}
-use lib.ListN.{length, take, replicate, length-append}
+use lib.ListN.{length, take, drop, replicate, length-append}
 use lib.Seq.{sets, take-at}
 use lib.Dec.{ltb}
 use borrow.Author.Tests.{lt-ltb, le-ltb, lt-leb, le-leb, eq-eqb, ne-eqb}
@@ -29,14 +29,14 @@ use Rattle.wire.specs.declared.message.RecordRead.the-variants as r
 use Rattle.wire.specs.declared.message.Section.{Section}
 use Rattle.wire.proofs.message.Walk.{RecordMet, record-found}
 use Rattle.cache.specs.entries.Entries.{soon, refreshed}
-use Rattle.cache.specs.entries.Cache.{isStoreOf, slotWith}
+use Rattle.cache.specs.entries.Cache.{cachedAs, isStoreOf}
 use Rattle.cache.specs.declared.entries.Entry.{Entry}
 use Rattle.cache.specs.declared.records.Heard.{Heard}
 use Rattle.cache.specs.declared.records.Choice.{Choice}
-use Rattle.cache.specs.records.Heard.{heardAt}
-use Rattle.cache.specs.records.Taking.{entryHeard, changed, keptIn, counting}
+use Rattle.cache.specs.records.Heard.{heardAt, isTaken}
+use Rattle.cache.specs.records.Taking.{slotHeard, entryHeard, changed, keptIn, counting}
 use Rattle.capi_cache.specs.declared.Cursor.{Cursor}
-use Rattle.capi_cache.specs.Cursors.{stillAt, beforeRead, beginOf, isMore, nextAt, sectionPast, pastOf}
+use Rattle.capi_cache.specs.Cursors.{Lies, stillAt, beforeRead, beginOf, isMore, nextAt, sectionPast, pastOf}
 
 -- ---- one entry
 module _ (now : ℕ) (h : Heard) (c : Choice) (e : Entry) where
@@ -168,14 +168,45 @@ module _ (p : List ℕ) (f : RecordAt) (whole : wholeRead p (f .owner) ≡ r.Fou
       ap rdata s ∙ sym (view-is p f (ap fits (met .content)) o is) ∙ met .content in
       cc
 
-module _ (p : List ℕ) (h : Heard) (c : Choice) (store : List ℕ) where
-  pub not-kept : (c .kind ≡ 3 → ⊥) → store ≡ keptIn p h c store
+-- rdata that holds no name lies in the packet as it is shown; that which holds one is what was opened
+module _ (p : List ℕ) (h : Heard) (lies : Lies p h) where
+  pub lying-is : h .named ≡ false → (seen : List ℕ) → seen ≡ take (h .at .rdlength) (drop (h .at .rdata) p) → seen ≡ recordShown p (h .at) .rdata
+  lying-is n seen s =
+      let o : Opened = openedAt p (h .at) in
+      content-is p (h .at) (lies .0) o refl seen (s ∙ sym (simp (sym (lies .1) ∙ n)))
+
+  pub opened-is : h .named ≡ true → (o : Opened) → o ≡ openedAt p (h .at) → (seen : List ℕ) → seen ≡ take (o .len) (o .bytes) → seen ≡ recordShown p (h .at) .rdata
+  opened-is n o is seen s = content-is p (h .at) (lies .0) o is seen (s ∙ sym (simp (sym (lies .1) ∙ n)))
+
+-- the slot of a record, from what the code has laid over it
+module _ (p : List ℕ) (h : Heard) where
+  pub taken-whole : isTaken h ≡ true → h .whole ≡ true
+  unfolding isTaken
+  taken-whole t = go (h .whole) refl (cachedAs (h .at .class) (h .at .rtype) (h .named)) t
+    where
+      go : (w : Bool) → h .whole ≡ w → (b : Bool) → (w && b) ≡ true → h .whole ≡ true
+      go true e b k = e
+      go false e b k = let z : _≡_ {A = ℕ} 0 1 = cc in absurd (omega arith)
+
+  pub slot-none : isTaken h ≡ false → replicate 1024 0 ≡ slotHeard p h
+  unfolding slotHeard
+  slot-none n = sym (simp n)
+
+  pub slot-owner : isTaken h ≡ true → 768 < h .len → (owner : List ℕ) → owner ≡ recordShown p (h .at) .owner → (last : List ℕ) → last ≡ sets (replicate 1024 0) 0 owner → last ≡ slotHeard p h
+  unfolding slotHeard
+  slot-owner t l owner o last is = is ∙ ap (sets (replicate 1024 0) 0) o ∙ sym (simp (t, lt-ltb _ _ l))
+
+  pub slot-both : isTaken h ≡ true → h .len ≤ 768 → (owner : List ℕ) → owner ≡ recordShown p (h .at) .owner → (mid last : List ℕ) → mid ≡ sets (replicate 1024 0) 0 owner
+      → last ≡ sets mid 256 (recordShown p (h .at) .rdata) → last ≡ slotHeard p h
+  unfolding slotHeard
+  slot-both t l owner o mid last m is =
+      is ∙ ap (λ (k : List ℕ). sets k 256 (recordShown p (h .at) .rdata)) (m ∙ ap (sets (replicate 1024 0) 0) o) ∙ sym (simp (t, le-ltb _ _ l))
+
+module _ (slot : List ℕ) (c : Choice) (store : List ℕ) where
+  pub not-kept : (c .kind ≡ 3 → ⊥) → store ≡ keptIn slot c store
   unfolding keptIn
   not-kept k = sym (simp (ne-eqb _ _ k))
 
-  pub kept : c .kind ≡ 3 → (owner content : List ℕ) → owner ≡ recordShown p (h .at) .owner → content ≡ recordShown p (h .at) .rdata
-      → (last : List ℕ) → last ≡ sets store (1024 * c .slot) (slotWith owner content) → last ≡ keptIn p h c store
+  pub kept : c .kind ≡ 3 → (last : List ℕ) → last ≡ sets store (1024 * c .slot) slot → last ≡ keptIn slot c store
   unfolding keptIn
-  kept k owner content o d last is =
-      is ∙ ap (λ (l : List ℕ). sets store (1024 * c .slot) (slotWith l content)) o ∙ ap (λ (l : List ℕ). sets store (1024 * c .slot) (slotWith (recordShown p (h .at) .owner) l)) d
-      ∙ sym (simp (eq-eqb _ _ k))
+  kept k last is = is ∙ sym (simp (eq-eqb _ _ k))

@@ -1,18 +1,18 @@
 -- Rule 1 on a table in place, of which the first i entries are done; and where the loops begin and end. Assumes nothing.
 use mathlib.Core.Path.{_≡_, refl, sym, ap, _∙_}
-use mathlib.Core.Bool.{Bool, true, false}
+use mathlib.Core.Bool.{Bool, true, false, not}
 use mathlib.Core.List.{List, [], _∷_}
 use Prim.Native.Nat.{ℕ, zero, suc, _+_, _<_, _≤_}
 use native.Mathlib.Nat.{le-of-suc-le-suc, not-suc-le-zero, zero-add, suc-add, add-suc, add-zero}
 use native.Mathlib.Numerals.{add-one}
 use native.Mathlib.Omega.{arith}
 use lib.ListN.{length, getD, set, drop}
-use Rattle.cache.specs.entries.Entries.{blank}
-use Rattle.cache.specs.entries.Tables.{each}
+use Rattle.cache.specs.entries.Entries.{blank, isLive, isFree}
+use Rattle.cache.specs.entries.Tables.{slotFrom, each}
 use Rattle.cache.specs.declared.entries.Entry.{Entry}
 use Rattle.cache.specs.declared.records.Heard.{Heard}
-use Rattle.cache.specs.records.Heard.{isFlushing, isSought, flushedHeard, firstSlot, nothingSeen, seenFrom, chosenOf}
-use Rattle.cache.specs.records.Taking.{flushedIn, chosenFrom, chosenIn}
+use Rattle.cache.specs.records.Heard.{isFlushing, isSought, holdsHeard, flushedHeard, firstSlot, isFilling, chosenOf}
+use Rattle.cache.specs.records.Taking.{flushedIn, equalIn, freeFrom, chosenIn}
 use Rattle.cache.proofs.records.Rules.{flushed-length, flushes-none}
 use Rattle.capi_cache.proofs.Mixed.{mixed, set-mixed, all-mixed}
 
@@ -33,33 +33,46 @@ at-each rule k i [] l = absurd (not-suc-le-zero l)
 at-each rule k zero (y ∷ ls) l = ap (λ (j : ℕ). rule j y) (sym (add-zero k))
 at-each rule k (suc i) (y ∷ ls) l = at-each rule (suc k) i ls (le-of-suc-le-suc l) ∙ ap (λ (j : ℕ). rule j (getD ls i blank)) (suc-add k i ∙ sym (add-suc k i))
 
-module _ (now : ℕ) (store p : List ℕ) (h : Heard) (es : List Entry) where
-  next-is : (i : ℕ) → i < length es → flushedHeard now store p h i (getD es i blank) ≡ getD (flushedIn now store p h es) i blank
+module _ (now : ℕ) (store slot : List ℕ) (h : Heard) (es : List Entry) where
+  next-is : (i : ℕ) → i < length es → flushedHeard now store slot h i (getD es i blank) ≡ getD (flushedIn now store slot h es) i blank
   unfolding flushedIn
-  next-is i l = sym (at-each (flushedHeard now store p h) 0 i es l ∙ ap (λ (j : ℕ). flushedHeard now store p h j (getD es i blank)) (zero-add i))
+  next-is i l = sym (at-each (flushedHeard now store slot h) 0 i es l ∙ ap (λ (j : ℕ). flushedHeard now store slot h j (getD es i blank)) (zero-add i))
 
   pub flush-on : (i : ℕ) → i < length es
-      → set (mixed i (flushedIn now store p h es) es) i (flushedHeard now store p h i (getD (mixed i (flushedIn now store p h es) es) i blank)) ≡ mixed (i + 1) (flushedIn now store p h es) es
+      → set (mixed i (flushedIn now store slot h es) es) i (flushedHeard now store slot h i (getD (mixed i (flushedIn now store slot h es) es) i blank)) ≡ mixed (i + 1) (flushedIn now store slot h es) es
   flush-on i l =
-      let k = flushed-length now store p h es in
-      ap (λ (e : Entry). set (mixed i (flushedIn now store p h es) es) i (flushedHeard now store p h i e)) (at-mixed i (flushedIn now store p h es) es l)
-      ∙ ap (set (mixed i (flushedIn now store p h es) es) i) (next-is i l)
-      ∙ set-mixed i (flushedIn now store p h es) es (omega (arith, l, k)) k
-      ∙ ap (λ (j : ℕ). mixed j (flushedIn now store p h es) es) (sym (add-one i))
+      let k = flushed-length now store slot h es in
+      ap (λ (e : Entry). set (mixed i (flushedIn now store slot h es) es) i (flushedHeard now store slot h i e)) (at-mixed i (flushedIn now store slot h es) es l)
+      ∙ ap (set (mixed i (flushedIn now store slot h es) es) i) (next-is i l)
+      ∙ set-mixed i (flushedIn now store slot h es) es (omega (arith, l, k)) k
+      ∙ ap (λ (j : ℕ). mixed j (flushedIn now store slot h es) es) (sym (add-one i))
 
-  pub flush-end : (i : ℕ) → i ≤ length es → length es ≤ i → mixed i (flushedIn now store p h es) es ≡ flushedIn now store p h es
+  pub flush-end : (i : ℕ) → i ≤ length es → length es ≤ i → mixed i (flushedIn now store slot h es) es ≡ flushedIn now store slot h es
   flush-end i a b =
-      let k = flushed-length now store p h es in
-      let last : i ≡ length (flushedIn now store p h es) = omega (arith, a, b, k) in
-      ap (λ (j : ℕ). mixed j (flushedIn now store p h es) es) last ∙ all-mixed (flushedIn now store p h es) es k
+      let k = flushed-length now store slot h es in
+      let last : i ≡ length (flushedIn now store slot h es) = omega (arith, a, b, k) in
+      ap (λ (j : ℕ). mixed j (flushedIn now store slot h es) es) last ∙ all-mixed (flushedIn now store slot h es) es k
 
-  pub flush-start : mixed (firstSlot (isFlushing h) (length es)) (flushedIn now store p h es) es ≡ es
+  pub flush-start : mixed (firstSlot (isFlushing h) (length es)) (flushedIn now store slot h es) es ≡ es
   flush-start = go (isFlushing h) refl
     where
-      go : (b : Bool) → isFlushing h ≡ b → mixed (firstSlot b (length es)) (flushedIn now store p h es) es ≡ es
+      go : (b : Bool) → isFlushing h ≡ b → mixed (firstSlot b (length es)) (flushedIn now store slot h es) es ≡ es
       go true e = refl
-      go false e = ap (λ (l : List Entry). mixed (length es) l es) (flushes-none now store p h es e) ∙ all-mixed es es refl
+      go false e = ap (λ (l : List Entry). mixed (length es) l es) (flushes-none now store slot h es e) ∙ all-mixed es es refl
 
-  pub chosen-is : chosenOf h (seenFrom now store p h (firstSlot (isSought h) (length es)) nothingSeen (drop (firstSlot (isSought h) (length es)) es)) ≡ chosenIn now store p h es
-  unfolding chosenIn chosenFrom
+  -- what the searches give, and what is chosen by them
+  pub equal-is : slotFrom (holdsHeard now store slot h) (firstSlot (isSought h) (length es)) (drop (firstSlot (isSought h) (length es)) es) ≡ equalIn now store slot h es
+  unfolding equalIn
+  equal-is = refl
+
+  pub chosen-is : chosenOf h (length es) (equalIn now store slot h es) (freeFrom now es (firstSlot (isFilling h (length es) (equalIn now store slot h es)) (length es))) ≡ chosenIn now store slot h es
+  unfolding chosenIn
   chosen-is = refl
+
+pub free-is : (now : ℕ) (es : List Entry) (from : ℕ) → slotFrom (isFree now) from (drop from es) ≡ freeFrom now es from
+unfolding freeFrom
+free-is now es from = refl
+
+pub free-test : (now i : ℕ) (e : Entry) → isFree now i e ≡ not (isLive now e)
+unfolding isFree
+free-test now i e = refl

@@ -5,6 +5,7 @@ mod CallsEntry
 mod Mixed
 pub mod Scan
 mod Plain
+mod Slots
 mod Looking
 mod CallsBytes
 mod CallsFound

@@ -22,11 +22,12 @@ use Rattle.cache.specs.declared.entries.Entry.{Entry}
 use Rattle.cache.specs.declared.records.Heard.{Heard}
 use Rattle.cache.specs.declared.records.Choice.{Choice}
 use Rattle.cache.specs.records.Heard.{heardOf, heardAt}
-use Rattle.cache.specs.records.Taking.{flushedIn, chosenIn, changed, changedIn, keptIn, counting, takeHeard}
+use Rattle.cache.specs.records.Taking.{slotHeard, flushedIn, chosenIn, changed, changedIn, keptIn, counting, takeHeard}
 use Rattle.cache.proofs.lookup.Refusing.{size-least}
 use Rattle.cache.proofs.records.Rules.{flushed-length, changed-length, kept-length, chosen-within, chosen-fills, left-alone, not-whole, as-shown}
 use Rattle.capi_cache.specs.declared.Cursor.{Cursor}
-use Rattle.capi_cache.specs.Cursors.{Fits, Filling, Keeping, isMore, nextAt, sectionPast, pastOf, recordsFrom, cacheAt}
+use Rattle.capi_cache.proofs.Changes.{taken-whole}
+use Rattle.capi_cache.specs.Cursors.{Fits, Filling, Lies, Keeping, isMore, nextAt, sectionPast, pastOf, recordsFrom, cacheAt}
 
 -- how many records are left at the most
 abbrev pub size : Cursor → ℕ
@@ -46,7 +47,7 @@ module _ (now : ℕ) (p : List ℕ) where
 
   -- one record of a section, before the rest
   one : (s : Section) (a : RecordRead) → a ≡ wholeRead p (s .at) → 0 < s .count → (rest : List Record) (d : Cache)
-      → takeRecords now (listOf s ++ rest) d ≡ takeRecords now (listOf (sectionPast (heardOf p a) s) ++ rest) (takeHeard now p (heardOf p a) d)
+      → takeRecords now (listOf s ++ rest) d ≡ takeRecords now (listOf (sectionPast (heardOf p a) s) ++ rest) (takeHeard now (slotHeard p (heardOf p a)) (heardOf p a) d)
   unfolding takeRecords
   one s (r.Found f) is lt rest d =
       let met : RecordMet p (s .at) f = record-found p (s .at) (r.Found f) is f refl in
@@ -56,7 +57,7 @@ module _ (now : ℕ) (p : List ℕ) where
   one s r.Malformed is lt rest d =
       ap (λ (l : List Record). takeRecords now (l ++ rest) d) (readable-broken (recordAt p) (s .count) (s .at) (record-broken p (s .at) r.Malformed is refl) ∙ sym (readable-none (recordAt p) 0 (s .at) (omega arith)))
       ∙ ap (λ (t : Section). takeRecords now (listOf t ++ rest) d) (sym (past-broken s))
-      ∙ ap (takeRecords now (listOf (sectionPast (heardOf p r.Malformed) s) ++ rest)) (sym (left-alone now p (heardOf p r.Malformed) d (not-whole (heardOf p r.Malformed) refl)))
+      ∙ ap (takeRecords now (listOf (sectionPast (heardOf p r.Malformed) s) ++ rest)) (sym (left-alone now (slotHeard p (heardOf p r.Malformed)) (heardOf p r.Malformed) d (not-whole (heardOf p r.Malformed) refl)))
 
   less : (s : Section) (a : RecordRead) → 0 < s .count → sectionPast (heardOf p a) s .count < s .count
   less s (r.Found f) lt = let k = ap (λ (t : Section). t .count) (past-found s f lt) in omega (arith, k, lt)
@@ -94,16 +95,16 @@ module _ (now : ℕ) (p : List ℕ) where
             let k = in-additionals le in
             omega (arith, less (c .additionals) a (additionals-left le), ap (λ (s : Section). s .count) (k .1 .0), ap (λ (s : Section). s .count) (k .1 .1))
 
-    past-records : (d : Cache) → takeRecords now (recordsFrom p c) d ≡ takeRecords now (recordsFrom p c′) (takeHeard now p h d)
+    past-records : (d : Cache) → takeRecords now (recordsFrom p c) d ≡ takeRecords now (recordsFrom p c′) (takeHeard now (slotHeard p h) h d)
     unfolding recordsFrom
     past-records d = go (ltb 0 (c .answers .count)) refl
       where
-        go : (b : Bool) → ltb 0 (c .answers .count) ≡ b → takeRecords now (listOf (c .answers) ++ listOf (c .additionals)) d ≡ takeRecords now (listOf (c′ .answers) ++ listOf (c′ .additionals)) (takeHeard now p h d)
+        go : (b : Bool) → ltb 0 (c .answers .count) ≡ b → takeRecords now (listOf (c .answers) ++ listOf (c .additionals)) d ≡ takeRecords now (listOf (c′ .answers) ++ listOf (c′ .additionals)) (takeHeard now (slotHeard p h) h d)
         go true e =
             let lt = ltb-true 0 (c .answers .count) e in
             let k = in-answers lt in
             one (c .answers) a (is ∙ ap (wholeRead p) (k .0)) lt (listOf (c .additionals)) d
-            ∙ ap₂ (λ (s t : Section). takeRecords now (listOf s ++ listOf t) (takeHeard now p h d)) (sym (k .1 .0)) (sym (k .1 .1))
+            ∙ ap₂ (λ (s t : Section). takeRecords now (listOf s ++ listOf t) (takeHeard now (slotHeard p h) h d)) (sym (k .1 .0)) (sym (k .1 .1))
         go false e =
             let le = ltb-false 0 (c .answers .count) e in
             let k = in-additionals le in
@@ -111,9 +112,9 @@ module _ (now : ℕ) (p : List ℕ) where
             ap (λ (l : List Record). takeRecords now (l ++ listOf (c .additionals)) d) none
             ∙ ap (λ (l : List Record). takeRecords now l d) (sym (append-nil (listOf (c .additionals))))
             ∙ one (c .additionals) a (is ∙ ap (wholeRead p) (k .0)) (additionals-left le) [] d
-            ∙ ap (λ (l : List Record). takeRecords now l (takeHeard now p h d)) (append-nil (listOf (sectionPast h (c .additionals))))
-            ∙ ap (λ (l : List Record). takeRecords now (l ++ listOf (sectionPast h (c .additionals))) (takeHeard now p h d)) (sym none)
-            ∙ ap₂ (λ (s t : Section). takeRecords now (listOf s ++ listOf t) (takeHeard now p h d)) (sym (k .1 .0)) (sym (k .1 .1))
+            ∙ ap (λ (l : List Record). takeRecords now l (takeHeard now (slotHeard p h) h d)) (append-nil (listOf (sectionPast h (c .additionals))))
+            ∙ ap (λ (l : List Record). takeRecords now (l ++ listOf (sectionPast h (c .additionals))) (takeHeard now (slotHeard p h) h d)) (sym none)
+            ∙ ap₂ (λ (s t : Section). takeRecords now (listOf s ++ listOf t) (takeHeard now (slotHeard p h) h d)) (sym (k .1 .0)) (sym (k .1 .1))
 
 -- what a loop over the records keeps: the records that are left still make of the cache what all do, the lengths stay, and there is room to count
 pub record Going (now : ℕ) (p : List ℕ) (all : Cache) (n m : ℕ) (c : Cursor) (zs : List Entry) (cs : List ℕ) : Type 0 where
@@ -136,11 +137,14 @@ module _ (now : ℕ) (p : List ℕ) (all : Cache) (n m : ℕ) (c : Cursor) (zs :
   abbrev h′ : Heard
   h′ = heardAt p (nextAt c)
 
+  abbrev slot′ : List ℕ
+  slot′ = slotHeard p h′
+
   abbrev es′ : List Entry
-  es′ = flushedIn now cs p h′ zs
+  es′ = flushedIn now cs slot′ h′ zs
 
   abbrev x′ : Choice
-  x′ = chosenIn now cs p h′ es′
+  x′ = chosenIn now cs slot′ h′ es′
 
   turned-is : pastOf c h′ x′ .turned ≡ counting 4 x′ (c .turned)
   unfolding pastOf
@@ -150,7 +154,7 @@ module _ (now : ℕ) (p : List ℕ) (all : Cache) (n m : ℕ) (c : Cursor) (zs :
   unfolding pastOf
   passed-is = refl
 
-  after-is : cacheAt (pastOf c h′ x′) (changedIn now h′ x′ es′) (keptIn p h′ x′ cs) ≡ takeHeard now p h′ (cacheAt c zs cs)
+  after-is : cacheAt (pastOf c h′ x′) (changedIn now h′ x′ es′) (keptIn slot′ x′ cs) ≡ takeHeard now slot′ h′ (cacheAt c zs cs)
   unfolding takeHeard pastOf
   after-is = refl
 
@@ -174,15 +178,15 @@ module _ (now : ℕ) (p : List ℕ) (all : Cache) (n m : ℕ) (c : Cursor) (zs :
     pub nearer : size (pastOf c h′ x′) < size c
     nearer = smaller
 
-    records-on : takeRecords now (recordsFrom p c) (cacheAt c zs cs) ≡ takeRecords now (recordsFrom p (pastOf c h′ x′)) (takeHeard now p h′ (cacheAt c zs cs))
+    records-on : takeRecords now (recordsFrom p c) (cacheAt c zs cs) ≡ takeRecords now (recordsFrom p (pastOf c h′ x′)) (takeHeard now slot′ h′ (cacheAt c zs cs))
     unfolding heardAt
     records-on = past-records now p c (wholeRead p (nextAt c)) refl more x′ (cacheAt c zs cs)
 
-    pub goes-on : Going now p all n m (pastOf c h′ x′) (changedIn now h′ x′ es′) (keptIn p h′ x′ cs)
+    pub goes-on : Going now p all n m (pastOf c h′ x′) (changedIn now h′ x′ es′) (keptIn slot′ x′ cs)
     goes-on = record {
       same = ap (takeRecords now (recordsFrom p (pastOf c h′ x′))) after-is ∙ sym records-on ∙ g .same;
-      entries = changed-length now h′ x′ es′ ∙ flushed-length now cs p h′ zs ∙ g .entries;
-      store = kept-length p h′ x′ cs ∙ g .store;
+      entries = changed-length now h′ x′ es′ ∙ flushed-length now cs slot′ h′ zs ∙ g .entries;
+      store = kept-length slot′ x′ cs ∙ g .store;
       away = omega (arith, turned-is, counts-one 4 x′ (c .turned), smaller, g .away);
       over = omega (arith, passed-is, counts-one 5 x′ (c .passed), smaller, g .over);
     }
@@ -201,29 +205,25 @@ heard-fits p at = go (wholeRead p at) refl
         omega (arith, at-most-255 p (f .owner) (recordShown p f .owner) (met .end) (met .owner), met .span)
     go r.Malformed is w = let z : _≡_ {A = ℕ} 0 1 = cc in absurd (omega arith)
 
-heard-whole : (p : List ℕ) (at : ℕ) → heardAt p at .whole ≡ true → (wholeRead p (heardAt p at .at .owner) ≡ r.Found (heardAt p at .at)) × (heardAt p at .len ≡ length (recordShown p (heardAt p at .at) .rdata))
+pub heard-lies : (p : List ℕ) (at : ℕ) → heardAt p at .whole ≡ true → Lies p (heardAt p at)
 unfolding heardAt
-heard-whole p at = go (wholeRead p at) refl
+heard-lies p at = go (wholeRead p at) refl
   where
-    go : (a : RecordRead) → a ≡ wholeRead p at → heardOf p a .whole ≡ true → (wholeRead p (heardOf p a .at .owner) ≡ r.Found (heardOf p a .at)) × (heardOf p a .len ≡ length (recordShown p (heardOf p a .at) .rdata))
+    go : (a : RecordRead) → a ≡ wholeRead p at → heardOf p a .whole ≡ true → Lies p (heardOf p a)
     go (r.Found f) is w =
         let met : RecordMet p at f = record-found p at (r.Found f) is f refl in
         (ap (wholeRead p) (met .place) ∙ sym is, refl)
     go r.Malformed is w = let z : _≡_ {A = ℕ} 0 1 = cc in absurd (omega arith)
 
-module _ (now : ℕ) (store p : List ℕ) (at : ℕ) (es : List Entry) (n : ℕ) (len : length es ≡ n) (size-is : isSize n ≡ true) (bytes : length store ≡ 1024 * n) where
+module _ (now : ℕ) (store slot : List ℕ) (h : Heard) (es : List Entry) (n : ℕ) (len : length es ≡ n) (size-is : isSize n ≡ true) (bytes : length store ≡ 1024 * n) where
   pub some-entry : 0 < length es
   some-entry = let k = size-least n size-is in omega (arith, k, len)
 
-  pub keeping : Keeping p (heardAt p at) (chosenIn now store p (heardAt p at) es) (length store)
-  keeping k =
-      let f = chosen-fills now store p (heardAt p at) es k in
-      let w = heard-whole p at (f .0) in
-      let s = chosen-within now store p (heardAt p at) es some-entry in
-      (w .0, (omega (arith, w .1, f .1), omega (arith, s, len, bytes)))
+  pub keeping : Keeping (chosenIn now store slot h es) (length store)
+  keeping k = let s = chosen-within now store slot h es some-entry in omega (arith, s, len, bytes)
 
-pub filling : (now : ℕ) (store p : List ℕ) (h : Heard) (es : List Entry) → Fits h → Filling h (chosenIn now store p h es)
-filling now store p h es fits k = let f = chosen-fills now store p h es k in (fits (f .0), f .1)
+pub filling : (now : ℕ) (store slot : List ℕ) (h : Heard) (es : List Entry) → Fits h → Filling h (chosenIn now store slot h es)
+filling now store slot h es fits k = let f = chosen-fills now store slot h es k in (fits (taken-whole slot h (f .0)), f .1)
 
 pub changed-is : (now : ℕ) (h : Heard) (c : Choice) (es : List Entry) → set es (c .slot) (changed now h c (getD es (c .slot) blank)) ≡ changedIn now h c es
 unfolding changedIn

@@ -147,3 +147,12 @@ typed8 m fits u same = subst (λ (x : Val). T (hasTy (tyInt w8) x) × WT x) (sym
 
 pub typedBool : (b : Bool) (u : Val) → u ≡ vbool b → T (hasTy tyBool u) × WT u
 typedBool b u same = subst (λ (x : Val). T (hasTy tyBool x) × WT x) (sym same) (tt, tt)
+
+-- what a test that was made says
+pub is-true : (t : Bool) → T t → t ≡ true
+is-true true h = refl
+is-true false h = absurd h
+
+pub is-false : (t : Bool) → T (not t) → t ≡ false
+is-false true h = absurd h
+is-false false h = refl

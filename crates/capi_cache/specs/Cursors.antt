@@ -8,7 +8,8 @@ use lib.ListN.{length}
 use lib.Dec.{ltb, eqb}
 use Rattle.wire.specs.message.Message.{Record, isResponse}
 use Rattle.wire.specs.message.Layout.{recordAt, readOf}
-use Rattle.wire.specs.message.Readable.{readable, wholeRead, recordShown}
+use Rattle.wire.specs.message.Readable.{readable, wholeRead}
+use Rattle.wire.specs.rdata.Rdata.{formAt}
 use Rattle.wire.specs.message.Refusals.{messageFrom}
 use Rattle.wire.specs.declared.message.Layout.{Layout}
 use Rattle.wire.specs.declared.message.Section.{Section}
@@ -22,16 +23,20 @@ use Rattle.cache.specs.declared.records.Choice.{Choice}
 use Rattle.cache.specs.records.Taking.{counting}
 use Rattle.capi_cache.specs.declared.Cursor.{Cursor}
 
--- a record's name fits the owner's bytes of a slot; a record that fills a slot fits it; and it lies so in the packet, and the store has the slot
+-- a record's name fits the owner's bytes of a slot; a record that fills a slot fits it
 abbrev pub Fits : Heard → Type 0
 Fits h = h .whole ≡ true → h .at .span .len ≤ 255
 
 abbrev pub Filling : Heard → Choice → Type 0
 Filling h c = c .kind ≡ 3 → (h .at .span .len ≤ 255) × (h .len ≤ 768)
 
-abbrev pub Keeping : List ℕ → Heard → Choice → ℕ → Type 0
-Keeping p h c bytes =
-    c .kind ≡ 3 → (wholeRead p (h .at .owner) ≡ Found (h .at)) × ((length (recordShown p (h .at) .rdata) ≤ 768) × (1024 * c .slot + 1024 ≤ bytes))
+-- a record lies so in the packet
+abbrev pub Lies : List ℕ → Heard → Type 0
+Lies p h = (wholeRead p (h .at .owner) ≡ Found (h .at)) × (h .named ≡ formAt p (h .at) .named)
+
+-- a store has the slot that is filled
+abbrev pub Keeping : Choice → ℕ → Type 0
+Keeping c bytes = c .kind ≡ 3 → 1024 * c .slot + 1024 ≤ bytes
 
 -- nothing is left of either section
 abbrev pub noSection : Section

@@ -1,21 +1,23 @@
 // The cache on a lent table (specification, 'The cache'): entries as a lent slice of structs of any length, worked on in place. Thin functions read and
 // replace one entry; the rules on an entry by value are those of the crate `cache`.
 ghost use mathlib.Core.Path.{_≡_};
+ghost use mathlib.Core.Bool.{true, not};
 ghost use Prim.Native.Nat.{ℕ, _+_, _*_, _<_, _≤_, _^_};
 ghost use mathlib.Core.List.{List};
 ghost use lib.ListN.{length, set, getD};
 ghost use lib.Seq.{sets};
-ghost use Rattle.cache.specs.entries.Entries.{blank, refreshed};
+ghost use Rattle.wire.specs.message.Readable.{recordShown};
+ghost use Rattle.cache.specs.entries.Entries.{blank, isLive, refreshed};
 ghost use Rattle.cache.specs.declared.entries.Entry.{Entry};
 ghost use Rattle.cache.specs.declared.records.Choice.{Choice};
-ghost use Rattle.cache.specs.entries.Cache.{Cache, slotWith, takeRecords, entriesRefusal, takeIn};
+ghost use Rattle.cache.specs.entries.Cache.{Cache, takeRecords, entriesRefusal, takeIn};
 ghost use Rattle.cache.specs.lookup.Answers.{lookedOf};
 ghost use Rattle.cache.specs.Answers.{takenOf};
 ghost use Rattle.cache.specs.records.Heard.{heardAt};
-ghost use Rattle.cache.specs.records.Taking.{flushedIn, chosenIn, entryHeard, changed, changedIn, keptIn, counting};
+ghost use Rattle.cache.specs.records.Taking.{slotHeard, flushedIn, equalIn, freeFrom, chosenIn, entryHeard, changed, changedIn, keptIn, counting};
 ghost use Rattle.capi_cache.specs.Refusals.{greater, noMost, mostWith, ended};
 ghost use Rattle.capi_cache.specs.Numbers.{refusedLook, foundLook, nothingLook, refusedTake, countedTake, takenNumbers, lookedNumbers};
-ghost use Rattle.capi_cache.specs.Cursors.{Fits, Filling, Keeping, Taking, stillAt, beginOf, isMore, nextAt, sectionPast, pastOf, recordsFrom, cacheAt};
+ghost use Rattle.capi_cache.specs.Cursors.{Fits, Filling, Lies, Keeping, Taking, stillAt, beginOf, isMore, nextAt, sectionPast, pastOf, recordsFrom, cacheAt};
 use cache::entries::Entry;
 use cache::records::Choice;
 use cache::records::Heard;
@@ -252,8 +254,8 @@ pub extern "C" fn kurgashel_cache_look_up(
 }
 
 // Rule 1 on every entry, in place.
-fn flush(table: &mut [Entry], store: &[u8], time: u64, message: &[u8], h: Heard)
-    ensures { λ _. ⌜ now (table .exit) ≡ flushedIn time (now (store .entry)) (now (message .entry)) h (now (table .entry)) ⌝ }
+fn flush(table: &mut [Entry], store: &[u8], time: u64, slot: &[u8], h: Heard)
+    ensures { λ _. ⌜ now (table .exit) ≡ flushedIn time (now (store .entry)) (now (slot .entry)) h (now (table .entry)) ⌝ }
 {
     let n = entry_count(table);
     let mut i = cache::records::flush_from(h, n);
@@ -262,25 +264,61 @@ fn flush(table: &mut [Entry], store: &[u8], time: u64, message: &[u8], h: Heard)
         put_entry(
             table,
             i,
-            cache::records::flush_heard(e, i, store, time, message, h),
+            cache::records::flush_heard(e, i, store, time, slot, h),
         );
         i += 1;
     }
 }
 
-// What becomes of a record: the lowest live equal entry, else the lowest that is not live.
-fn choose(table: &[Entry], store: &[u8], time: u64, message: &[u8], h: Heard) -> Choice
-    ensures { λ r. ⌜ r ≡ chosenIn time (now (store .entry)) (now (message .entry)) h (now (table .entry)) ⌝ }
+// The lowest live equal entry, where rules 2 and 3 are for a record; the slot past the last where there is none.
+fn equal_slot(table: &[Entry], store: &[u8], time: u64, slot: &[u8], h: Heard) -> usize
+    ensures { λ r. ⌜ r ≡ equalIn time (now (store .entry)) (now (slot .entry)) h (now (table .entry)) ⌝ }
 {
     let n = entry_count(table);
     let mut i = cache::records::seek_from(h, n);
-    let mut seen = cache::records::nothing_seen();
     while i < n {
-        let e = entry_at(table, i);
-        seen = cache::records::visit(seen, e, i, store, time, message, h);
+        if cache::records::is_equal(entry_at(table, i), i, store, time, slot, h) {
+            return i;
+        }
         i += 1;
     }
-    cache::records::chosen(h, seen)
+    i
+}
+
+// Whether an entry is not live.
+fn is_free(e: Entry, time: u64) -> bool
+    ensures { λ r. ⌜ r ≡ not (isLive time e) ⌝ }
+{
+    if cache::entries::is_live(e, time) {
+        return false;
+    }
+    true
+}
+
+// The lowest entry that is not live, from a slot on; the slot past the last where there is none.
+fn free_slot(table: &[Entry], time: u64, from: usize) -> usize
+    ensures { λ r. ⌜ r ≡ freeFrom time (now (table .entry)) from ⌝ }
+{
+    let n = entry_count(table);
+    let mut i = from;
+    while i < n {
+        if is_free(entry_at(table, i), time) {
+            return i;
+        }
+        i += 1;
+    }
+    i
+}
+
+// What becomes of a record: the lowest live equal entry, else the lowest that is not live.
+fn choose(table: &[Entry], store: &[u8], time: u64, slot: &[u8], h: Heard) -> Choice
+    ensures { λ r. ⌜ r ≡ chosenIn time (now (store .entry)) (now (slot .entry)) h (now (table .entry)) ⌝ }
+{
+    let n = entry_count(table);
+    let equal = equal_slot(table, store, time, slot, h);
+    let from = cache::records::fill_from(h, n, equal);
+    let free = free_slot(table, time, from);
+    cache::records::chosen(h, n, equal, free)
 }
 
 // Rule 3 on the lowest live equal entry: it has the times and the TTL of the record that is taken now.
@@ -340,48 +378,65 @@ fn slot_changed(c: Choice) -> usize
 }
 
 // The rules for one record, on the table: what became of it is answered.
-fn take_record(table: &mut [Entry], store: &[u8], time: u64, message: &[u8], h: Heard) -> Choice
+fn take_record(table: &mut [Entry], store: &[u8], time: u64, slot: &[u8], h: Heard) -> Choice
     requires { ⌜ (0 < length (now table)) × ((time ≤ 2 ^ 62) × Fits h) ⌝ }
-    ensures { λ r. ⌜ (let es : List Entry = flushedIn time (now (store .entry)) (now (message .entry)) h (now (table .entry)) in
-        let c : Choice = chosenIn time (now (store .entry)) (now (message .entry)) h es in
+    ensures { λ r. ⌜ (let es : List Entry = flushedIn time (now (store .entry)) (now (slot .entry)) h (now (table .entry)) in
+        let c : Choice = chosenIn time (now (store .entry)) (now (slot .entry)) h es in
         (r ≡ c) × (now (table .exit) ≡ changedIn time h c es)) ⌝ }
 {
-    flush(table, store, time, message, h);
-    let c = choose(table, store, time, message, h);
+    flush(table, store, time, slot, h);
+    let c = choose(table, store, time, slot, h);
     let i = slot_changed(c);
     let e = entry_at(table, i);
     put_entry(table, i, change_entry(e, time, h, c));
     c
 }
 
-// Writes slot i whole: the owner, the rdata, and zeros in the bytes that they leave.
-fn write_slot(store: &mut [u8], i: usize, owner: &[u8], content: &[u8])
-    requires { ⌜ (1024 * i + 1024 ≤ length (now store)) × ((length (now owner) ≤ 256) × (length (now content) ≤ 768)) ⌝ }
-    ensures { λ _. ⌜ now (store .exit) ≡ sets (now (store .entry)) (1024 * i) (slotWith (now (owner .entry)) (now (content .entry))) ⌝ }
+// Lays the rdata of a record, its name expanded, over the slot that it would fill.
+fn put_rdata(slot: &mut [u8], message: &[u8], h: Heard)
+    requires { ⌜ Lies (now message) h ⌝ }
+    ensures { λ _. ⌜ now (slot .exit) ≡ sets (now (slot .entry)) 256 (recordShown (now (message .entry)) (h .at) .rdata) ⌝ }
 {
-    let mut slot = [0u8; 1024];
-    wire::buffer::put(&mut slot, 0, owner);
-    wire::buffer::put(&mut slot, 256, content);
-    wire::buffer::put(store, 1024 * i, &slot);
+    let f = h.at;
+    if !h.named {
+        wire::buffer::put(slot, 256, wire::rdata::part(message, f.rdata, f.rdlength));
+        return;
+    }
+    let opened = wire::expansion::open(message, f);
+    let bytes = opened.bytes;
+    wire::buffer::put(slot, 256, wire::rdata::part(&bytes, 0, opened.len));
 }
 
-// The bytes of a record that fills a slot, its names expanded.
-fn keep(store: &mut [u8], message: &[u8], h: Heard, c: Choice)
-    requires { ⌜ Keeping (now message) h c (length (now store)) ⌝ }
-    ensures { λ _. ⌜ now (store .exit) ≡ keptIn (now (message .entry)) h c (now (store .entry)) ⌝ }
+// The slot that a record would fill: its owner and its rdata, names expanded once for the whole table, and zeros in the bytes that they leave.
+fn slot_heard(message: &[u8], h: Heard) -> [u8; 1024]
+    requires { ⌜ (h .whole ≡ true → Lies (now message) h) ⌝ }
+    ensures { λ r. ⌜ r ≡ slotHeard (now (message .entry)) h ⌝ }
 {
-    if c.kind != cache::records::FILL {
-        return;
+    let mut slot = [0u8; 1024];
+    if !cache::records::is_taken(h) {
+        return slot;
     }
     let f = h.at;
     let span = f.span.len;
     let expanded = wire::names::expand(message, f.owner);
     let name = expanded.bytes;
-    let owner = &name[..span];
-    let opened = wire::expansion::open(message, f);
-    let bytes = opened.bytes;
-    let content = wire::expansion::view(message, &bytes, opened.len, f);
-    write_slot(store, c.slot, owner, content);
+    wire::buffer::put(&mut slot, 0, &name[..span]);
+    if (cache::entries::MOST_RDATA as usize) < h.len {
+        return slot;
+    }
+    put_rdata(&mut slot, message, h);
+    slot
+}
+
+// The bytes of a record that fills a slot.
+fn keep(store: &mut [u8], slot: &[u8], c: Choice)
+    requires { ⌜ Keeping c (length (now store)) ⌝ }
+    ensures { λ _. ⌜ now (store .exit) ≡ keptIn (now (slot .entry)) c (now (store .entry)) ⌝ }
+{
+    if c.kind != cache::records::FILL {
+        return;
+    }
+    wire::buffer::put(store, 1024 * c.slot, slot);
 }
 
 // What is left of a message's sections, and the counts so far; or the number of a refusal, and nothing is left.
@@ -547,8 +602,9 @@ fn take_records(
     let mut c = first;
     while is_more(c) {
         let h = hear_next(message, c);
-        let x = take_record(table, store, time, message, h);
-        keep(store, message, h, x);
+        let slot = slot_heard(message, h);
+        let x = take_record(table, store, time, &slot, h);
+        keep(store, &slot, x);
         let next = past(c, h, x);
         c = next;
     }

@@ -1,17 +1,20 @@
-//! The proved cache and the ordinary one, full of live entries, and the calls that are timed on both.
+//! The proved cache and the two ordinary ones, full of live entries, and the calls that are timed on all.
 
 use kurgashel::{Cache, PORT};
 
 use crate::ordinary_cache::OrdinaryCache;
+use crate::ordinary_table::OrdinaryTable;
 use crate::packets;
 
 /// When all is received.
 const RECEIVED: u64 = 1_000;
 
-/// Two caches of the same entries, each with its clock.
+/// Caches of the same entries, each with its clock.
 pub struct Caches {
     pub proved: Clocked<Cache>,
     pub ordinary: Clocked<OrdinaryCache>,
+    /// On a table and a store as the proved one's.
+    pub table: Clocked<OrdinaryTable>,
 }
 
 /// A cache that takes one message after the other.
@@ -37,6 +40,14 @@ impl Clocked<OrdinaryCache> {
     }
 }
 
+impl Clocked<OrdinaryTable> {
+    pub fn take(&mut self, message: &[u8]) -> (u32, u32) {
+        self.now += 1;
+        let taken = self.cache.take(self.now, PORT, message).expect("accepted");
+        (taken.turned_away, taken.passed_over)
+    }
+}
+
 impl Caches {
     pub fn empty(entries: usize) -> Caches {
         Caches {
@@ -46,6 +57,10 @@ impl Caches {
             },
             ordinary: Clocked {
                 cache: OrdinaryCache::with_entries(entries),
+                now: RECEIVED,
+            },
+            table: Clocked {
+                cache: OrdinaryTable::with_entries(entries),
                 now: RECEIVED,
             },
         }
@@ -65,10 +80,11 @@ impl Caches {
         caches
     }
 
-    /// Both take a message, with equal counts.
+    /// All take a message, with equal counts.
     pub fn take(&mut self, message: &[u8]) -> (u32, u32) {
         let taken = self.proved.take(message);
         assert_eq!(taken, self.ordinary.take(message));
+        assert_eq!(taken, self.table.take(message));
         taken
     }
 }

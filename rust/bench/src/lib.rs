@@ -7,6 +7,7 @@ pub mod growth;
 pub mod lookups;
 pub mod machine;
 pub mod ordinary_cache;
+pub mod ordinary_table;
 mod ordinary_walk;
 pub mod packets;
 pub mod peers;

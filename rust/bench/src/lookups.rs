@@ -5,6 +5,7 @@ use std::hint::black_box;
 use kurgashel::{Cache, PORT};
 
 use crate::ordinary_cache::OrdinaryCache;
+use crate::ordinary_table::OrdinaryTable;
 use crate::packets;
 use crate::timing;
 
@@ -29,6 +30,7 @@ pub struct Lookup {
 pub struct Lookups {
     cache: Cache,
     ordinary: OrdinaryCache,
+    table: OrdinaryTable,
     /// By a length and a type that no entry has.
     pub other_length_and_type: Lookup,
     /// By a type that no entry has; all have the name's length.
@@ -46,12 +48,14 @@ impl Lookups {
     pub fn among(entries: usize) -> Lookups {
         let mut cache = Cache::with_entries(entries).expect("a size");
         let mut ordinary = OrdinaryCache::with_entries(entries);
+        let mut table = OrdinaryTable::with_entries(entries);
         for slot in 0..entries {
             let owner = packets::long_name(OWNER_BYTES, letter(slot, entries));
             let message = packets::shared_address(&owner, slot as u32);
             let taken = cache.take(RECEIVED, PORT, &message).expect("accepted");
             assert_eq!((taken.turned_away, taken.passed_over), (0, 0));
             ordinary.take(RECEIVED, PORT, &message).expect("accepted");
+            table.take(RECEIVED, PORT, &message).expect("accepted");
         }
         let lookup = |bytes, letter, rtype, found| Lookup {
             name: packets::long_name(bytes, letter),
@@ -61,6 +65,7 @@ impl Lookups {
         Lookups {
             cache,
             ordinary,
+            table,
             other_length_and_type: lookup(SHORTER_BYTES, b'x', AAAA, None),
             other_type: lookup(OWNER_BYTES, b'x', AAAA, None),
             other_letter: lookup(OWNER_BYTES, b'x', A, None),
@@ -90,11 +95,19 @@ impl Lookups {
             .map(|found| found.slot)
     }
 
-    /// The least times of a lookup in the proved cache and in the ordinary one.
-    pub fn beside_ordinary(&self, lookup: &Lookup) -> [f64; 2] {
-        timing::least(
+    /// The slot that a lookup finds in the ordinary cache on a table and a store.
+    pub fn table_slot(&self, lookup: &Lookup) -> Option<usize> {
+        self.table
+            .look_up(NOW, &lookup.name, lookup.rtype, 0)
+            .expect("accepted")
+    }
+
+    /// The least times of a lookup in the proved cache, in the ordinary one, and in that on a table and a store.
+    pub fn beside_ordinary(&self, lookup: &Lookup) -> [f64; 3] {
+        timing::least_of_three(
             || _ = black_box(self.slot(black_box(lookup))),
             || _ = black_box(self.ordinary_slot(black_box(lookup))),
+            || _ = black_box(self.table_slot(black_box(lookup))),
         )
     }
 

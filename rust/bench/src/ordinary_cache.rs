@@ -2,11 +2,12 @@
 //! then walks it without allocating; an entry's vectors are used again. `reference::cache` reads a message into owned records first, which costs more than the
 //! table.
 
-use reference::message::{self, MOST_MESSAGE};
+use reference::message::MOST_MESSAGE;
 use reference::refusal::Refusal;
-use reference::{MDNS_PORT, MOST_TIME};
+use reference::MOST_TIME;
 
-use crate::ordinary_walk::{expand, past, read_rdata, u16_at, MOST_NAME};
+pub use crate::ordinary_walk::Counts;
+use crate::ordinary_walk::{check, each_record, is_name, Record};
 
 const MOST_RDATA: usize = 768;
 const LAST_SECOND: u64 = 1000;
@@ -27,13 +28,6 @@ pub struct OrdinaryCache {
     rdata: Vec<u8>,
 }
 
-/// The records of a message that were not taken.
-#[derive(Clone, Copy, Debug, Default, PartialEq, Eq)]
-pub struct Counts {
-    pub turned_away: u32,
-    pub passed_over: u32,
-}
-
 /// What a lookup finds.
 #[derive(Clone, Copy, Debug, PartialEq, Eq)]
 pub struct Found<'a> {
@@ -43,14 +37,6 @@ pub struct Found<'a> {
     pub received: u64,
     pub expiry: u64,
     pub ttl: u32,
-}
-
-struct Record<'a> {
-    owner: &'a [u8],
-    rtype: u16,
-    flushes: bool,
-    ttl: u32,
-    rdata: &'a [u8],
 }
 
 impl Entry {
@@ -85,55 +71,15 @@ impl OrdinaryCache {
     /// Takes the records of a response that came from `port`.
     pub fn take(&mut self, now: u64, port: u16, packet: &[u8]) -> Result<Counts, Refusal> {
         self.check_time(now)?;
-        let checked = message::check(packet);
-        if matches!(checked, Err(Refusal::MessageLength | Refusal::Header)) {
-            return checked.map(|()| Counts::default());
-        }
-        let is_response = packet[2] & 0x80 != 0;
-        if is_response && u64::from(port) != MDNS_PORT {
-            return Err(Refusal::Header);
-        }
-        checked?;
         let mut counts = Counts::default();
-        if is_response {
-            self.take_records(now, packet, &mut counts);
+        if check(port, packet)? {
+            let mut rdata = std::mem::take(&mut self.rdata);
+            each_record(packet, &mut rdata, |record| {
+                self.take_record(now, record, &mut counts);
+            });
+            self.rdata = rdata;
         }
         Ok(counts)
-    }
-
-    fn take_records(&mut self, now: u64, packet: &[u8], counts: &mut Counts) {
-        let mut owner = [0; MOST_NAME];
-        let mut rdata = std::mem::take(&mut self.rdata);
-        let mut at = message::HEADER;
-        for _ in 0..u16_at(packet, 4) {
-            at = past(packet, at) + 4;
-        }
-        for count_at in [6, 8, 10] {
-            for _ in 0..u16_at(packet, count_at) {
-                let fixed = past(packet, at);
-                let (rtype, class) = (u16_at(packet, fixed), u16_at(packet, fixed + 2));
-                let start = fixed + 10;
-                let end = start + usize::from(u16_at(packet, fixed + 8));
-                if count_at != 8 && class & 0x7FFF == 1 {
-                    let owner = expand(packet, at, &mut owner);
-                    if read_rdata(packet, rtype, owner, start..end, &mut rdata) {
-                        let ttl = u32::from_be_bytes(
-                            packet[fixed + 4..fixed + 8].try_into().expect("four bytes"),
-                        );
-                        let record = Record {
-                            owner,
-                            rtype,
-                            flushes: class & 0x8000 != 0,
-                            ttl: if ttl >> 31 == 0 { ttl } else { 0 },
-                            rdata: &rdata,
-                        };
-                        self.take_record(now, &record, counts);
-                    }
-                }
-                at = end;
-            }
-        }
-        self.rdata = rdata;
     }
 
     fn take_record(&mut self, now: u64, record: &Record, counts: &mut Counts) {
@@ -208,13 +154,4 @@ impl OrdinaryCache {
             ttl: entry.ttl,
         }))
     }
-}
-
-/// Whether bytes are one uncompressed name and nothing behind it.
-fn is_name(bytes: &[u8]) -> bool {
-    let mut at = 0;
-    while let Some(&length @ 1..=63) = bytes.get(at) {
-        at += 1 + usize::from(length);
-    }
-    bytes.len() <= MOST_NAME && at + 1 == bytes.len() && bytes[at] == 0
 }

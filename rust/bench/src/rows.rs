@@ -41,6 +41,18 @@ pub fn row(name: &str, [ours, ordinary]: [f64; 2], others: &[Cell]) {
     );
 }
 
+/// A row of ours beside two others: the ratio to each, then all times.
+pub fn row_of_three(name: &str, [ours, a, b]: [f64; 3]) {
+    println!(
+        "| {name} | {:.2} | {:.2} | {} | {} | {} |",
+        ours / a,
+        ours / b,
+        number(ours),
+        number(a),
+        number(b)
+    );
+}
+
 /// Nanoseconds, with a tenth below 100.
 pub fn number(time: f64) -> String {
     if time < 100.0 {

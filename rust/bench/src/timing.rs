@@ -50,6 +50,12 @@ pub fn least(mut ours: impl FnMut(), mut ordinary: impl FnMut()) -> [f64; 2] {
     [times[0], times[1]]
 }
 
+/// The least times of three calls.
+pub fn least_of_three(mut a: impl FnMut(), mut b: impl FnMut(), mut c: impl FnMut()) -> [f64; 3] {
+    let times = least_of(&mut [&mut a, &mut b, &mut c]);
+    [times[0], times[1], times[2]]
+}
+
 /// The median times of the two, in nanoseconds a call; their rounds take turns.
 pub fn medians(repeat: usize, mut a: impl FnMut(), mut b: impl FnMut()) -> [f64; 2] {
     let mut times = [Vec::new(), Vec::new()];

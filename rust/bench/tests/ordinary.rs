@@ -1,7 +1,8 @@
-//! What is timed beside the proved library answers as it does: the ordinary cache, and the ordinary tick on a state's bytes. Both are also tried on damage.
+//! What is timed beside the proved library answers as it does: the ordinary caches, and the ordinary tick on a state's bytes. Both are also tried on damage.
 
 use bench::captured;
 use bench::ordinary_cache::OrdinaryCache;
+use bench::ordinary_table::{Entry, OrdinaryTable};
 use bench::packets::{self, Random};
 use bench::state_bytes::{self, STATE_BYTES};
 use kurgashel::{Arrival, Cache, Draws, OutBuffers, Responder, Setup};
@@ -42,7 +43,13 @@ fn messages() -> Vec<Vec<u8>> {
 }
 
 /// A table's entries, by lookups of each name and type from each slot on.
-fn same_entries(now: u64, proved: &Cache, ordinary: &OrdinaryCache, reference: &ReferenceCache) {
+fn same_entries(
+    now: u64,
+    proved: &Cache,
+    ordinary: &OrdinaryCache,
+    table: &OrdinaryTable,
+    reference: &ReferenceCache,
+) {
     for (slot, entry) in reference.entries().iter().enumerate() {
         if entry.owner.is_empty() {
             continue;
@@ -54,8 +61,20 @@ fn same_entries(now: u64, proved: &Cache, ordinary: &OrdinaryCache, reference: &
             .map(|found| {
                 found.map(|f| (f.slot, &f.entry.rdata[..], f.entry.received, f.entry.expiry))
             });
+        let slot = table.look_up(now, &name, rtype, from);
+        assert_eq!(slot, theirs.map(|found| found.map(|f| f.0)));
         let ours = proved.look_up(now, &name, rtype, from);
         let ordinary = ordinary.look_up(now, &name, rtype, from);
+        if let Ok(Some(found)) = ours {
+            let (entry, bytes) = (table.table[found.slot], &table.store[SLOT * found.slot..]);
+            let (owner, rdata) = (entry.owner.into(), entry.rdata as usize);
+            assert_eq!(
+                (&bytes[..owner], &bytes[256..256 + rdata]),
+                (found.owner, found.rdata)
+            );
+            let numbers = (entry.received, entry.expiry, entry.ttl);
+            assert_eq!(numbers, (found.received, found.expiry, found.ttl));
+        }
         if let (Ok(ours), Ok(ordinary)) = (&ours, &ordinary) {
             assert_eq!(ours.map(|f| f.ttl), ordinary.map(|f| f.ttl.into()));
         }
@@ -70,13 +89,14 @@ fn same_entries(now: u64, proved: &Cache, ordinary: &OrdinaryCache, reference: &
 }
 
 #[test]
-fn three_caches_take_alike() {
+fn four_caches_take_alike() {
     let mut random = Random(6763);
     let messages = messages();
     let mut taken = 0;
     for entries in [1, 7, 64, MOST_ENTRIES] {
         let mut proved = Cache::with_entries(entries).expect("a size");
         let mut ordinary = OrdinaryCache::with_entries(entries);
+        let mut table = OrdinaryTable::with_entries(entries);
         let mut reference = ReferenceCache::new(entries, SLOT * entries);
         let mut now = 1_000;
         for i in 0..1_500 {
@@ -94,6 +114,10 @@ fn three_caches_take_alike() {
                 .take(now, port, &message)
                 .map(|counts| (counts.turned_away.into(), counts.passed_over.into()));
             assert_eq!(ours, theirs, "{message:02x?}");
+            let ours = table
+                .take(now, port, &message)
+                .map(|counts| (counts.turned_away.into(), counts.passed_over.into()));
+            assert_eq!(ours, theirs, "{message:02x?}");
             let counted = proved
                 .take(now, port, &message)
                 .map(|counts| (counts.turned_away.into(), counts.passed_over.into()));
@@ -103,11 +127,46 @@ fn three_caches_take_alike() {
             );
             taken += theirs.is_ok() as usize;
             if i % 5 == 0 || entries < 64 {
-                same_entries(now, &proved, &ordinary, &reference);
+                same_entries(now, &proved, &ordinary, &table, &reference);
             }
         }
     }
     assert!(taken > 3_000, "{taken} were taken");
+}
+
+/// A table that is refused as 1 or 8, before the message is looked at.
+#[test]
+fn the_same_table_is_refused() {
+    let entry = |owner, rdata, received| Entry {
+        owner,
+        rdata,
+        received,
+        ..Entry::default()
+    };
+    let refusal = |table: Vec<Entry>, bytes: usize| {
+        let mut cache = OrdinaryTable::with_entries(table.len());
+        cache.table = table;
+        cache.store = vec![0; bytes];
+        let looked = cache.look_up(1_000, b"", 1, 0).map(|_| ());
+        let taken = cache.take(1_000, PORT, b"").map(|_| ());
+        (
+            looked.map_err(|r| r.number()),
+            taken.map_err(|r| r.number()),
+        )
+    };
+    let blank = Entry::default();
+    for (table, bytes, expected) in [
+        (vec![blank; 2], 2 * SLOT, (6, 4)),
+        (vec![blank; 2], SLOT, (8, 8)),
+        (vec![], 0, (8, 8)),
+        (vec![blank; 513], 513 * SLOT, (8, 8)),
+        (vec![blank, entry(255, 768, 1_000)], 2 * SLOT, (6, 4)),
+        (vec![blank, entry(256, 0, 0)], 2 * SLOT, (8, 8)),
+        (vec![entry(0, 769, 0), blank], 2 * SLOT, (8, 8)),
+        (vec![entry(256, 769, 0), entry(0, 0, 1_001)], SLOT, (1, 1)),
+    ] {
+        assert_eq!(refusal(table, bytes), (Err(expected.0), Err(expected.1)));
+    }
 }
 
 /// What a tick on the proved side answers, and the state after it: a refusal's number, or the packet and whether more is due.

@@ -43,6 +43,10 @@ module _ (now : ℕ) (store name : List ℕ) (rtype i : ℕ) (e : Entry) where
   unfolding liveOf
   live-not h = sym (simp h)
 
+  pub live-type : (e .rtype ≡ rtype → ⊥) → false ≡ liveOf now store name rtype i e
+  unfolding liveOf isOf
+  live-type h = sym (simp (ne-eqb _ _ h) (and-false (isLive now e)))
+
   pub live-of : isLive now e ≡ true → (r : Bool) → r ≡ isOf store name rtype i e → r ≡ liveOf now store name rtype i e
   unfolding liveOf
   live-of h r k = k ∙ sym (simp h)

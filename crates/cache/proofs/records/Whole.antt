@@ -1,15 +1,15 @@
 -- Of a record that is whole, what the code finds of an entry is what the rules say of the record that it shows. Assumes nothing.
 use mathlib.Core.Path.{_≡_, refl, sym, ap, ap₂, _∙_}
-use mathlib.Core.List.{List, [], _∷_, _++_}
+use mathlib.Core.List.{List, [], _++_}
 use mathlib.Core.Bool.{Bool, true, false, cond, _&&_}
-use Prim.Native.Nat.{ℕ, _+_, _-_, _≤_}
-use lib.ListN.{length, take, drop, length-drop, length-append}
-use lib.Seq.{length-take-le}
+use Prim.Native.Nat.{ℕ, _+_, _-_, _<_, _≤_}
+use lib.ListN.{length, take, drop, replicate, length-replicate, length-drop, length-append}
+use lib.Seq.{sets, length-take-le}
 use native.Mathlib.Omega.{arith}
-use lib.Dec.{eqb}
-use borrow.Author.Tests.{eq-eqb, ne-eqb, eqb-true}
-use Rattle.wire.specs.case_folding.Fold.{lower, sameName}
-use Rattle.wire.specs.expansion.Equal.{sameBytes, rdataIs}
+use lib.Dec.{ltb, eqb}
+use borrow.Author.Tests.{lt-ltb, le-ltb, ltb-true, ltb-false}
+use Rattle.wire.specs.case_folding.Fold.{sameName}
+use Rattle.wire.specs.expansion.Equal.{sameBytes}
 use Rattle.wire.specs.expansion.Opened.{padded, openedOf, openedName, openedAt}
 use Rattle.wire.specs.declared.expansion.Opened.{Opened}
 use Rattle.wire.proofs.expansion.Views.{within, name-room, open-named, plain-is}
@@ -31,28 +31,10 @@ use Rattle.wire.proofs.message.Walk.{RecordMet, record-found}
 use Rattle.cache.specs.entries.Entries.{ownerHeld, rdataHeld, isLive, isOf, liveOf, holds}
 use Rattle.cache.specs.declared.entries.Entry.{Entry}
 use Rattle.cache.specs.declared.records.Heard.{Heard}
-use Rattle.cache.specs.records.Heard.{Named, blankRecord, heardOf, heardAt, isOfHeard, liveHeard, holdsHeard}
-
-eqb-swap : (a b : ℕ) → eqb a b ≡ eqb b a
-eqb-swap a b = go (eqb a b) refl
-  where
-    go : (t : Bool) → eqb a b ≡ t → t ≡ eqb b a
-    go true e = sym (eq-eqb b a (sym (eqb-true a b e)))
-    go false e = sym (ne-eqb b a (λ s. let z : true ≡ false = sym (eq-eqb a b (sym s)) ∙ e in let w : _≡_ {A = ℕ} 0 1 = cc in absurd (omega arith)))
-
-names-swap : (a b : List ℕ) → sameName a b ≡ sameName b a
-unfolding sameName
-names-swap [] [] = refl
-names-swap [] (y ∷ ys) = refl
-names-swap (x ∷ xs) [] = refl
-names-swap (x ∷ xs) (y ∷ ys) = ap₂ (λ (m n : Bool). m && n) (eqb-swap (lower x) (lower y)) (names-swap xs ys)
-
-bytes-swap : (a b : List ℕ) → sameBytes a b ≡ sameBytes b a
-unfolding sameBytes
-bytes-swap [] [] = refl
-bytes-swap [] (y ∷ ys) = refl
-bytes-swap (x ∷ xs) [] = refl
-bytes-swap (x ∷ xs) (y ∷ ys) = ap₂ (λ (m n : Bool). m && n) (eqb-swap x y) (bytes-swap xs ys)
+use Rattle.cache.specs.records.Heard.{Named, blankRecord, heardOf, heardAt, isTaken, ownerIn, rdataIn, isOfHeard, liveHeard, holdsHeard}
+use Rattle.cache.specs.records.Taking.{slotHeard}
+use Rattle.cache.specs.entries.Cache.{slotFor}
+use Rattle.cache.proofs.laws.Slots.{read-back, owner-back, rdata-back}
 
 -- how many bytes rdata has that holds a name
 module _ (p : List ℕ) (f : RecordAt) (g : Form) (named : Named p f g) where
@@ -126,27 +108,49 @@ module _ (p : List ℕ) (at : ℕ) (a : RecordRead) (is : a ≡ wholeRead p at) 
   unfolding heardAt
   heard-not e = ap (heardOf p) (sym e ∙ is)
 
-module _ (store p : List ℕ) (at : ℕ) (f : RecordAt) (met : RecordMet p at f) where
+-- in the slot that a record would fill stand its owner, and its rdata where that fits
+module _ (p : List ℕ) (at : ℕ) (f : RecordAt) (met : RecordMet p at f) where
   abbrev shown : Record
   shown = recordShown p f
 
   abbrev h : Heard
   h = heardOf p (r.Found f)
 
-  of-shown : (i : ℕ) (e : Entry) → isOfHeard store p h i e ≡ isOf store (shown .owner) (shown .rtype) i e
-  unfolding isOfHeard isOf
-  of-shown i e =
-      ap₂ (λ (n : ℕ) (b : Bool). eqb (e .rtype) (f .rtype) && (eqb (e .owner) n && b)) (met .span) (met .named (ownerHeld store i e) ∙ names-swap (shown .owner) (ownerHeld store i e))
+  short : length (shown .owner) ≤ 255
+  short = at-most-255 p (f .owner) (shown .owner) (met .end) (met .owner)
 
-  pub live-shown : (now i : ℕ) (e : Entry) → liveHeard now store p h i e ≡ liveOf now store (shown .owner) (shown .rtype) i e
-  unfolding liveHeard liveOf
-  live-shown now i e = ap (λ (b : Bool). isLive now e && b) (of-shown i e)
+  module _ (taken : isTaken h ≡ true) where
+    pub slot-fits : h .len ≤ 768 → slotHeard p h ≡ slotFor shown
+    unfolding slotHeard
+    slot-fits l = simp (taken, le-ltb _ _ l)
 
-  len-shown : h .len ≡ length (shown .rdata)
-  len-shown = refl
+    slot-over : 768 < h .len → slotHeard p h ≡ sets (replicate 1024 0) 0 (shown .owner)
+    unfolding slotHeard
+    slot-over l = simp (taken, lt-ltb _ _ l)
 
-  pub holds-shown : (now i : ℕ) (e : Entry) → holdsHeard now store p h i e ≡ holds now store (shown .owner) (shown .rtype) (shown .rdata) i e
-  unfolding holdsHeard holds
-  holds-shown now i e =
-      ap₂ (λ (a b : Bool). a && (eqb (e .rdata) (length (shown .rdata)) && b)) (live-shown now i e)
-      (ap (λ (d : Rdata). rdataIs d (rdataHeld store i e)) (met .content) ∙ bytes-swap (shown .rdata) (rdataHeld store i e))
+    pub owner-in : ownerIn (slotHeard p h) h ≡ shown .owner
+    owner-in = ap (λ (n : ℕ). take n (slotHeard p h)) (met .span) ∙ go (ltb 768 (h .len)) refl
+      where
+        go : (b : Bool) → ltb 768 (h .len) ≡ b → take (length (shown .owner)) (slotHeard p h) ≡ shown .owner
+        go true e =
+            ap (take (length (shown .owner))) (slot-over (ltb-true 768 (h .len) e))
+            ∙ read-back (replicate 1024 0) 0 (shown .owner) (omega (arith, short, length-replicate {A = ℕ} 1024 0))
+        go false e =
+            let l : h .len ≤ 768 = ltb-false 768 (h .len) e in
+            ap (take (length (shown .owner))) (slot-fits l) ∙ owner-back shown (omega (arith, short)) l
+
+    pub rdata-in : h .len ≤ 768 → rdataIn (slotHeard p h) h ≡ shown .rdata
+    rdata-in l = ap (λ (k : List ℕ). take (h .len) (drop 256 k)) (slot-fits l) ∙ rdata-back shown (omega (arith, short)) l
+
+    of-shown : (store : List ℕ) (i : ℕ) (e : Entry) → isOfHeard store (slotHeard p h) h i e ≡ isOf store (shown .owner) (shown .rtype) i e
+    unfolding isOfHeard isOf
+    of-shown store i e = ap₂ (λ (n : ℕ) (o : List ℕ). eqb (e .rtype) (f .rtype) && (eqb (e .owner) n && sameName (ownerHeld store i e) o)) (met .span) owner-in
+
+    pub live-shown : (store : List ℕ) (now i : ℕ) (e : Entry) → liveHeard now store (slotHeard p h) h i e ≡ liveOf now store (shown .owner) (shown .rtype) i e
+    unfolding liveHeard liveOf
+    live-shown store now i e = ap (λ (b : Bool). isLive now e && b) (of-shown store i e)
+
+    pub holds-shown : h .len ≤ 768 → (store : List ℕ) (now i : ℕ) (e : Entry) → holdsHeard now store (slotHeard p h) h i e ≡ holds now store (shown .owner) (shown .rtype) (shown .rdata) i e
+    unfolding holdsHeard holds
+    holds-shown l store now i e =
+        ap₂ (λ (a : Bool) (d : List ℕ). a && (eqb (e .rdata) (length (shown .rdata)) && sameBytes (rdataHeld store i e) d)) (live-shown store now i e) (rdata-in l)

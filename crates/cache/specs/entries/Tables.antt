@@ -11,6 +11,11 @@ unfoldable pub lowest : (ℕ → Entry → Bool) → ℕ → List Entry → Slot
 lowest test i [] = Nowhere
 lowest test i (e ∷ es) = cond (test i e) (At i) (lowest test (suc i) es)
 
+-- the same as a number; where none passes it is the slot past the last
+unfoldable pub slotFrom : (ℕ → Entry → Bool) → ℕ → List Entry → ℕ
+slotFrom test i [] = i
+slotFrom test i (e ∷ es) = cond (test i e) i (slotFrom test (suc i) es)
+
 -- a rule on every entry
 unfoldable pub each : (ℕ → Entry → Entry) → ℕ → List Entry → List Entry
 each rule i [] = []

@@ -3,28 +3,37 @@
 use Prim.Native.Nat.{ℕ, _+_, _*_}
 use mathlib.Core.List.{List}
 use mathlib.Core.Bool.{cond}
-use lib.ListN.{length, getD, set, drop}
+use lib.ListN.{length, getD, set, drop, replicate}
 use lib.Seq.{sets}
-use lib.Dec.{eqb}
+use lib.Dec.{ltb, eqb}
 use Rattle.wire.specs.message.Readable.{recordShown}
-use Rattle.cache.specs.entries.Entries.{blank, soon, refreshed}
-use Rattle.cache.specs.entries.Tables.{each}
+use Rattle.cache.specs.entries.Entries.{blank, isFree, soon, refreshed}
+use Rattle.cache.specs.entries.Tables.{slotFrom, each}
 use Rattle.cache.specs.entries.Cache.{Cache, withEntries, slotFor}
-use Rattle.cache.specs.records.Heard.{isSought, flushedHeard, firstSlot, nothingSeen, seenFrom, chosenOf}
+use Rattle.cache.specs.records.Heard.{isTaken, isSought, holdsHeard, flushedHeard, firstSlot, isFilling, chosenOf}
 use Rattle.cache.specs.declared.entries.Entry.{Entry}
 use Rattle.cache.specs.declared.records.Heard.{Heard}
 use Rattle.cache.specs.declared.records.Choice.{Choice}
 
+-- the slot that it would fill: zeros where the rules are not for it, and without rdata that does not fit
+unfoldable pub slotHeard : List ℕ → Heard → List ℕ
+slotHeard p h = cond (isTaken h) (cond (ltb 768 (h .len)) (sets (replicate 1024 0) 0 (recordShown p (h .at) .owner)) (slotFor (recordShown p (h .at)))) (replicate 1024 0)
+
 -- rule 1 on every entry
 unfoldable pub flushedIn : ℕ → List ℕ → List ℕ → Heard → List Entry → List Entry
-flushedIn now store p h es = each (flushedHeard now store p h) 0 es
+flushedIn now store slot h es = each (flushedHeard now store slot h) 0 es
 
--- what is chosen of the entries, from the slot on at which rules 2 and 3 begin
-unfoldable pub chosenFrom : ℕ → List ℕ → List ℕ → Heard → List Entry → ℕ → Choice
-chosenFrom now store p h es from = chosenOf h (seenFrom now store p h from nothingSeen (drop from es))
+-- the lowest live equal entry, where rules 2 and 3 are for it; and the lowest not live from a slot on
+unfoldable pub equalIn : ℕ → List ℕ → List ℕ → Heard → List Entry → ℕ
+equalIn now store slot h es = slotFrom (holdsHeard now store slot h) (firstSlot (isSought h) (length es)) (drop (firstSlot (isSought h) (length es)) es)
 
+unfoldable pub freeFrom : ℕ → List Entry → ℕ → ℕ
+freeFrom now es from = slotFrom (isFree now) from (drop from es)
+
+-- what is chosen of the entries
 unfoldable pub chosenIn : ℕ → List ℕ → List ℕ → Heard → List Entry → Choice
-chosenIn now store p h es = chosenFrom now store p h es (firstSlot (isSought h) (length es))
+chosenIn now store slot h es =
+    let equal : ℕ = equalIn now store slot h es in chosenOf h (length es) equal (freeFrom now es (firstSlot (isFilling h (length es) equal) (length es)))
 
 -- the entry of a record that is taken now
 abbrev pub entryHeard : ℕ → Heard → Entry
@@ -44,23 +53,23 @@ changed now h c e = cond (eqb (c .kind) 1) (soon now e) (cond (eqb (c .kind) 2) 
 unfoldable pub changedIn : ℕ → Heard → Choice → List Entry → List Entry
 changedIn now h c es = set es (c .slot) (changed now h c (getD es (c .slot) blank))
 
-unfoldable pub keptIn : List ℕ → Heard → Choice → List ℕ → List ℕ
-keptIn p h c store = cond (eqb (c .kind) 3) (sets store (1024 * c .slot) (slotFor (recordShown p (h .at)))) store
+unfoldable pub keptIn : List ℕ → Choice → List ℕ → List ℕ
+keptIn slot c store = cond (eqb (c .kind) 3) (sets store (1024 * c .slot) slot) store
 
 unfoldable pub counting : ℕ → Choice → ℕ → ℕ
 counting kind c n = cond (eqb (c .kind) kind) (n + 1) n
 
 -- what is chosen after rule 1, and the cache after that
 abbrev pub choiceOn : ℕ → List ℕ → Heard → Cache → Choice
-choiceOn now p h c = chosenIn now (c .store) p h (flushedIn now (c .store) p h (c .entries))
+choiceOn now slot h c = chosenIn now (c .store) slot h (flushedIn now (c .store) slot h (c .entries))
 
 abbrev pub changedCache : ℕ → List ℕ → Heard → Choice → Cache → Cache
-changedCache now p h x c = record {
+changedCache now slot h x c = record {
   entries = changedIn now h x (c .entries);
-  store = keptIn p h x (c .store);
+  store = keptIn slot x (c .store);
   turned = counting 4 x (c .turned);
   passed = counting 5 x (c .passed);
 }
 
 unfoldable pub takeHeard : ℕ → List ℕ → Heard → Cache → Cache
-takeHeard now p h c = changedCache now p h (choiceOn now p h c) (withEntries (flushedIn now (c .store) p h (c .entries)) c)
+takeHeard now slot h c = changedCache now slot h (choiceOn now slot h c) (withEntries (flushedIn now (c .store) slot h (c .entries)) c)
