@@ -464,6 +464,11 @@ static struct kurgashel_name name_at(struct bytes m, size_t at, size_t name_leng
     struct kurgashel_name n = kurgashel_name(m.at, m.count, at);
     if (n.length != name_length || n.length != kurgashel_name_length(m.at, m.count, at)) wrong = "a name has another length by another call";
     if (!kurgashel_name_end(m.at, m.count, at)) wrong = "a name that is read has no end";
+    uint8_t *into = room(n.length);
+    struct kurgashel_name_span s = kurgashel_name_into(m.at, m.count, at, into, n.length);
+    if (s.end != kurgashel_name_end(m.at, m.count, at) || s.length != n.length || s.labels != n.labels || s.first_label != n.first_label
+        || memcmp(into, n.bytes, n.length)) wrong = "a name that is written into a buffer is another";
+    free(into);
     return n;
 }
 
@@ -543,6 +548,9 @@ static size_t say_section(struct bytes m, size_t at, size_t count, const char *s
         struct kurgashel_name owner = name_at(m, r.owner, r.owner_length);
         say(" r %s ", section), say_bytes(owner.bytes, owner.length), say_numbers(r.owner_labels, r.owner_first_label);
         if (owner.labels != r.owner_labels || owner.first_label != r.owner_first_label) wrong = "a name has other labels by another call";
+        struct kurgashel_fields f = kurgashel_fields(m.at, m.count, kurgashel_name_end(m.at, m.count, at));
+        if (!f.found || f.rtype != r.rtype || f.class_ != r.class_ || f.ttl != r.ttl || f.rdata != r.rdata || f.rdata_length != r.rdata_length || f.next != r.next)
+            wrong = "a record is another behind its owner";
         say(" %u %u %" PRIu32 " ", r.rtype, r.class_, r.ttl), say_rdata(m, r);
         compare_proxied(m, at, r, owner.bytes);
         at = r.next;

@@ -371,6 +371,15 @@ struct kurgashel_record {
 };
 struct kurgashel_record kurgashel_record(const uint8_t *message, size_t message_bytes, size_t at);
 
+/* The same without the owner, of the record whose owner ends at an offset (kurgashel_name_into): the owner is not read again. */
+struct kurgashel_fields {
+    bool found;
+    uint16_t rtype, class_;
+    uint32_t ttl;
+    size_t rdata, rdata_length, next;
+};
+struct kurgashel_fields kurgashel_fields(const uint8_t *message, size_t message_bytes, size_t end);
+
 /* The address in the rdata of an A (rtype 1) or an AAAA (rtype 28): 4 or 16 bytes, 0 where there is none, with zeros behind them. */
 struct kurgashel_address {
     size_t length;
@@ -414,6 +423,13 @@ struct kurgashel_name {
     uint8_t bytes[255];
 };
 struct kurgashel_name kurgashel_name(const uint8_t *message, size_t message_bytes, size_t at);
+
+/* The same name, written over the first bytes of `out`, the others left as they are: the offset past it in the message, its uncompressed length, at most 255, and
+ * its labels. All is 0, and nothing is written, where it is malformed or longer than `out`. A name is so expanded where it is to stay, and read once. */
+struct kurgashel_name_span {
+    size_t end, length, labels, first_label;
+};
+struct kurgashel_name_span kurgashel_name_into(const uint8_t *message, size_t message_bytes, size_t at, uint8_t *out, size_t out_bytes);
 
 /* The offset past the name at an offset, and its uncompressed length; each 0 where the name is malformed. Nothing is copied. */
 size_t kurgashel_name_end(const uint8_t *message, size_t message_bytes, size_t at);

@@ -20,6 +20,12 @@ static int none(struct kurgashel_srv s) {
 }
 static struct kurgashel_srv srv(size_t at, size_t length) { return kurgashel_srv(message, BYTES, at, length); }
 
+// whether so many bytes of the message have no record whose owner ends at an offset
+static int lacks(size_t end, size_t count) {
+    struct kurgashel_fields f = kurgashel_fields(message, count, end);
+    return !f.found && !f.rtype && !f.class_ && !f.ttl && !f.rdata && !f.rdata_length && !f.next;
+}
+
 static void walk(void) {
     static const struct { uint16_t rtype; size_t at, rdata, length, next; } records[] = { { SRV, 12, 47, 13, 60 }, { TXT, 60, 72, 16, 88 }, { A, 88, 100, 4, 104 }, { AAAA, 104, 116, 16, 132 } };
     expect(BYTES == 132 && !kurgashel_message(message, BYTES).refusal && kurgashel_message(message, BYTES).end == 132, "the announcement is well formed");
@@ -28,7 +34,11 @@ static void walk(void) {
         struct kurgashel_record r = kurgashel_record(message, BYTES, records[i].at);
         expect(r.owner_labels == labels[i] && r.owner_first_label == first[i], "the labels of an owner, also behind a pointer");
         expect(r.found && r.rtype == records[i].rtype && r.rdata == records[i].rdata && r.rdata_length == records[i].length && r.next == records[i].next, "a record");
+        struct kurgashel_fields f = kurgashel_fields(message, BYTES, kurgashel_name_end(message, BYTES, records[i].at));
+        expect(f.found && f.rtype == r.rtype && f.class_ == 0x8001 && f.ttl == r.ttl && f.rdata == r.rdata && f.rdata_length == r.rdata_length && f.next == r.next, "the same behind its owner");
     }
+    expect(kurgashel_fields(message, BYTES, 106).ttl == 120 && lacks(106, BYTES - 1), "a record that is cut in its rdata");
+    expect(lacks(106, 116 - 1) && lacks(106, 106) && lacks(107, 106) && lacks(SIZE_MAX, BYTES) && !kurgashel_fields(NULL, 0, 0).found, "and before that");
 }
 
 static void services(void) {
@@ -50,6 +60,37 @@ static void services(void) {
 static int named(const void *bytes, size_t count, size_t at, size_t length, size_t labels, size_t first) {
     struct kurgashel_name n = kurgashel_name(bytes, count, at);
     return n.length == length && n.labels == labels && n.first_label == first;
+}
+
+// whether a name is written into `room` bytes as kurgashel_name has it, and the others stay; or, where it does not fit, nothing is written
+static int written(const void *bytes, size_t count, size_t at, size_t room) {
+    struct kurgashel_name n = kurgashel_name(bytes, count, at);
+    uint8_t out[300];
+    memset(out, 0xa5, sizeof out);
+    struct kurgashel_name_span s = kurgashel_name_into(bytes, count, at, out, room);
+    size_t length = n.length <= room ? n.length : 0;
+    for (size_t i = length; i < sizeof out; i++)
+        if (out[i] != 0xa5) return 0;
+    if (!length) return !s.end && !s.length && !s.labels && !s.first_label;
+    return s.end == kurgashel_name_end(bytes, count, at) && s.length == length && s.labels == n.labels && s.first_label == n.first_label && !memcmp(out, n.bytes, length);
+}
+
+static void into(void) {
+    // "local" at 12, "_tcp" before a pointer to it at 19, "_voice" before one to that at 26, "booth" before one to that at 35; pointers to these at 43, 45, 47 and 49, and to the last at 51
+    static const uint8_t packet[] = "\0\0\0\0\0\0\0\0\0\0\0\0" "\5local\0" "\4_tcp\xc0\x0c" "\6_voice\xc0\x13" "\5booth\xc0\x1a" "\xc0\x0c\xc0\x13\xc0\x1a\xc0\x23\xc0\x31";
+    enum { PACKET = sizeof packet - 1 };
+    static const size_t lengths[] = { 7, 12, 19, 25, 7, 12, 19, 25, 25 }, places[] = { 12, 19, 26, 35, 43, 45, 47, 49, 51 };
+    for (size_t i = 0; i < 9; i++) {
+        uint8_t out[255];
+        expect(kurgashel_name_into(packet, PACKET, places[i], out, sizeof out).length == lengths[i], "a name of one run of labels to four");
+        expect(written(packet, PACKET, places[i], 255) && written(packet, PACKET, places[i], lengths[i]), "it is written, and no byte more");
+        expect(written(packet, PACKET, places[i], lengths[i] - 1) && written(packet, PACKET, places[i], 0), "no byte of it where it does not fit");
+    }
+    for (size_t at = 0; at <= PACKET; at++)
+        expect(written(packet, PACKET, at, 255) && written(packet, at, 12, 255) && written(packet, at, 35, 255), "whatever stands there, and a message that is cut");
+    uint8_t out[1] = { 7 };
+    expect(!kurgashel_name_into(NULL, 0, 0, out, 1).end && out[0] == 7 && !kurgashel_name_into(packet, PACKET, 12, NULL, 0).end, "no message, and no room");
+    expect(kurgashel_name_into(packet, PACKET, 18, out, 1).length == 1 && !out[0], "the root");
 }
 
 static void names(void) {
@@ -136,6 +177,7 @@ int main(void) {
     walk();
     services();
     names();
+    into();
     addresses();
     strings();
     denials();

@@ -60,7 +60,7 @@ static void sizes(void) {
     expect(kurgashel_cache_take(NULL, 0, NULL, 0, 0, 5353, NULL, 0).refusal == 8, "cache: no table is 8, before 4");
     expect(kurgashel_cache_look_up(NULL, 0, NULL, 0, 0, NULL, 0, 1, 0).refusal == 8, "cache: no table is 8, before 6");
     expect(kurgashel_message_refusal(NULL, 0) == 4 && !kurgashel_name_end(NULL, 0, 0) && !kurgashel_name_length(NULL, 0, 0), "reader: no message");
-    expect(kurgashel_message(NULL, 0).refusal == 4 && !kurgashel_question(NULL, 0, 0).found && !kurgashel_record(NULL, 0, 0).found && !kurgashel_name(NULL, 0, 0).length, "reader: nothing in it");
+    expect(kurgashel_message(NULL, 0).refusal == 4 && !kurgashel_question(NULL, 0, 0).found && !kurgashel_record(NULL, 0, 0).found && !kurgashel_name(NULL, 0, 0).length && !kurgashel_name_into(NULL, 0, 0, NULL, 0).end && !kurgashel_fields(NULL, 0, 0).found, "reader: nothing in it");
 }
 
 static void setups(void) {

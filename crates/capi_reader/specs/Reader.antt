@@ -1,12 +1,15 @@
 -- What the exported functions answer. Assumes nothing: these are definitions.
 use Prim.Native.Nat.{ℕ, _-_}
-use mathlib.Core.List.{_++_}
-use lib.ListN.{length, replicate}
+use mathlib.Core.List.{List, _++_}
+use mathlib.Core.Bool.{cond}
+use lib.ListN.{length, drop, replicate}
+use lib.Dec.{leb}
 use Rattle.wire.specs.labels.Counted.{labelsIn, firstIn}
 use Rattle.wire.specs.names.Names.{Reading, name, malformed}
 use Rattle.wire.specs.declared.message.MessageRead.{MessageRead}
 use Rattle.wire.specs.declared.message.MessageRead.the-variants as m
 use Rattle.capi_reader.specs.declared.Name.{Name}
+use Rattle.capi_reader.specs.declared.NameSpan.{NameSpan}
 use Rattle.capi_reader.specs.declared.Sections.{Sections}
 
 -- for a name 0 stands for a malformed one, since no name ends at offset 0 or has no byte
@@ -23,6 +26,20 @@ abbrev pub nameOf : Reading → Name
 nameOf (name bs e) =
     record { length = length bs; labels = labelsIn bs; «first_label» = firstIn bs; bytes = bs ++ replicate (255 - length bs) 0 }
 nameOf malformed = record { length = 0; labels = 0; «first_label» = 0; bytes = replicate 255 0 }
+
+-- the span of a name that is written into so many bytes; all is 0 where it is malformed or longer
+abbrev pub noSpan : NameSpan
+noSpan = record { end = 0; length = 0; labels = 0; «first_label» = 0 }
+
+abbrev pub spanWithin : ℕ → Reading → NameSpan
+spanWithin room (name bs e) =
+    cond (leb (length bs) room) (record { end = e; length = length bs; labels = labelsIn bs; «first_label» = firstIn bs }) noSpan
+spanWithin room malformed = noSpan
+
+-- a buffer with a name over its first bytes; as it was where the name is malformed or longer
+abbrev pub withName : List ℕ → Reading → List ℕ
+withName out (name bs e) = cond (leb (length bs) (length out)) (bs ++ drop (length bs) out) out
+withName out malformed = out
 
 -- where the parts of a message lie; all is 0 but the refusal where there is one
 abbrev pub sectionsOf : MessageRead → Sections

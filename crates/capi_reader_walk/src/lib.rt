@@ -5,7 +5,7 @@ ghost use mathlib.Core.Path.{_≡_};
 ghost use Rattle.wire.specs.message.Layout.{questionRead, recordRead};
 ghost use Rattle.wire.specs.nsec.Nsec.{names};
 ghost use Rattle.wire.specs.rdata.Readers.{stringAt};
-ghost use Rattle.capi_reader_walk.specs.Walked.{walkedQuestion, walkedRecord};
+ghost use Rattle.capi_reader_walk.specs.Walked.{walkedQuestion, walkedRecord, fieldsAt};
 ghost use Rattle.capi_reader_walk.specs.Parts.{addressOf, addressAt, srvOf, srvAt, nsecAt, stringOf};
 
 // A question: whether one is there, where its name starts, how long that is uncompressed, how many labels it has and how long the first is; its type and
@@ -34,6 +34,18 @@ pub struct Record {
     pub owner_length: usize,
     pub owner_labels: usize,
     pub owner_first_label: usize,
+    pub rdata: usize,
+    pub rdata_length: usize,
+    pub next: usize,
+}
+
+// A record without its owner: whether one is there, its type, class and TTL, where its rdata starts and how long it is, and the offset past it.
+#[repr(C)]
+pub struct Fields {
+    pub found: bool,
+    pub rtype: u16,
+    pub class: u16,
+    pub ttl: u32,
     pub rdata: usize,
     pub rdata_length: usize,
     pub next: usize,
@@ -144,6 +156,57 @@ pub extern "C" fn kurgashel_record(message: &[u8], at: usize) -> Record
             rdata_length: 0,
             next: 0,
         },
+    }
+}
+
+// What stands behind the owner of a record, which ends at an offset. The owner is not read, so that one that was read is not followed again.
+#[no_mangle]
+pub extern "C" fn kurgashel_fields(message: &[u8], end: usize) -> Fields
+    ensures { λ r. ⌜ r ≡ fieldsAt (now (message .entry)) end ⌝ }
+{
+    if message.len() < end {
+        return Fields {
+            found: false,
+            rtype: 0,
+            class: 0,
+            ttl: 0,
+            rdata: 0,
+            rdata_length: 0,
+            next: 0,
+        };
+    }
+    if message.len() - end < 10 {
+        return Fields {
+            found: false,
+            rtype: 0,
+            class: 0,
+            ttl: 0,
+            rdata: 0,
+            rdata_length: 0,
+            next: 0,
+        };
+    }
+    let rdata_length = wire::octets::be16(message, end + 8) as usize;
+    let rdata = end + 10;
+    if message.len() - rdata < rdata_length {
+        return Fields {
+            found: false,
+            rtype: 0,
+            class: 0,
+            ttl: 0,
+            rdata: 0,
+            rdata_length: 0,
+            next: 0,
+        };
+    }
+    Fields {
+        found: true,
+        rtype: wire::octets::be16(message, end),
+        class: wire::octets::be16(message, end + 2),
+        ttl: wire::message::counted_ttl(wire::octets::be32(message, end + 4)),
+        rdata,
+        rdata_length,
+        next: rdata + rdata_length,
     }
 }
 
