@@ -1,5 +1,6 @@
 //! The packet reader.
 
+use std::mem::MaybeUninit;
 use std::net::{Ipv4Addr, Ipv6Addr};
 use std::ops::Range;
 
@@ -43,6 +44,17 @@ struct RecordAt {
 }
 
 #[repr(C)]
+struct FieldsAt {
+    found: bool,
+    rtype: u16,
+    class: u16,
+    ttl: u32,
+    rdata: usize,
+    rdata_length: usize,
+    next: usize,
+}
+
+#[repr(C)]
 struct AddressBytes {
     length: usize,
     bytes: [u8; 16],
@@ -80,14 +92,24 @@ struct StringAt {
     next: usize,
 }
 
-/// An uncompressed name.
 #[repr(C)]
-#[derive(Clone, Copy)]
-pub struct Name {
+struct NameSpan {
+    end: usize,
     length: usize,
     labels: usize,
     first_label: usize,
-    bytes: [u8; 255],
+}
+
+/// The most bytes that a name has.
+const MOST_NAME: usize = 255;
+
+/// An uncompressed name.
+#[derive(Clone, Copy)]
+pub struct Name {
+    length: u8,
+    labels: u8,
+    first_label: u8,
+    bytes: [u8; MOST_NAME],
 }
 
 extern "C" {
@@ -95,6 +117,7 @@ extern "C" {
     fn kurgashel_message_refusal(message: *const u8, message_bytes: usize) -> u8;
     fn kurgashel_question(message: *const u8, message_bytes: usize, at: usize) -> QuestionAt;
     fn kurgashel_record(message: *const u8, message_bytes: usize, at: usize) -> RecordAt;
+    fn kurgashel_fields(message: *const u8, message_bytes: usize, end: usize) -> FieldsAt;
     fn kurgashel_address(
         message: *const u8,
         message_bytes: usize,
@@ -117,7 +140,13 @@ extern "C" {
     ) -> NsecAt;
     fn kurgashel_nsec_names(block: *const u8, block_bytes: usize, rtype: u16) -> bool;
     fn kurgashel_txt_string(txt: *const u8, txt_bytes: usize, at: usize) -> StringAt;
-    fn kurgashel_name(message: *const u8, message_bytes: usize, at: usize) -> Name;
+    fn kurgashel_name_into(
+        message: *const u8,
+        message_bytes: usize,
+        at: usize,
+        out: *mut u8,
+        out_bytes: usize,
+    ) -> NameSpan;
     fn kurgashel_name_end(message: *const u8, message_bytes: usize, at: usize) -> usize;
     fn kurgashel_name_length(message: *const u8, message_bytes: usize, at: usize) -> usize;
 }
@@ -149,20 +178,21 @@ pub struct Question {
     pub class: u16,
 }
 
-/// A record.
+/// A record. Type and class are apart in memory: they are written there one by one, and are then not waited for to be copied as one number.
+#[repr(C)]
 pub struct Record<'a> {
+    /// What the rdata says.
+    pub data: Data<'a>,
     /// Its owner.
     pub owner: Name,
     /// Its type.
     pub rtype: u16,
-    /// Its class as on the wire, with the cache flush bit.
-    pub class: u16,
     /// Its TTL as it counts: 0 where the top bit is set.
     pub ttl: u32,
+    /// Its class as on the wire, with the cache flush bit.
+    pub class: u16,
     /// Its rdata, a part of the message.
     pub rdata: &'a [u8],
-    /// What the rdata says.
-    pub data: Data<'a>,
 }
 
 /// What the rdata of a record says.
@@ -222,56 +252,92 @@ const NSEC: u16 = 47;
 impl Name {
     /// The name at an offset of a message, uncompressed, if it is well formed.
     pub fn read(message: &[u8], at: usize) -> Option<Name> {
-        // SAFETY: the pointer and the length are those of one slice, which is only read; so in all calls below.
-        let name = unsafe { kurgashel_name(message.as_ptr(), message.len(), at) };
-        (name.length != 0).then_some(name)
+        let mut name = Name::none();
+        (name.fill(message, at) != 0).then_some(name)
     }
 
     /// Its bytes on the wire: each label behind its length byte, and a zero byte.
     pub fn as_bytes(&self) -> &[u8] {
-        &self.bytes[..self.length]
+        &self.bytes[..self.length.into()]
     }
 
     /// How many labels it has: 0 to 127, and 0 for the root alone.
     pub fn labels(&self) -> usize {
-        self.labels
+        self.labels.into()
     }
 
     /// Its first label, such as the instance in the name of one: 1 to 63 bytes, and none for the root.
     pub fn first_label(&self) -> &[u8] {
-        &self.bytes[1..1 + self.first_label]
+        &self.as_bytes()[1..1 + usize::from(self.first_label)]
+    }
+
+    /// No name yet: its bytes are zeros, over which one is written.
+    #[inline]
+    fn none() -> Name {
+        Name {
+            length: 0,
+            labels: 0,
+            first_label: 0,
+            bytes: [0; MOST_NAME],
+        }
+    }
+
+    /// Makes it the name at an offset of a message, in place, and gives the offset past it: 0 where that is malformed, and it is then no name.
+    #[inline]
+    fn fill(&mut self, message: &[u8], at: usize) -> usize {
+        let out = self.bytes.as_mut_ptr();
+        // SAFETY: each pointer and length are those of one slice, and the message is only read; so in all calls below.
+        let span =
+            unsafe { kurgashel_name_into(message.as_ptr(), message.len(), at, out, MOST_NAME) };
+        self.length = span.length as u8;
+        self.labels = span.labels as u8;
+        self.first_label = span.first_label as u8;
+        span.end
     }
 }
 
 impl Srv {
     /// The SRV in the rdata that is a part of a message, if it is well formed.
     pub fn read(message: &[u8], rdata: Range<usize>) -> Option<Srv> {
+        let (mut srv, target) = Srv::found(message, rdata)?;
+        (srv.target.fill(message, target) != 0).then_some(srv)
+    }
+
+    /// The same without its target, and where that starts.
+    #[inline]
+    fn found(message: &[u8], rdata: Range<usize>) -> Option<(Srv, usize)> {
         let (bytes, length) = (message.as_ptr(), rdata.len());
         let srv = unsafe { kurgashel_srv(bytes, message.len(), rdata.start, length) };
-        if !srv.found {
-            return None;
-        }
-        Some(Srv {
+        let found = Srv {
             priority: srv.priority,
             weight: srv.weight,
             port: srv.port,
-            target: Name::read(message, srv.target)?,
-        })
+            target: Name::none(),
+        };
+        srv.found.then_some((found, srv.target))
     }
 }
 
 impl<'a> Nsec<'a> {
     /// The NSEC in the rdata that is a part of a message, for the owner at an offset, if it is of the restricted kind.
     pub fn read(message: &'a [u8], owner: usize, rdata: Range<usize>) -> Option<Nsec<'a>> {
+        let (mut nsec, next) = Nsec::found(message, owner, rdata)?;
+        (nsec.next.fill(message, next) != 0).then_some(nsec)
+    }
+
+    /// The same without its next name, and where that starts.
+    #[inline]
+    fn found(message: &'a [u8], owner: usize, rdata: Range<usize>) -> Option<(Nsec<'a>, usize)> {
         let (bytes, length) = (message.as_ptr(), rdata.len());
         let nsec = unsafe { kurgashel_nsec(bytes, message.len(), owner, rdata.start, length) };
         if !nsec.found {
             return None;
         }
-        Some(Nsec {
-            next: Name::read(message, nsec.next)?,
+        let found = Nsec {
+            next: Name::none(),
             block: &message[nsec.block..nsec.block + nsec.block_length],
-        })
+        };
+        Some((found, nsec.next))
     }
 
     /// Whether it says that the name has records of a type. A type that it does not name does not exist there.
@@ -314,19 +380,57 @@ impl<'a> Data<'a> {
         owner: usize,
         rdata: Range<usize>,
     ) -> Option<Data<'a>> {
-        let part = message.get(rdata.clone())?;
-        Some(match rtype {
-            A => Data::A(address::<4>(rtype, message, rdata)?.into()),
-            AAAA => Data::Aaaa(address::<16>(rtype, message, rdata)?.into()),
-            PTR if name_end(message, rdata.start) == Some(rdata.end) => {
-                Data::Ptr(Name::read(message, rdata.start)?)
+        let mut data = Data::Other(&[]);
+        data.fill(rtype, message, owner, rdata).then_some(data)
+    }
+
+    /// Makes it the same, in place, if the rdata is as its type asks; whether it is.
+    fn fill(&mut self, rtype: u16, message: &'a [u8], owner: usize, rdata: Range<usize>) -> bool {
+        let Some(part) = message.get(rdata.clone()) else {
+            return false;
+        };
+        *self = Data::Other(part);
+        match rtype {
+            A => match address::<4>(rtype, message, rdata) {
+                Some(address) => *self = Data::A(address.into()),
+                None => return false,
+            },
+            AAAA => match address::<16>(rtype, message, rdata) {
+                Some(address) => *self = Data::Aaaa(address.into()),
+                None => return false,
+            },
+            PTR => {
+                *self = Data::Ptr(Name::none());
+                return self.fill_target(message, rdata.start) == rdata.end;
             }
-            PTR => return None,
-            TXT => Data::Txt(Strings::of(part)),
-            SRV => Data::Srv(Srv::read(message, rdata)?),
-            NSEC => Nsec::read(message, owner, rdata).map_or(Data::Other(part), Data::Nsec),
-            _ => Data::Other(part),
-        })
+            TXT => *self = Data::Txt(Strings::of(part)),
+            SRV => {
+                let Some((srv, target)) = Srv::found(message, rdata) else {
+                    return false;
+                };
+                *self = Data::Srv(srv);
+                return self.fill_target(message, target) != 0;
+            }
+            NSEC => {
+                if let Some((nsec, next)) = Nsec::found(message, owner, rdata) {
+                    *self = Data::Nsec(nsec);
+                    return self.fill_target(message, next) != 0;
+                }
+            }
+            _ => {}
+        }
+        true
+    }
+
+    /// Makes the name in it the one at an offset, and gives the offset past that, or 0.
+    #[inline]
+    fn fill_target(&mut self, message: &[u8], at: usize) -> usize {
+        match self {
+            Data::Ptr(name) => name.fill(message, at),
+            Data::Srv(srv) => srv.target.fill(message, at),
+            Data::Nsec(nsec) => nsec.next.fill(message, at),
+            _ => 0,
+        }
     }
 
     /// What the rdata of a type says in which names are uncompressed, such as that of a cache. The owner of an NSEC is taken to be its next name.
@@ -369,28 +473,28 @@ impl<'a> Message<'a> {
     }
 
     /// The questions.
+    #[inline]
     pub fn questions(&self) -> impl Iterator<Item = Question> + '_ {
-        let mut at = self.sections.at[0];
-        (0..self.sections.counts[0]).map_while(move |_| {
-            let q = unsafe { kurgashel_question(self.bytes.as_ptr(), self.bytes.len(), at) };
-            at = q.next;
-            q.found.then(|| Question {
-                name: self.name(q.name),
-                rtype: q.rtype,
-                class: q.class,
-            })
-        })
+        Walk {
+            message: self.bytes,
+            at: self.sections.at[0],
+            left: self.sections.counts[0],
+            item: MaybeUninit::uninit(),
+            read: read_question,
+        }
     }
 
     /// The records of a section.
+    #[inline]
     pub fn records(&self, section: Section) -> impl Iterator<Item = Record<'a>> + '_ {
         let index = section as usize + 1;
-        let mut at = self.sections.at[index];
-        (0..self.sections.counts[index]).map_while(move |_| {
-            let r = unsafe { kurgashel_record(self.bytes.as_ptr(), self.bytes.len(), at) };
-            at = r.next;
-            r.found.then(|| self.record(&r))?
-        })
+        Walk {
+            message: self.bytes,
+            at: self.sections.at[index],
+            left: self.sections.counts[index],
+            item: MaybeUninit::uninit(),
+            read: read_record,
+        }
     }
 
     /// Where the records of a section start, and where their rdata lies.
@@ -411,21 +515,71 @@ impl<'a> Message<'a> {
     pub(crate) fn bytes(&self) -> &'a [u8] {
         self.bytes
     }
+}
 
-    fn record(&self, r: &RecordAt) -> Option<Record<'a>> {
-        let rdata = r.rdata..r.rdata + r.rdata_length;
-        Some(Record {
-            owner: self.name(r.owner),
-            rtype: r.rtype,
-            class: r.class,
-            ttl: r.ttl,
-            rdata: &self.bytes[rdata.clone()],
-            data: Data::read(r.rtype, self.bytes, r.owner, rdata)?,
-        })
+/// A section that is walked: `left` items from `at` on. Each is read into one place, so that its names are expanded where they stay, and copied from there
+/// once. `read` says whether one was found, and moves `at` past it.
+struct Walk<'a, T, R> {
+    message: &'a [u8],
+    at: usize,
+    left: u16,
+    item: MaybeUninit<T>,
+    read: R,
+}
+
+impl<'a, T, R> Iterator for Walk<'a, T, R>
+where
+    R: Fn(&'a [u8], &mut usize, &mut MaybeUninit<T>) -> bool,
+{
+    type Item = T;
+
+    #[inline]
+    fn next(&mut self) -> Option<T> {
+        if self.left == 0 {
+            return None;
+        }
+        self.left -= 1;
+        if !(self.read)(self.message, &mut self.at, &mut self.item) {
+            return None;
+        }
+        // SAFETY: it was read just now, and nothing of it is dropped.
+        Some(unsafe { self.item.assume_init_read() })
     }
+}
 
-    fn name(&self, at: usize) -> Name {
-        unsafe { kurgashel_name(self.bytes.as_ptr(), self.bytes.len(), at) }
+fn read_question(message: &[u8], at: &mut usize, item: &mut MaybeUninit<Question>) -> bool {
+    let q = unsafe { kurgashel_question(message.as_ptr(), message.len(), *at) };
+    if !q.found {
+        return false;
+    }
+    let question = item.write(Question {
+        name: Name::none(),
+        rtype: q.rtype,
+        class: q.class,
+    });
+    question.name.fill(message, q.name);
+    *at = q.next;
+    true
+}
+
+fn read_record<'a>(message: &'a [u8], at: &mut usize, item: &mut MaybeUninit<Record<'a>>) -> bool {
+    let (start, record) = (*at, item.as_mut_ptr());
+    // SAFETY: of the record each field is written before it is read.
+    unsafe {
+        (&raw mut (*record).owner).write(Name::none());
+        let end = (*record).owner.fill(message, start);
+        let fields = kurgashel_fields(message.as_ptr(), message.len(), end);
+        if end == 0 || !fields.found {
+            return false;
+        }
+        let rdata = fields.rdata..fields.rdata + fields.rdata_length;
+        *at = fields.next;
+        (*record).rtype = fields.rtype;
+        (*record).ttl = fields.ttl;
+        (*record).class = fields.class;
+        (&raw mut (*record).rdata).write(&message[rdata.clone()]);
+        (&raw mut (*record).data).write(Data::Other(&[]));
+        (*record).data.fill(fields.rtype, message, start, rdata)
     }
 }
 
