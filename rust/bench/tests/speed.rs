@@ -6,7 +6,7 @@ use std::sync::{Mutex, PoisonError};
 
 use bench::caches::Caches;
 use bench::packets::{self, MOST_MESSAGE};
-use bench::{captured, timing};
+use bench::{captured, peers, timing};
 
 /// Only one of these tests is timed at once.
 static ALONE: Mutex<()> = Mutex::new(());
@@ -28,6 +28,20 @@ fn the_mix() {
 #[test]
 fn messages_of_real_responders() {
     within_twice_the_ordinary_reader(&captured::all());
+}
+
+/// Messages taken apart, within twice the ordinary reader's time.
+#[test]
+fn messages_taken_apart() {
+    let _alone = ALONE.lock().unwrap_or_else(PoisonError::into_inner);
+    let mut messages = captured::all();
+    messages.extend([packets::address(), packets::service(), packets::full()]);
+    let times = timing::over_all(&messages, &peers::APART);
+    let [ours, ordinary] = [times[0], times[1]];
+    assert!(
+        ours <= 2.0 * ordinary,
+        "{ours:.0} ns a message, the ordinary reader's {ordinary:.0} ns"
+    );
 }
 
 #[test]

@@ -178,8 +178,9 @@ pub struct Question {
     pub class: u16,
 }
 
-/// A record. Type and class are apart in memory: they are written there one by one, and are then not waited for to be copied as one number.
-#[repr(C)]
+/// A record.
+// It lies in whole cache lines, by which it is copied; and type and class, which are read one by one, lie apart, so that neither is waited for to copy both.
+#[repr(C, align(64))]
 pub struct Record<'a> {
     /// What the rdata says.
     pub data: Data<'a>,
