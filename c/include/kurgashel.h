@@ -424,8 +424,8 @@ struct kurgashel_name {
 };
 struct kurgashel_name kurgashel_name(const uint8_t *message, size_t message_bytes, size_t at);
 
-/* The same name, written over the first bytes of `out`, the others left as they are: the offset past it in the message, its uncompressed length, at most 255, and
- * its labels. All is 0, and nothing is written, where it is malformed or longer than `out`. A name is so expanded where it is to stay, and read once. */
+/* The same name, written over the first bytes of `out`, the others left as they are: the offset past it in the message, its uncompressed length, at most
+ * 255, and its labels. All is 0, and nothing is written, where it is malformed or longer than `out`. So a name is expanded where it is to stay. */
 struct kurgashel_name_span {
     size_t end, length, labels, first_label;
 };

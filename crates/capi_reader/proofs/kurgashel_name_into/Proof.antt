@@ -5,7 +5,7 @@ use native.Mathlib.Omega.{arith}
 use lib.ListN.{length}
 use lib.Seq.{sets}
 use Rattle.wire.specs.names.Names.{nameAt}
-use Rattle.capi_reader.proofs.InRuns.{into-short, into-span, into-runs, into-expanded, into-bad}
+use Rattle.capi_reader.proofs.Into.{into-short, into-span, into-runs, into-expanded, into-bad}
 use borrow.Author.Needs.{needs}
 use Rattle.capi_reader.proofs.kurgashel_name_into.Statement.{statement}
 use Rattle.capi_reader.proofs.kurgashel_name_into.Tie as tie
