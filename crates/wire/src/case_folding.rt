@@ -2,6 +2,7 @@
 ghost use mathlib.Core.Path.{_≡_};
 ghost use Prim.Native.Nat.{ℕ, _+_, _<_, _≤_};
 ghost use lib.ListN.{length, getD, drop};
+ghost use lib.Dec.{eqb};
 ghost use Rattle.wire.specs.case_folding.Fold.{lower, sameName, eightAt};
 
 // A byte with an ASCII capital letter made small.
@@ -50,6 +51,16 @@ fn same_front(a: &[u8], b: &[u8]) -> usize
     i
 }
 
+// Whether two bytes are the same, ASCII letters folded. Most are the same unfolded, and that is tested first.
+fn same_letter(x: u8, y: u8) -> bool
+    ensures { λ r. ⌜ r ≡ eqb (lower x) (lower y) ⌝ }
+{
+    if x == y {
+        return true;
+    }
+    lowered(x) == lowered(y)
+}
+
 // Whether two uncompressed names are equal. The lengths are compared before any byte is, and a byte is folded from the first eight on that are not the same.
 pub fn same_name(a: &[u8], b: &[u8]) -> bool
     ensures { λ r. ⌜ r ≡ sameName (now (a .entry)) (now (b .entry)) ⌝ }
@@ -59,7 +70,7 @@ pub fn same_name(a: &[u8], b: &[u8]) -> bool
     }
     let mut i = same_front(a, b);
     while i < a.len() {
-        if lowered(a[i]) != lowered(b[i]) {
+        if !same_letter(a[i], b[i]) {
             return false;
         }
         i += 1;

@@ -4,6 +4,7 @@ use mathlib.Core.List.{List}
 use Prim.Native.Nat.{ℕ, _+_, _*_, _<_, _≤_}
 use native.Mathlib.Omega.{arith}
 use lib.ListN.{length, getD, drop}
+use borrow.Author.Tests.{eq-eqb}
 use Rattle.wire.specs.case_folding.Fold.{lower, sameName, eightAt}
 use Rattle.wire.proofs.case_folding.Same.{turn-agree}
 
@@ -15,7 +16,7 @@ module _ (a b : List ℕ) (fa : (k : ℕ) → getD a k 0 < 256) (fb : (k : ℕ) 
   step : (i j : ℕ) → i < length a → i < length b → getD a i 0 ≡ getD b i 0 → i + 1 ≡ j
       → sameName a b ≡ sameName (drop i a) (drop i b) → sameName a b ≡ sameName (drop j a) (drop j b)
   step i j h k e n inv =
-      subst (λ (m : ℕ). sameName a b ≡ sameName (drop m a) (drop m b)) n (turn-agree a b i _ _ h k refl refl inv (ap lower e))
+      subst (λ (m : ℕ). sameName a b ≡ sameName (drop m a) (drop m b)) n (turn-agree a b i h k inv (eq-eqb _ _ (ap lower e)))
 
   pub past8 : (i : ℕ) → i + 8 ≤ length a → i + 8 ≤ length b → eightAt a i ≡ eightAt b i
       → sameName a b ≡ sameName (drop i a) (drop i b) → sameName a b ≡ sameName (drop (i + 8) a) (drop (i + 8) b)

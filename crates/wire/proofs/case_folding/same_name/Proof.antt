@@ -1,4 +1,5 @@
 use borrow.Author.Needs.{needs}
+use borrow.Author.Tests.{not-true, not-false}
 use native.Mathlib.Omega.{arith}
 use mathlib.Core.Path.{_≡_, refl, sym, ap, _∙_}
 use Prim.Native.Nat.{ℕ, _≤_, _-_}
@@ -10,8 +11,8 @@ use Rattle.wire.proofs.case_folding.same_name.Statement.{statement}
 use Rattle.wire.proofs.case_folding.same_name.Tie as tie
 use Rattle.wire.proofs.case_folding.same_name.Reads as reads
 use Rattle.wire.proofs.case_folding.same_name.Lts as lts
-use Rattle.wire.proofs.case_folding.lowered.Reads as lowered-reads
 use Rattle.wire.proofs.case_folding.same_front.Reads as same-front-reads
+use Rattle.wire.proofs.case_folding.same_letter.Reads as same-letter-reads
 
 abbrev Inv-loop : tie.InvT-loop
 Inv-loop a b i₀ i = (i ≤ length a) × (sameName a b ≡ sameName (drop i a) (drop i b))
@@ -28,20 +29,17 @@ same-front-requires c κs = search needs
 loop-holds : tie.Need-loop-holds Inv-loop μ-loop
 loop-holds c = (c .same-front .ensures .0, c .same-front .ensures .1)
 
-shared-slice-read-lowered : tie.Need-shared-slice-read-lowered Inv-loop μ-loop
-shared-slice-read-lowered c = omega arith
+shared-slice-read-same-letter : tie.Need-shared-slice-read-same-letter Inv-loop μ-loop
+shared-slice-read-same-letter c = omega arith
 
-lowered-requires : tie.Need-lowered-requires Inv-loop μ-loop
-lowered-requires c κs = search needs
+shared-slice-read-same-letter-2 : tie.Need-shared-slice-read-same-letter-2 Inv-loop μ-loop
+shared-slice-read-same-letter-2 c = omega arith
 
-shared-slice-read-lowered-2 : tie.Need-shared-slice-read-lowered-2 Inv-loop μ-loop
-shared-slice-read-lowered-2 c = omega arith
-
-lowered-requires-2 : tie.Need-lowered-requires-2 Inv-loop μ-loop
-lowered-requires-2 c κs = search needs
+same-letter-requires : tie.Need-same-letter-requires Inv-loop μ-loop
+same-letter-requires c κs = search needs
 
 returns-2 : tie.Need-returns-2 Inv-loop μ-loop
-returns-2 c = turn-differ _ _ _ _ _ (omega arith) (omega arith) (c .before .before .before .lowered .ensures) (c .before .lowered2 .ensures) (c .before .before .before .before .before .before .loop .inv .1) (c .if2 .taken)
+returns-2 c = turn-differ _ _ _ (omega arith) (omega arith) (c .before .before .before .before .before .loop .inv .1) (sym (c .before .same-letter .ensures) ∙ not-true _ (c .if2 .taken))
 
 add-i : tie.Need-add-i Inv-loop μ-loop
 add-i c = omega arith
@@ -50,7 +48,7 @@ loop-less : tie.Need-loop-less Inv-loop μ-loop
 loop-less c = omega arith
 
 loop-again : tie.Need-loop-again Inv-loop μ-loop
-loop-again c = (omega arith, turn-agree _ _ _ _ _ (omega arith) (omega arith) (c .before .before .before .lowered .ensures) (c .before .lowered2 .ensures) (c .before .before .before .before .before .before .loop .inv .1) (c .if2 .left))
+loop-again c = (omega arith, turn-agree _ _ _ (omega arith) (omega arith) (c .before .before .before .before .before .loop .inv .1) (sym (c .before .same-letter .ensures) ∙ not-false _ (c .if2 .left)))
 
 returns-3 : tie.Need-returns-3 Inv-loop μ-loop
 returns-3 c =
@@ -66,10 +64,9 @@ same-name-spec =
     returns
     same-front-requires
     loop-holds
-    shared-slice-read-lowered
-    lowered-requires
-    shared-slice-read-lowered-2
-    lowered-requires-2
+    shared-slice-read-same-letter
+    shared-slice-read-same-letter-2
+    same-letter-requires
     returns-2
     add-i
     loop-less
