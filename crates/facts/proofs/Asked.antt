@@ -9,7 +9,8 @@ use Rattle.wire.specs.message.Layout.{broken, questionAt}
 use Rattle.wire.specs.message.Readable.{readable, messageIn, questionShown}
 use Rattle.wire.specs.declared.message.QuestionAt.{QuestionAt}
 use Rattle.wire.specs.declared.message.Layout.{Layout}
-use Rattle.wire.proofs.message.Walk.{walk-done, walk-broken, walk-on, QuestionMet}
+use Rattle.wire.proofs.message.Walk.{walk-done, walk-broken, walk-on}
+use Rattle.facts.specs.Found.{QuestionSeen}
 use Rattle.claims.specs.records.Own.{has, each}
 use Rattle.claims.specs.records.Sets.{noRecord}
 use Rattle.claims.specs.holds.Holds.{union}
@@ -47,7 +48,7 @@ module _ (kind : Question → Bool) (p : List ℕ) (s : Setup) (all : Set) (n at
   unfolding some
   asked-broken e = none-more ∙ walk-broken (questionAt p) (askedIn kind s before) all n at inv e
 
-  pub asked-turn : 0 < n → (f : QuestionAt) → QuestionMet p at f → (d : Set)
+  pub asked-turn : 0 < n → (f : QuestionAt) → QuestionSeen p at f → (d : Set)
       → d ≡ cond (kind (questionShown p f)) (askedWith s (questionShown p f) before) before
       → all ≡ askedIn kind s d (readable (questionAt p) (n - 1) (f .next))
   unfolding some

@@ -1,6 +1,6 @@
 -- Steps from one record to the next that follow no pointer: of a name that is well formed, the end in place is found. Assumes nothing.
 use mathlib.Core.Path.{_≡_, refl, sym, ap, _∙_}
-use mathlib.Core.List.{List, [], _∷_}
+use mathlib.Core.List.{List, []}
 use mathlib.Core.Bool.{Bool, true, false, cond, _&&_, _||_}
 use Prim.Native.Nat.{ℕ, zero, suc, _+_, _-_, _<_, _≤_}
 use native.Mathlib.Omega.{arith}
@@ -19,7 +19,7 @@ use Rattle.wire.specs.declared.message.RecordAt.{RecordAt}
 use Rattle.wire.specs.declared.message.RecordRead.the-variants as r
 use Rattle.wire.specs.declared.name_pieces.Piece.{Piece}
 use Rattle.wire.specs.declared.name_pieces.Piece.the-variants.{Root, Label, Pointer, Bad}
-use Rattle.wire.proofs.name_pieces.Pieces.{is-root, is-label, is-pointer, piece-past}
+use Rattle.wire.proofs.name_pieces.Pieces.{is-root, is-label, is-pointer}
 use Rattle.wire.proofs.names.Rest.{read-at}
 use Rattle.wire.proofs.message.Cursor.{record-here}
 
@@ -125,7 +125,7 @@ module _ {A : Type 0} (part : ℕ → Item A) (test : A → Bool) (n at : ℕ) w
           at-item k (part at) refl (ap (λ (j : ℕ). some test (readable part j on)) (sym less) ∙ h)
 
 -- the fields of a record whose name ends at `e`
-abbrev recordMade : List ℕ → ℕ → List ℕ → ℕ → RecordAt
+abbrev pub recordMade : List ℕ → ℕ → List ℕ → ℕ → RecordAt
 recordMade p at bs e = record {
   owner = at;
   span = spanOf bs e;
@@ -137,15 +137,13 @@ recordMade p at bs e = record {
   next = e + 10 + word16 p (e + 8);
 }
 
-record-of : (p : List ℕ) (at : ℕ) (bs : List ℕ) (e : ℕ) (f : RecordAt) → recordFrom p at (name bs e) ≡ r.Found f
-    → (e + 10 ≤ length p) × (f .rtype ≡ word16 p e) × (f .next ≡ e + 10 + word16 p (e + 8))
+pub record-of : (p : List ℕ) (at : ℕ) (bs : List ℕ) (e : ℕ) (f : RecordAt) → recordFrom p at (name bs e) ≡ r.Found f
+    → (e + 10 ≤ length p) × (recordMade p at bs e ≡ f)
 record-of p at bs e f h = go (leb (e + 10) (length p)) (leb (e + 10 + word16 p (e + 8)) (length p)) refl h
   where
     go : (a b : Bool) → leb (e + 10) (length p) ≡ a → cond (a && b) (r.Found (recordMade p at bs e)) r.Malformed ≡ r.Found f
-        → (e + 10 ≤ length p) × (f .rtype ≡ word16 p e) × (f .next ≡ e + 10 + word16 p (e + 8))
-    go true true t g =
-        let same : recordMade p at bs e ≡ f = cc in
-        (leb-true _ _ t, ap (λ (y : RecordAt). y .rtype) (sym same), ap (λ (y : RecordAt). y .next) (sym same))
+        → (e + 10 ≤ length p) × (recordMade p at bs e ≡ f)
+    go true true t g = (leb-true _ _ t, cc)
     go true false t g = let z : _≡_ {A = ℕ} 0 1 = cc in absurd (omega arith)
     go false b t g = let z : _≡_ {A = ℕ} 0 1 = cc in absurd (omega arith)
 
@@ -159,6 +157,6 @@ module _ (p : List ℕ) (at end : ℕ) (past : (bs : List ℕ) (e : ℕ) → nam
       let g = record-of p at (x .owner) (k .end) (k .fields) (ap (recordFrom p at) (sym (k .named)) ∙ k .found) in
       let e : end ≡ k .end = past (x .owner) (k .end) (k .named) in (
         omega (arith, g .0, e),
-        sym (k .rtype) ∙ g .1 ∙ ap (λ (n : ℕ). word16 p n) (sym e),
-        sym (k .past) ∙ g .2 ∙ ap (λ (n : ℕ). n + 10 + word16 p (n + 8)) (sym e),
+        sym (k .rtype) ∙ sym (ap (λ (y : RecordAt). y .rtype) (g .1)) ∙ ap (λ (n : ℕ). word16 p n) (sym e),
+        sym (k .past) ∙ sym (ap (λ (y : RecordAt). y .next) (g .1)) ∙ ap (λ (n : ℕ). n + 10 + word16 p (n + 8)) (sym e),
       )

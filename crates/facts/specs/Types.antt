@@ -24,3 +24,7 @@ someType p s = some typeConflicts (readable (recordAt p) (s .count) (s .at))
 
 unfoldable pub mayConflict : List ℕ → Layout → Bool
 mayConflict p l = someType p (l .answers) || (someType p (l .authorities) || someType p (l .additionals))
+
+-- a record of a section has a type
+unfoldable pub someOf : ℕ → List ℕ → Section → Bool
+someOf rtype p s = some (λ r. eqb (r .rtype) rtype) (readable (recordAt p) (s .count) (s .at))

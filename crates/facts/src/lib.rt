@@ -1,13 +1,14 @@
 // Reads a message into facts (specification, 'A claim's life' and 'Which answers go out'): which own records are asked for and which are known, whether it
 // is a probe and whose records are later, and whether it conflicts. A section of any layout is walked as far as it is well formed; of a layout that
 // `wire::message::read_message` gave that is the message that was read.
+mod chains;
 pub mod probe;
 pub mod tiebreak;
 
 ghost use mathlib.Core.Path.{_≡_};
-ghost use mathlib.Core.Bool.{Bool, false, cond, _&&_, _||_};
+ghost use mathlib.Core.Bool.{Bool, true, false, cond, _&&_, _||_};
 ghost use mathlib.Core.List.{List};
-ghost use Prim.Native.Nat.{ℕ};
+ghost use Prim.Native.Nat.{ℕ, _≤_};
 ghost use Rattle.wire.specs.names.Names.{name, nameAt};
 ghost use Rattle.wire.specs.names.Answers.{nameIs};
 ghost use Rattle.wire.specs.Lists.{some};
@@ -17,10 +18,11 @@ ghost use Rattle.wire.specs.message.Readable.{readable, messageIn, questionShow
 ghost use Rattle.claims.specs.records.Own.{ownType, has, each};
 ghost use Rattle.own.specs.records.Records.{hasRecord};
 ghost use Rattle.facts.specs.Questions.{takesIn, asksBy, isQm, isQu};
-ghost use Rattle.facts.specs.Found.{QuestionFound, RecordFound, Long};
+ghost use Rattle.facts.specs.Found.{QuestionFound, RecordFound, LongIfKnown};
+ghost use Rattle.facts.specs.chains.Chains.{Ends, Whole, WholeLayout, Walkable};
 ghost use Rattle.facts.specs.tiebreak.Later.{isLater};
-ghost use Rattle.facts.specs.Types.{canConflict, someType, mayConflict};
-ghost use Rattle.facts.specs.Facts.{typeAsks, asksOwn, askedWith, isAskedAs, isKnown, suppresses, conflicts, conflicted, theirsLater};
+ghost use Rattle.facts.specs.Types.{canConflict, someType, mayConflict, someOf};
+ghost use Rattle.facts.specs.Facts.{typeAsks, asksOwn, askedWith, isAskedAs, suppresses, isKnown, conflicts, conflicted, theirsLater};
 ghost use Rattle.facts.specs.Facts.{responseTo, queryTo};
 ghost use Rattle.facts.specs.Facts.{isTruncated, factsOf};
 use claims::answers::Facts;
@@ -53,19 +55,23 @@ fn takes_in(asked: u16, own: u16) -> bool
     asked == ANY
 }
 
-// Whether the name of so many bytes at an offset is an own one: the lengths are compared before any pointer is followed.
-fn is_named(p: &[u8], at: usize, len: usize, own: &[u8]) -> bool
-    requires { ⌜ Long (now p) at len ⌝ }
+// Whether the name at an offset is an own one. Where its length is known, and not 0, the lengths are compared before any pointer is followed.
+fn is_named(p: &[u8], ends: &[u16], at: usize, len: usize, own: &[u8]) -> bool
+    requires { ⌜ Ends (now p) (now ends) ⌝ }
+    requires { ⌜ LongIfKnown (now p) at len ⌝ }
     ensures { λ r. ⌜ r ≡ nameIs (now (p .entry)) at (now (own .entry)) ⌝ }
 {
-    if len != own.len() {
-        return false;
+    if 0 < len {
+        if len != own.len() {
+            return false;
+        }
     }
-    wire::names::name_is(p, at, own)
+    crate::chains::name_by(p, ends, at, own)
 }
 
 // Whether a question asks for what a name has, where its type takes that in or not.
-fn asks(p: &[u8], q: wire::message::QuestionAt, name: &[u8], takes: bool) -> bool
+fn asks(p: &[u8], ends: &[u16], q: wire::message::QuestionAt, name: &[u8], takes: bool) -> bool
+    requires { ⌜ Ends (now p) (now ends) ⌝ }
     requires { ⌜ QuestionFound (now p) q ⌝ }
     ensures { λ r. ⌜ r ≡ asksBy (now (name .entry)) takes (questionShown (now (p .entry)) q) ⌝ }
 {
@@ -75,7 +81,7 @@ fn asks(p: &[u8], q: wire::message::QuestionAt, name: &[u8], takes: bool) -> boo
     if !takes_in(q.class % 32768, INTERNET) {
         return false;
     }
-    is_named(p, q.name, q.span.len, name)
+    is_named(p, ends, q.name, q.span.len, name)
 }
 
 // Whether a type asks for an own record that is there.
@@ -103,7 +109,15 @@ fn type_asks(setup: Setup, o: Own, rtype: u16) -> bool
 }
 
 // Whether an own record is among those asked for before, or a question asks for it.
-fn is_asked(p: &[u8], q: wire::message::QuestionAt, setup: Setup, asked: Set, o: Own) -> bool
+fn is_asked(
+    p: &[u8],
+    ends: &[u16],
+    q: wire::message::QuestionAt,
+    setup: Setup,
+    asked: Set,
+    o: Own,
+) -> bool
+    requires { ⌜ Ends (now p) (now ends) ⌝ }
     requires { ⌜ QuestionFound (now p) q ⌝ }
     ensures { λ r. ⌜ r ≡ has o asked || asksOwn setup o (questionShown (now (p .entry)) q) ⌝ }
 {
@@ -117,18 +131,19 @@ fn is_asked(p: &[u8], q: wire::message::QuestionAt, setup: Setup, asked: Set, o:
     let own = own::records::own_name(setup, o);
     let bytes = own.bytes;
     let len = own.len;
-    asks(p, q, wire::rdata::part(&bytes, 0, len), takes)
+    asks(p, ends, q, wire::rdata::part(&bytes, 0, len), takes)
 }
 
 // The own records asked for before, and those that a question asks for.
-fn asked_with(p: &[u8], q: wire::message::QuestionAt, setup: Setup, asked: Set) -> Set
+fn asked_with(p: &[u8], ends: &[u16], q: wire::message::QuestionAt, setup: Setup, asked: Set) -> Set
+    requires { ⌜ Ends (now p) (now ends) ⌝ }
     requires { ⌜ QuestionFound (now p) q ⌝ }
     ensures { λ r. ⌜ r ≡ askedWith setup (questionShown (now (p .entry)) q) asked ⌝ }
 {
     let mut flags = [false; RECORDS];
     let mut i = 0;
     while i < RECORDS {
-        flags[i] = is_asked(p, q, setup, asked, claims::records::record_at(i));
+        flags[i] = is_asked(p, ends, q, setup, asked, claims::records::record_at(i));
         i += 1;
     }
     claims::records::set_of(flags)
@@ -142,7 +157,14 @@ fn is_qu(class: u16) -> bool
 }
 
 // The own records asked for before by questions of each kind, and those that a question asks for.
-fn asked_too(p: &[u8], q: wire::message::QuestionAt, setup: Setup, asked: AskedFor) -> AskedFor
+fn asked_too(
+    p: &[u8],
+    ends: &[u16],
+    q: wire::message::QuestionAt,
+    setup: Setup,
+    asked: AskedFor,
+) -> AskedFor
+    requires { ⌜ Ends (now p) (now ends) ⌝ }
     requires { ⌜ QuestionFound (now p) q ⌝ }
     ensures { λ r. ⌜ (let shown : Question = questionShown (now (p .entry)) q in
         let by : Set → Set = askedWith setup shown in
@@ -153,17 +175,18 @@ fn asked_too(p: &[u8], q: wire::message::QuestionAt, setup: Setup, asked: AskedF
     if is_qu(q.class) {
         return AskedFor {
             qm,
-            qu: asked_with(p, q, setup, qu),
+            qu: asked_with(p, ends, q, setup, qu),
         };
     }
     AskedFor {
-        qm: asked_with(p, q, setup, qm),
+        qm: asked_with(p, ends, q, setup, qm),
         qu,
     }
 }
 
 // The own records that the questions ask for, by the kind of question, in one pass over them.
-fn asked_for(p: &[u8], l: wire::message::Layout, setup: Setup) -> AskedFor
+fn asked_for(p: &[u8], ends: &[u16], l: wire::message::Layout, setup: Setup) -> AskedFor
+    requires { ⌜ Walkable (now p) (now ends) l ⌝ }
     ensures { λ r. ⌜ r .qm ≡ each (λ o. isAskedAs isQm setup o (messageIn (now (p .entry)) l)) ⌝ }
     ensures { λ r. ⌜ r .qu ≡ each (λ o. isAskedAs isQu setup o (messageIn (now (p .entry)) l)) ⌝ }
 {
@@ -173,9 +196,9 @@ fn asked_for(p: &[u8], l: wire::message::Layout, setup: Setup) -> AskedFor
     let mut here = s.at;
     let mut left = s.count;
     while 0 < left {
-        match wire::message::question_at(p, here) {
+        match crate::chains::question_step(p, ends, here) {
             wire::message::QuestionRead::Found(q) => {
-                asked = asked_too(p, q, setup, asked);
+                asked = asked_too(p, ends, q, setup, asked);
                 here = q.next;
             }
             wire::message::QuestionRead::Malformed => {
@@ -190,12 +213,14 @@ fn asked_for(p: &[u8], l: wire::message::Layout, setup: Setup) -> AskedFor
 // Whether a record suppresses an own one: equal name, class, type and rdata, and twice its TTL at least the own TTL.
 fn suppresses(
     p: &[u8],
+    ends: &[u16],
     f: wire::message::RecordAt,
     name: &[u8],
     rtype: u16,
     own: &[u8],
     ttl: u32,
 ) -> bool
+    requires { ⌜ Ends (now p) (now ends) ⌝ }
     requires { ⌜ RecordFound (now p) f ⌝ }
     ensures { λ r. ⌜ r ≡ suppresses (now (name .entry)) rtype (now (own .entry)) ttl (recordShown (now (p .entry)) f) ⌝ }
 {
@@ -208,14 +233,16 @@ fn suppresses(
     if 2 * (f.ttl as u64) < ttl as u64 {
         return false;
     }
-    if !is_named(p, f.owner, f.span.len, name) {
+    if !is_named(p, ends, f.owner, f.span.len, name) {
         return false;
     }
     wire::expansion::rdata_is(p, f, own)
 }
 
-// The own records that the answers know: each own record against each answer, left at the first that suppresses it.
-fn known_in(p: &[u8], l: wire::message::Layout, setup: Setup) -> Set
+// The own records that the answers know: each own record against each answer, left at the first that suppresses it. An own record whose type none may have is
+// not looked for.
+fn known_in(p: &[u8], ends: &[u16], l: wire::message::Layout, setup: Setup) -> Set
+    requires { ⌜ Walkable (now p) (now ends) l ⌝ }
     ensures { λ r. ⌜ r ≡ each (λ o. isKnown setup o (messageIn (now (p .entry)) l)) ⌝ }
 {
     let s = l.answers;
@@ -223,21 +250,27 @@ fn known_in(p: &[u8], l: wire::message::Layout, setup: Setup) -> Set
     let mut i = 0;
     'own: while i < RECORDS {
         let o = claims::records::record_at(i);
+        let rtype = claims::records::own_type(o);
+        if !has_type(p, s, rtype) {
+            known[i] = false;
+            i += 1;
+            continue 'own;
+        }
         let name = own::records::own_name(setup, o);
         let namebytes = name.bytes;
         let namelen = name.len;
         let data = own::records::own_rdata(setup, o);
         let databytes = data.bytes;
         let datalen = data.len;
-        let rtype = claims::records::own_type(o);
         let ttl = claims::records::own_ttl(o);
         let mut here = s.at;
         let mut left = s.count;
         while 0 < left {
-            match wire::message::whole_record(p, here) {
+            match crate::chains::record_step(p, ends, here) {
                 wire::message::RecordRead::Found(f) => {
                     if suppresses(
                         p,
+                        ends,
                         f,
                         wire::rdata::part(&namebytes, 0, namelen),
                         rtype,
@@ -265,18 +298,27 @@ fn known_in(p: &[u8], l: wire::message::Layout, setup: Setup) -> Set
 }
 
 // The same; without an Answer record none is known.
-fn known_of(p: &[u8], l: wire::message::Layout, setup: Setup) -> Set
+fn known_of(p: &[u8], ends: &[u16], l: wire::message::Layout, setup: Setup) -> Set
+    requires { ⌜ Walkable (now p) (now ends) l ⌝ }
     ensures { λ r. ⌜ r ≡ each (λ o. isKnown setup o (messageIn (now (p .entry)) l)) ⌝ }
 {
     let answers = l.answers;
     if answers.count == 0 {
         return claims::records::no_record();
     }
-    known_in(p, l, setup)
+    known_in(p, ends, l, setup)
 }
 
 // Whether a record conflicts with an own one: equal name, class 1 and type, a TTL that is not 0, and other rdata.
-fn conflicts(p: &[u8], f: wire::message::RecordAt, name: &[u8], rtype: u16, own: &[u8]) -> bool
+fn conflicts(
+    p: &[u8],
+    ends: &[u16],
+    f: wire::message::RecordAt,
+    name: &[u8],
+    rtype: u16,
+    own: &[u8],
+) -> bool
+    requires { ⌜ Ends (now p) (now ends) ⌝ }
     requires { ⌜ RecordFound (now p) f ⌝ }
     ensures { λ r. ⌜ r ≡ conflicts (now (name .entry)) rtype (now (own .entry)) (recordShown (now (p .entry)) f) ⌝ }
 {
@@ -289,23 +331,32 @@ fn conflicts(p: &[u8], f: wire::message::RecordAt, name: &[u8], rtype: u16, own:
     if f.ttl == 0 {
         return false;
     }
-    if !is_named(p, f.owner, f.span.len, name) {
+    if !is_named(p, ends, f.owner, f.span.len, name) {
         return false;
     }
     !wire::expansion::rdata_is(p, f, own)
 }
 
 // Whether a record of a section conflicts with an own one.
-fn some_conflicts(p: &[u8], s: wire::message::Section, name: &[u8], rtype: u16, own: &[u8]) -> bool
+fn some_conflicts(
+    p: &[u8],
+    ends: &[u16],
+    s: wire::message::Section,
+    name: &[u8],
+    rtype: u16,
+    own: &[u8],
+) -> bool
+    requires { ⌜ Ends (now p) (now ends) ⌝ }
+    requires { ⌜ Whole (recordAt (now p)) (now ends) (s .count) (s .at) ⌝ }
     ensures { λ r. ⌜ (let test : Record → Bool = conflicts (now (name .entry)) rtype (now (own .entry)) in
         r ≡ some test (readable (recordAt (now (p .entry))) (s .count) (s .at))) ⌝ }
 {
     let mut here = s.at;
     let mut left = s.count;
     while 0 < left {
-        match wire::message::whole_record(p, here) {
+        match crate::chains::record_step(p, ends, here) {
             wire::message::RecordRead::Found(f) => {
-                if conflicts(p, f, name, rtype, own) {
+                if conflicts(p, ends, f, name, rtype, own) {
                     return true;
                 }
                 here = f.next;
@@ -320,24 +371,33 @@ fn some_conflicts(p: &[u8], s: wire::message::Section, name: &[u8], rtype: u16, 
 }
 
 // Whether a record of any section conflicts with an own one.
-fn conflicts_in(p: &[u8], l: wire::message::Layout, name: &[u8], rtype: u16, own: &[u8]) -> bool
+fn conflicts_in(
+    p: &[u8],
+    ends: &[u16],
+    l: wire::message::Layout,
+    name: &[u8],
+    rtype: u16,
+    own: &[u8],
+) -> bool
+    requires { ⌜ Walkable (now p) (now ends) l ⌝ }
     ensures { λ r. ⌜ (let test : Record → Bool = conflicts (now (name .entry)) rtype (now (own .entry)) in
         r ≡ some test (allRecords (messageIn (now (p .entry)) l))) ⌝ }
 {
     let answers = l.answers;
-    if some_conflicts(p, answers, name, rtype, own) {
+    if some_conflicts(p, ends, answers, name, rtype, own) {
         return true;
     }
     let authorities = l.authorities;
-    if some_conflicts(p, authorities, name, rtype, own) {
+    if some_conflicts(p, ends, authorities, name, rtype, own) {
         return true;
     }
     let additionals = l.additionals;
-    some_conflicts(p, additionals, name, rtype, own)
+    some_conflicts(p, ends, additionals, name, rtype, own)
 }
 
 // Whether a record of a message conflicts with an own record that the set-up has.
-fn has_conflict(p: &[u8], l: wire::message::Layout, setup: Setup, o: Own) -> bool
+fn has_conflict(p: &[u8], ends: &[u16], l: wire::message::Layout, setup: Setup, o: Own) -> bool
+    requires { ⌜ Walkable (now p) (now ends) l ⌝ }
     ensures { λ r. ⌜ r ≡ conflicted setup o (messageIn (now (p .entry)) l) ⌝ }
 {
     if !own::records::has_record(setup, o) {
@@ -351,6 +411,7 @@ fn has_conflict(p: &[u8], l: wire::message::Layout, setup: Setup, o: Own) -> boo
     let datalen = data.len;
     conflicts_in(
         p,
+        ends,
         l,
         wire::rdata::part(&namebytes, 0, namelen),
         claims::records::own_type(o),
@@ -415,6 +476,29 @@ fn some_type(p: &[u8], s: wire::message::Section) -> bool
     false
 }
 
+// Whether a record of a section may have a type, by the same steps.
+fn has_type(p: &[u8], s: wire::message::Section, rtype: u16) -> bool
+    ensures { λ r. ⌜ (r ≡ false → someOf rtype (now (p .entry)) s ≡ false) ⌝ }
+{
+    let mut here = s.at;
+    let mut left = s.count;
+    while 0 < left {
+        let past = past_labels(p, here);
+        if p.len() < past {
+            return false;
+        }
+        if p.len() - past < 10 {
+            return false;
+        }
+        if wire::octets::be16(p, past) == rtype {
+            return true;
+        }
+        here = past + 10 + wire::octets::be16(p, past + 8) as usize;
+        left -= 1;
+    }
+    false
+}
+
 // Whether a record of any section may have such a type. Where none has, there is no conflict.
 fn may_conflict(p: &[u8], l: wire::message::Layout) -> bool
     ensures { λ r. ⌜ (r ≡ false → mayConflict (now (p .entry)) l ≡ false) ⌝ }
@@ -431,11 +515,28 @@ fn may_conflict(p: &[u8], l: wire::message::Layout) -> bool
     some_type(p, additionals)
 }
 
+// Whether a message is a response of which no record can conflict.
+fn is_quiet(p: &[u8], l: wire::message::Layout) -> bool
+    ensures { λ r. ⌜ (r ≡ true → (32768 ≤ l .flags) × (mayConflict (now (p .entry)) l ≡ false)) ⌝ }
+{
+    if l.flags < 32768 {
+        return false;
+    }
+    !may_conflict(p, l)
+}
+
 // What a response says to a claim.
-fn response_to(p: &[u8], l: wire::message::Layout, setup: Setup, claim: Claim) -> Heard
+fn response_to(
+    p: &[u8],
+    ends: &[u16],
+    l: wire::message::Layout,
+    setup: Setup,
+    claim: Claim,
+) -> Heard
+    requires { ⌜ Walkable (now p) (now ends) l ⌝ }
     ensures { λ r. ⌜ r ≡ responseTo setup claim (messageIn (now (p .entry)) l) ⌝ }
 {
-    if has_conflict(p, l, setup, claims::records::first_of(claim)) {
+    if has_conflict(p, ends, l, setup, claims::records::first_of(claim)) {
         return Heard {
             probe: false,
             later: false,
@@ -445,7 +546,7 @@ fn response_to(p: &[u8], l: wire::message::Layout, setup: Setup, claim: Claim) -
     Heard {
         probe: false,
         later: false,
-        conflict: has_conflict(p, l, setup, claims::records::second_of(claim)),
+        conflict: has_conflict(p, ends, l, setup, claims::records::second_of(claim)),
     }
 }
 
@@ -461,7 +562,14 @@ fn is_later(v: crate::tiebreak::Verdict) -> bool
 }
 
 // Whether the records of a message under the name of a claim are later than its own.
-fn theirs_later(p: &[u8], l: wire::message::Layout, setup: Setup, claim: Claim) -> bool
+fn theirs_later(
+    p: &[u8],
+    ends: &[u16],
+    l: wire::message::Layout,
+    setup: Setup,
+    claim: Claim,
+) -> bool
+    requires { ⌜ Walkable (now p) (now ends) l ⌝ }
     ensures { λ r. ⌜ r ≡ theirsLater setup claim (messageIn (now (p .entry)) l) ⌝ }
 {
     let first = claims::records::first_of(claim);
@@ -480,8 +588,9 @@ fn theirs_later(p: &[u8], l: wire::message::Layout, setup: Setup, claim: Claim) 
         second: claims::records::own_type(second),
         both: own::records::has_record(setup, second),
     };
-    is_later(crate::tiebreak::tiebreak(
+    is_later(crate::tiebreak::tie_by(
         p,
+        ends,
         l,
         wire::rdata::part(&namebytes, 0, namelen),
         own,
@@ -491,21 +600,23 @@ fn theirs_later(p: &[u8], l: wire::message::Layout, setup: Setup, claim: Claim) 
 }
 
 // What a query says to a claim.
-fn query_to(p: &[u8], l: wire::message::Layout, setup: Setup, claim: Claim) -> Heard
+fn query_to(p: &[u8], ends: &[u16], l: wire::message::Layout, setup: Setup, claim: Claim) -> Heard
+    requires { ⌜ Walkable (now p) (now ends) l ⌝ }
     ensures { λ r. ⌜ r ≡ queryTo setup claim (messageIn (now (p .entry)) l) ⌝ }
 {
     let name = own::records::own_name(setup, claims::records::first_of(claim));
     let namebytes = name.bytes;
     let namelen = name.len;
     Heard {
-        probe: crate::probe::is_probe(p, l, wire::rdata::part(&namebytes, 0, namelen)),
-        later: theirs_later(p, l, setup, claim),
+        probe: crate::probe::probe_by(p, ends, l, wire::rdata::part(&namebytes, 0, namelen)),
+        later: theirs_later(p, ends, l, setup, claim),
         conflict: false,
     }
 }
 
 // The same; without an Authority record it is no probe, and nothing is later.
-fn heard_in(p: &[u8], l: wire::message::Layout, setup: Setup, claim: Claim) -> Heard
+fn heard_in(p: &[u8], ends: &[u16], l: wire::message::Layout, setup: Setup, claim: Claim) -> Heard
+    requires { ⌜ Walkable (now p) (now ends) l ⌝ }
     ensures { λ r. ⌜ r ≡ queryTo setup claim (messageIn (now (p .entry)) l) ⌝ }
 {
     let authorities = l.authorities;
@@ -516,7 +627,7 @@ fn heard_in(p: &[u8], l: wire::message::Layout, setup: Setup, claim: Claim) -> H
             conflict: false,
         };
     }
-    query_to(p, l, setup, claim)
+    query_to(p, ends, l, setup, claim)
 }
 
 // Whether the TC bit of a header's flags is set: more known answers follow.
@@ -526,49 +637,73 @@ fn is_truncated(flags: u16) -> bool
     flags / 512 % 2 == 1
 }
 
-// What the message that a layout shows says to a responder of this set-up.
-pub fn facts(p: &[u8], l: wire::message::Layout, setup: Setup) -> Facts
+// What the message that a layout shows says to a responder of this set-up, a response that may conflict or a query.
+fn facts_by(p: &[u8], ends: &[u16], l: wire::message::Layout, setup: Setup) -> Facts
+    requires { ⌜ Walkable (now p) (now ends) l ⌝ }
     ensures { λ r. ⌜ r ≡ factsOf setup (messageIn (now (p .entry)) l) ⌝ }
 {
     if 32768 <= l.flags {
-        if !may_conflict(p, l) {
-            return Facts {
-                response: true,
-                truncated: false,
-                asked: claims::records::no_record(),
-                qm: claims::records::no_record(),
-                known: claims::records::no_record(),
-                instance: Heard {
-                    probe: false,
-                    later: false,
-                    conflict: false,
-                },
-                host: Heard {
-                    probe: false,
-                    later: false,
-                    conflict: false,
-                },
-            };
-        }
         return Facts {
             response: true,
             truncated: false,
             asked: claims::records::no_record(),
             qm: claims::records::no_record(),
             known: claims::records::no_record(),
-            instance: response_to(p, l, setup, Claim::Instance),
-            host: response_to(p, l, setup, Claim::Host),
+            instance: response_to(p, ends, l, setup, Claim::Instance),
+            host: response_to(p, ends, l, setup, Claim::Host),
         };
     }
-    let asked = asked_for(p, l, setup);
+    let asked = asked_for(p, ends, l, setup);
     let qm = asked.qm;
     Facts {
         response: false,
         truncated: is_truncated(l.flags),
         asked: claims::holds::union(qm, asked.qu),
         qm,
-        known: known_of(p, l, setup),
-        instance: heard_in(p, l, setup, Claim::Instance),
-        host: heard_in(p, l, setup, Claim::Host),
+        known: known_of(p, ends, l, setup),
+        instance: heard_in(p, ends, l, setup, Claim::Instance),
+        host: heard_in(p, ends, l, setup, Claim::Host),
     }
+}
+
+// The same of a message that was read: where its chains of pointers end is noted first.
+fn noted_facts(p: &[u8], l: wire::message::Layout, setup: Setup) -> Facts
+    requires { ⌜ WholeLayout (now p) l ⌝ }
+    ensures { λ r. ⌜ r ≡ factsOf setup (messageIn (now (p .entry)) l) ⌝ }
+{
+    let mut ends = [0u16; 8972];
+    crate::chains::note_ends(p, &mut ends);
+    facts_by(p, &ends, l, setup)
+}
+
+// What the message that a layout shows says to a responder of this set-up. A message that is longer than a frame, and was read, is walked with notes.
+pub fn facts(p: &[u8], l: wire::message::Layout, setup: Setup) -> Facts
+    ensures { λ r. ⌜ r ≡ factsOf setup (messageIn (now (p .entry)) l) ⌝ }
+{
+    if is_quiet(p, l) {
+        return Facts {
+            response: true,
+            truncated: false,
+            asked: claims::records::no_record(),
+            qm: claims::records::no_record(),
+            known: claims::records::no_record(),
+            instance: Heard {
+                probe: false,
+                later: false,
+                conflict: false,
+            },
+            host: Heard {
+                probe: false,
+                later: false,
+                conflict: false,
+            },
+        };
+    }
+    if wire::message::MOST_IN_FRAME < p.len() {
+        if crate::chains::is_read(p, l) {
+            return noted_facts(p, l, setup);
+        }
+    }
+    let none = [0u16; 1];
+    facts_by(p, &none[..0], l, setup)
 }

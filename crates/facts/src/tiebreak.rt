@@ -9,6 +9,9 @@ ghost use Rattle.wire.specs.rdata.Rdata.{rdataAt};
 ghost use Rattle.wire.specs.rdata.Answers.{fits};
 ghost use Rattle.wire.specs.names.Answers.{nameIs};
 ghost use Rattle.wire.specs.message.Readable.{messageIn, recordShown};
+ghost use Rattle.wire.specs.message.Layout.{recordAt};
+ghost use Rattle.facts.specs.Found.{RecordFound};
+ghost use Rattle.facts.specs.chains.Chains.{Ends, Whole, Walkable};
 ghost use Rattle.facts.specs.tiebreak.Later.{TieRecord, numberOf, isLater, compareBytes, compareRecords, tie};
 ghost use Rattle.facts.specs.tiebreak.Lists.{tieRecord, listIn, ownRecord, ownList, theirs};
 ghost use Rattle.facts.specs.tiebreak.Counts.{countOne, countMet, countAll, noneCounted, placed, beyond};
@@ -120,25 +123,36 @@ fn count_one(v: Verdict, c: Counts) -> Counts
 // Counts with a record of the packet counted, if it is under the name.
 fn count_met(
     p: &[u8],
+    ends: &[u16],
     f: wire::message::RecordAt,
     name: &[u8],
     rtype: u16,
     own: &[u8],
     c: Counts,
 ) -> Counts
-    requires { ⌜ fits (rdataAt (now p) f) ≡ true ⌝ }
+    requires { ⌜ Ends (now p) (now ends) ⌝ }
+    requires { ⌜ RecordFound (now p) f ⌝ }
     requires { ⌜ (c .all < 65535) × (c .earlier < 65535) × (c .same < 65535) ⌝ }
     ensures { λ r. ⌜ (let isUnder : Bool = nameIs (now (p .entry)) (f .owner) (now (name .entry)) in
         r ≡ countMet isUnder (tieRecord (recordShown (now (p .entry)) f)) (ownRecord rtype (now (own .entry))) c) ⌝ }
 {
-    if wire::names::name_is(p, f.owner, name) {
+    if crate::is_named(p, ends, f.owner, f.span.len, name) {
         return count_one(compare_with_own(p, f, rtype, own), c);
     }
     c
 }
 
 // Counts of the records of a section that are under a name, against an own record.
-fn count_under(p: &[u8], s: wire::message::Section, name: &[u8], rtype: u16, own: &[u8]) -> Counts
+fn count_under(
+    p: &[u8],
+    ends: &[u16],
+    s: wire::message::Section,
+    name: &[u8],
+    rtype: u16,
+    own: &[u8],
+) -> Counts
+    requires { ⌜ Ends (now p) (now ends) ⌝ }
+    requires { ⌜ Whole (recordAt (now p)) (now ends) (s .count) (s .at) ⌝ }
     ensures { λ r. ⌜ r ≡ countAll (ownRecord rtype (now (own .entry))) (listIn (now (name .entry)) (now (p .entry)) s) noneCounted ⌝ }
 {
     let mut c = Counts {
@@ -149,9 +163,9 @@ fn count_under(p: &[u8], s: wire::message::Section, name: &[u8], rtype: u16, own
     let mut here = s.at;
     let mut left = s.count;
     while 0 < left {
-        match wire::message::whole_record(p, here) {
+        match crate::chains::record_step(p, ends, here) {
             wire::message::RecordRead::Found(f) => {
-                c = count_met(p, f, name, rtype, own, c);
+                c = count_met(p, ends, f, name, rtype, own, c);
                 here = f.next;
             }
             wire::message::RecordRead::Malformed => {
@@ -190,10 +204,19 @@ fn past_own(k: u16, c: Counts) -> Verdict
 }
 
 // The tiebreak with an own list of one record.
-fn against_one(p: &[u8], s: wire::message::Section, name: &[u8], rtype: u16, own: &[u8]) -> Verdict
+fn against_one(
+    p: &[u8],
+    ends: &[u16],
+    s: wire::message::Section,
+    name: &[u8],
+    rtype: u16,
+    own: &[u8],
+) -> Verdict
+    requires { ⌜ Ends (now p) (now ends) ⌝ }
+    requires { ⌜ Whole (recordAt (now p)) (now ends) (s .count) (s .at) ⌝ }
     ensures { λ r. ⌜ r ≡ tie (listIn (now (name .entry)) (now (p .entry)) s) (ownRecord rtype (now (own .entry)) ∷ []) ⌝ }
 {
-    let c = count_under(p, s, name, rtype, own);
+    let c = count_under(p, ends, s, name, rtype, own);
     match place(0, c) {
         Verdict::Earlier => Verdict::Earlier,
         Verdict::Same => past_own(1, c),
@@ -204,6 +227,7 @@ fn against_one(p: &[u8], s: wire::message::Section, name: &[u8], rtype: u16, own
 // The tiebreak with an own list of two records, the second not earlier than the first.
 fn against_two(
     p: &[u8],
+    ends: &[u16],
     s: wire::message::Section,
     name: &[u8],
     rtype: u16,
@@ -211,15 +235,17 @@ fn against_two(
     rtype2: u16,
     own2: &[u8],
 ) -> Verdict
+    requires { ⌜ Ends (now p) (now ends) ⌝ }
+    requires { ⌜ Whole (recordAt (now p)) (now ends) (s .count) (s .at) ⌝ }
     requires { ⌜ isLater (compareRecords (ownRecord rtype (now own)) (ownRecord rtype2 (now own2))) ≡ false ⌝ }
     ensures { λ r. ⌜ (let mine : List TieRecord = ownRecord rtype (now (own .entry)) ∷ (ownRecord rtype2 (now (own2 .entry)) ∷ []) in
         r ≡ tie (listIn (now (name .entry)) (now (p .entry)) s) mine) ⌝ }
 {
-    let c = count_under(p, s, name, rtype, own);
+    let c = count_under(p, ends, s, name, rtype, own);
     match place(0, c) {
         Verdict::Earlier => Verdict::Earlier,
         Verdict::Same => {
-            let d = count_under(p, s, name, rtype2, own2);
+            let d = count_under(p, ends, s, name, rtype2, own2);
             match place(1, d) {
                 Verdict::Earlier => Verdict::Earlier,
                 Verdict::Same => past_own(2, d),
@@ -239,6 +265,33 @@ pub struct OwnTypes {
 
 // The tiebreak: how the message's Authority records under a name stand to the own records of the claim to it. `first` and `second` are the own
 // rdata, names expanded; the second is not looked at where there is none.
+pub(crate) fn tie_by(
+    p: &[u8],
+    ends: &[u16],
+    l: wire::message::Layout,
+    name: &[u8],
+    own: OwnTypes,
+    first: &[u8],
+    second: &[u8],
+) -> Verdict
+    requires { ⌜ Walkable (now p) (now ends) l ⌝ }
+    ensures { λ r. ⌜ (let mine : List TieRecord = ownList (own .first) (now (first .entry)) (own .both) (own .second) (now (second .entry)) in
+        r ≡ tie (theirs (now (name .entry)) (messageIn (now (p .entry)) l)) mine) ⌝ }
+{
+    let s = l.authorities;
+    let a = own.first;
+    let b = own.second;
+    if !own.both {
+        return against_one(p, ends, s, name, a, first);
+    }
+    match compare_records(crate::INTERNET, a, first, crate::INTERNET, b, second) {
+        Verdict::Earlier => against_two(p, ends, s, name, a, first, b, second),
+        Verdict::Same => against_two(p, ends, s, name, a, first, b, second),
+        Verdict::Later => against_two(p, ends, s, name, b, second, a, first),
+    }
+}
+
+// The same, of any layout.
 pub fn tiebreak(
     p: &[u8],
     l: wire::message::Layout,
@@ -252,15 +305,6 @@ pub fn tiebreak(
     ensures number { λ r. ⌜ (let mine : List TieRecord = ownList (own .first) (now (first .entry)) (own .both) (own .second) (now (second .entry)) in
         numberOf r ≡ numberOf (tie (theirs (now (name .entry)) (messageIn (now (p .entry)) l)) mine)) ⌝ }
 {
-    let s = l.authorities;
-    let a = own.first;
-    let b = own.second;
-    if !own.both {
-        return against_one(p, s, name, a, first);
-    }
-    match compare_records(crate::INTERNET, a, first, crate::INTERNET, b, second) {
-        Verdict::Earlier => against_two(p, s, name, a, first, b, second),
-        Verdict::Same => against_two(p, s, name, a, first, b, second),
-        Verdict::Later => against_two(p, s, name, b, second, a, first),
-    }
+    let none = [0u16; 1];
+    tie_by(p, &none[..0], l, name, own, first, second)
 }

@@ -12,11 +12,11 @@ use Rattle.facts.proofs.asked_with.Statement.{statement}
 use Rattle.facts.proofs.asked_with.Tie as tie
 
 abbrev Inv-loop : tie.InvT-loop
-Inv-loop p q setup asked flags₀ i₀ flags i =
+Inv-loop p ends q setup asked flags₀ i₀ flags i =
     (i ≤ records) × (flags ≡ filled false (λ o. has o asked || asksOwn setup o (questionShown p q)) i)
 
 abbrev μ-loop : tie.MeasureT-loop
-μ-loop p q setup asked flags₀ i₀ flags i = records - i
+μ-loop p ends q setup asked flags₀ i₀ flags i = records - i
 
 loop-holds : tie.Need-loop-holds Inv-loop μ-loop
 loop-holds c = (omega arith, none-filled false _)
@@ -39,7 +39,7 @@ loop-less c = search needs
 loop-again : tie.Need-loop-again Inv-loop μ-loop
 loop-again c = (
   omega arith,
-  let a = c .before .before .before .before .before .args in
+  let a = c .before .before .before .before .before .before .args in
       next-filled false _ _ _ _ (c .before .before .before .loop .inv .1)
       (c .is-asked .ensures ∙ ap (λ (o : Own). has o (a .asked) || asksOwn (a .setup) o (questionShown (a .p .now) (a .q)))
       (c .before .record-at .ensures)),

@@ -1,15 +1,14 @@
-use mathlib.Core.Path.{refl, sym, _∙_}
+use mathlib.Core.Path.{_∙_}
 use borrow.Author.Tests.{not-true, not-false}
 use Rattle.wire.specs.message.Readable.{questionShown}
-use Rattle.wire.proofs.message.Walk.{question-found}
-use Rattle.facts.proofs.Tests.{asks-type, asks-class, asks-name, question-long}
+use Rattle.facts.proofs.Tests.{asks-type, asks-class, asks-name}
 use borrow.Author.Needs.{needs}
 use Rattle.facts.proofs.asks.Statement.{statement}
 use Rattle.facts.proofs.asks.Tie as tie
 
 returns : tie.Need-returns
 returns c =
-    let a = c .before .before .before .args in
+    let a = c .before .before .before .before .args in
     asks-type (a .name .now) (a .takes) (questionShown (a .p .now) (a .q)) (not-true _ (c .if1 .taken))
 
 takes-in-requires : tie.Need-takes-in-requires
@@ -17,17 +16,17 @@ takes-in-requires c κs = search needs
 
 returns-2 : tie.Need-returns-2
 returns-2 c =
-    let a = c .before .before .before .before .before .before .args in
+    let a = c .before .before .before .before .before .before .before .args in
     asks-class (a .name .now) (a .takes) (questionShown (a .p .now) (a .q)) _ (c .before .takes-in .ensures) (not-true _ (c .if2 .taken))
 
 is-named-requires : tie.Need-is-named-requires
-is-named-requires c κs = question-long _ _ _ (c .before .before .before .before .before .before .pre .1)
+is-named-requires c κs = (c .before .before .before .before .before .before .before .pre .0, c .before .before .before .before .before .before .before .pre .1 .1 .long)
 
 returns-3 : tie.Need-returns-3
 returns-3 c =
-    let b = c .before .before .before .before .before .before .before in
+    let b = c .before .before .before .before .before .before .before .before in
     let a = b .args in
-    let m = question-found (a .p .now) (b .pre .0) _ (sym (b .pre .1)) (a .q) refl in
+    let m = b .pre .1 .1 in
     asks-name (a .name .now) (a .takes) (questionShown (a .p .now) (a .q)) (not-false _ (c .before .before .before .before .if1 .left)) _
     (c .before .before .takes-in .ensures) (not-false _ (c .before .if2 .left)) _ (c .is-named .ensures ∙ m .named (a .name .now))
 

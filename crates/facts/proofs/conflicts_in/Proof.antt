@@ -4,17 +4,16 @@ use Rattle.wire.specs.message.Layout.{recordAt}
 use Rattle.wire.specs.message.Readable.{readable, messageIn}
 use Rattle.facts.specs.Facts.{conflicts}
 use Rattle.facts.proofs.Responses.{in-first, in-second}
-use borrow.Author.Needs.{needs}
 use Rattle.facts.proofs.conflicts_in.Statement.{statement}
 use Rattle.facts.proofs.conflicts_in.Tie as tie
 
 some-conflicts-requires : tie.Need-some-conflicts-requires
-some-conflicts-requires c κs = search needs
+some-conflicts-requires c κs = (c .before .before .before .before .before .pre .noted, c .before .before .before .before .before .pre .answers)
 
 returns : tie.Need-returns
 unfolding messageIn
 returns c =
-    let a = c .before .before .before .before .before .before .args in
+    let a = c .before .before .before .before .before .before .before .args in
     let t = conflicts (a .name .now) (a .rtype) (a .own .now) in
     let xs = readable (recordAt (a .p .now)) (a .l .answers .count) (a .l .answers .at) in
     let ys = readable (recordAt (a .p .now)) (a .l .authorities .count) (a .l .authorities .at) in
@@ -22,12 +21,12 @@ returns c =
     in-first t xs (ys ++ zs) _ (c .before .some-conflicts .ensures) (c .if1 .taken)
 
 some-conflicts-requires-2 : tie.Need-some-conflicts-requires-2
-some-conflicts-requires-2 c κs = search needs
+some-conflicts-requires-2 c κs = (c .before .before .before .before .before .before .before .before .pre .noted, c .before .before .before .before .before .before .before .before .pre .authorities)
 
 returns-2 : tie.Need-returns-2
 unfolding messageIn
 returns-2 c =
-    let a = c .before .before .before .before .before .before .before .before .before .args in
+    let a = c .before .before .before .before .before .before .before .before .before .before .args in
     let t = conflicts (a .name .now) (a .rtype) (a .own .now) in
     let xs = readable (recordAt (a .p .now)) (a .l .answers .count) (a .l .answers .at) in
     let ys = readable (recordAt (a .p .now)) (a .l .authorities .count) (a .l .authorities .at) in
@@ -36,12 +35,12 @@ returns-2 c =
     (in-first t ys zs _ (c .before .some-conflicts2 .ensures) (c .if2 .taken))
 
 some-conflicts-requires-3 : tie.Need-some-conflicts-requires-3
-some-conflicts-requires-3 c κs = search needs
+some-conflicts-requires-3 c κs = (c .before .before .before .before .before .before .before .before .before .before .before .pre .noted, c .before .before .before .before .before .before .before .before .before .before .before .pre .additionals)
 
 returns-3 : tie.Need-returns-3
 unfolding messageIn
 returns-3 c =
-    let a = c .before .before .before .before .before .before .before .before .before .before .before .args in
+    let a = c .before .before .before .before .before .before .before .before .before .before .before .before .args in
     let t = conflicts (a .name .now) (a .rtype) (a .own .now) in
     let xs = readable (recordAt (a .p .now)) (a .l .answers .count) (a .l .answers .at) in
     let ys = readable (recordAt (a .p .now)) (a .l .authorities .count) (a .l .authorities .at) in

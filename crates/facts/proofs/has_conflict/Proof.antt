@@ -12,7 +12,7 @@ has-record-requires c κs = search needs
 
 returns : tie.Need-returns
 returns c =
-    let a = c .before .before .before .args in
+    let a = c .before .before .before .before .args in
     no-record (a .setup) (a .o) (messageIn (a .p .now) (a .l)) _ (c .before .has-record .ensures) (not-true _ (c .if1 .taken))
 
 own-name-requires : tie.Need-own-name-requires
@@ -41,7 +41,7 @@ conflicts-in-requires c κs = search needs
 
 returns-2 : tie.Need-returns-2
 returns-2 c =
-    let a = c .before .before .before .before .before .before .before .before .before .before .before .before .before .args in
+    let a = c .before .before .before .before .before .before .before .before .before .before .before .before .before .before .args in
     has-it (a .setup) (a .o) (messageIn (a .p .now) (a .l)) _
     (c .before .before .before .before .before .before .before .before .before .before .before .has-record .ensures)
     (not-false _ (c .before .before .before .before .before .before .before .before .before .before .if1 .left)) _ _ _

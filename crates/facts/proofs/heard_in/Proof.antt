@@ -6,7 +6,7 @@ use Rattle.facts.proofs.heard_in.Tie as tie
 
 returns : tie.Need-returns
 returns c =
-    let a = c .before .before .before .before .args in
+    let a = c .before .before .before .before .before .args in
     no-authority (a .setup) (a .claim) (a .p .now) (a .l) (omega arith)
 
 query-to-requires : tie.Need-query-to-requires

@@ -16,7 +16,7 @@ is-in-requires c κs = search needs
 
 returns : tie.Need-returns
 returns c =
-    let a = c .before .before .before .args in
+    let a = c .before .before .before .before .args in
     asked-before (a .asked) (a .o) _ (c .before .is-in .ensures) (c .if1 .taken) (asksOwn (a .setup) (a .o) (questionShown (a .p .now) (a .q)))
 
 type-asks-requires : tie.Need-type-asks-requires
@@ -24,7 +24,7 @@ type-asks-requires c κs = search needs
 
 returns-2 : tie.Need-returns-2
 returns-2 c =
-    let a = c .before .before .before .before .before .args in
+    let a = c .before .before .before .before .before .before .args in
     let q = questionShown (a .p .now) (a .q) in
     asked-here (a .asked) (a .o) _ (c .before .before .before .is-in .ensures) (c .before .before .if1 .left) (asksOwn (a .setup) (a .o) q) false
     (asks-not (a .setup) (a .o) q _ (c .before .type-asks .ensures) (not-true _ (c .if2 .taken)))
@@ -43,7 +43,7 @@ asks-requires c κs = search needs
 
 returns-3 : tie.Need-returns-3
 returns-3 c =
-    let a = c .before .before .before .before .before .before .before .before .before .before .args in
+    let a = c .before .before .before .before .before .before .before .before .before .before .before .args in
     let n = c .before .part .ensures .0 ∙ own-part _ _ (c .before .before .before .before .own-name .ensures) in
     asked-here (a .asked) (a .o) _ (c .before .before .before .before .before .before .before .before .is-in .ensures) (c .before .before .before .before .before .before .before .if1 .left) _ _
     (c .asks .ensures ∙ (λ j. asksBy (n j) (c .before .before .before .before .before .before .type-asks .ensures j) (questionShown (a .p .now) (a .q))))

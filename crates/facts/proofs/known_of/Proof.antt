@@ -9,7 +9,7 @@ no-record-requires c κs = search needs
 
 returns : tie.Need-returns
 returns c =
-    let a = c .before .before .before .before .before .args in
+    let a = c .before .before .before .before .before .before .args in
     none-known (a .setup) (a .p .now) (a .l) (omega arith) _ (c .no-record .ensures)
 
 known-in-requires : tie.Need-known-in-requires

@@ -22,18 +22,18 @@ slice-aggregate-part c = search needs
 part-requires : tie.Need-part-requires
 part-requires c κs = search needs
 
-is-probe-requires : tie.Need-is-probe-requires
-is-probe-requires c κs = search needs
+probe-by-requires : tie.Need-probe-by-requires
+probe-by-requires c κs = search needs
 
 theirs-later-requires : tie.Need-theirs-later-requires
 theirs-later-requires c κs = search needs
 
 returns : tie.Need-returns
 returns c =
-    let a = c .before .before .before .before .before .before .before .before .args in
+    let a = c .before .before .before .before .before .before .before .before .before .args in
     let n = c .before .before .part .ensures .0 ∙ own-part _ _ (c .before .before .before .before .before .own-name .ensures) ∙ ap (ownName (a .setup))
     (c .before .before .before .before .before .before .first-of .ensures) in
-    let b = c .before .is-probe .ensures ∙ ap (λ (x : List ℕ). isProbe x (messageIn (a .p .now) (a .l))) n in
+    let b = c .before .probe-by .ensures ∙ ap (λ (x : List ℕ). isProbe x (messageIn (a .p .now) (a .l))) n in
     λ i. record { probe = b i; later = c .theirs-later .ensures i; conflict = false }
 
 pub query-to-spec : {M : Type 1} → statement M
@@ -44,6 +44,6 @@ query-to-spec =
     own-name-requires
     slice-aggregate-part
     part-requires
-    is-probe-requires
+    probe-by-requires
     theirs-later-requires
     returns)

@@ -12,7 +12,7 @@ has-conflict-requires c κs = search needs
 
 returns : tie.Need-returns
 returns c =
-    let a = c .before .before .before .before .args in
+    let a = c .before .before .before .before .before .args in
     first-conflicts (a .setup) (a .claim) (messageIn (a .p .now) (a .l)) _ (c .before .before .first-of .ensures) _ (c .before .has-conflict .ensures)
     (c .if1 .taken)
 
@@ -24,7 +24,7 @@ has-conflict-requires-2 c κs = search needs
 
 returns-2 : tie.Need-returns-2
 returns-2 c =
-    let a = c .before .before .before .before .before .before .args in
+    let a = c .before .before .before .before .before .before .before .args in
     second-conflicts (a .setup) (a .claim) (messageIn (a .p .now) (a .l)) _ (c .before .before .before .before .first-of .ensures) _
     (c .before .before .before .has-conflict .ensures) (c .before .before .if1 .left) _ (c .before .second-of .ensures) _ (c .has-conflict2 .ensures)
 

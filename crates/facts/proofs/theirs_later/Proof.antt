@@ -52,8 +52,8 @@ slice-aggregate-part-3 c = search needs
 part-requires-3 : tie.Need-part-requires-3
 part-requires-3 c κs = search needs
 
-tiebreak-requires : tie.Need-tiebreak-requires
-tiebreak-requires c κs = search needs
+tie-by-requires : tie.Need-tie-by-requires
+tie-by-requires c κs = c .before .before .before .before .before .before .before .before .before .before .before .before .before .before .before .before .before .before .before .pre
 
 is-later-requires : tie.Need-is-later-requires
 is-later-requires c κs = search needs
@@ -65,7 +65,7 @@ returns c =
     let two = types .before .before .before .before in
     let one = two .before .before in
     let name = one .before .before in
-    let a = name .before .before .before .before .args in
+    let a = name .before .before .before .before .before .args in
     let f = name .before .before .first-of .ensures in
     let g = name .before .second-of .ensures in
     let n = c .before .before .before .before .before .before .part .ensures .0 ∙ own-part _ _ (name .own-name .ensures) ∙ ap (ownName (a .setup)) f in
@@ -75,7 +75,7 @@ returns c =
     let z = types .before .own-type2 .ensures ∙ ap ownType g in
     let h = types .has-record .ensures ∙ ap (hasRecord (a .setup)) g in
     c .is-later .ensures ∙ ap isLater
-    (c .before .tiebreak .ensures .0 ∙ (λ j. tie (theirs (n j) (messageIn (a .p .now) (a .l))) (ownList (y j) (d j) (h j) (z j) (e j))))
+    (c .before .tie-by .ensures ∙ (λ j. tie (theirs (n j) (messageIn (a .p .now) (a .l))) (ownList (y j) (d j) (h j) (z j) (e j))))
 
 pub theirs-later-spec : {M : Type 1} → statement M
 theirs-later-spec =
@@ -95,6 +95,6 @@ theirs-later-spec =
     part-requires-2
     slice-aggregate-part-3
     part-requires-3
-    tiebreak-requires
+    tie-by-requires
     is-later-requires
     returns)

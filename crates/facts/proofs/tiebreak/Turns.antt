@@ -19,7 +19,8 @@ use Rattle.wire.specs.declared.message.RecordAt.{RecordAt}
 use Rattle.wire.specs.declared.message.Layout.{Layout}
 use Rattle.wire.specs.message.Readable.{readable, messageIn, recordShown}
 use Rattle.facts.specs.probe.Probe.{under}
-use Rattle.wire.proofs.message.Walk.{walk-done, walk-broken, walk-on, RecordMet}
+use Rattle.wire.proofs.message.Walk.{walk-done, walk-broken, walk-on}
+use Rattle.facts.specs.Found.{RecordSeen}
 use Rattle.facts.specs.declared.tiebreak.Verdict.{Verdict}
 use Rattle.facts.specs.declared.tiebreak.Verdict.the-variants.{Earlier, Same, Later}
 use Rattle.facts.specs.declared.tiebreak.Counts.{Counts}
@@ -136,7 +137,7 @@ module _ (p : List ℕ) (x : TieRecord) (other : List ℕ) (all : Counts) (n at 
   unfolding countAll listUnder
   count-broken e = walk-broken (recordAt p) made all n at inv e
 
-  pub count-turn : 0 < n → (f : RecordAt) → RecordMet p at f → (d : Counts) → d ≡ countMet (nameIs p (f .owner) other) (tieRecord (recordShown p f)) x c
+  pub count-turn : 0 < n → (f : RecordAt) → RecordSeen p at f → (d : Counts) → d ≡ countMet (nameIs p (f .owner) other) (tieRecord (recordShown p f)) x c
       → all ≡ countAll x (listUnder other (readable (recordAt p) (n - 1) (f .next))) d
   unfolding countAll listUnder
   count-turn lt f m d e =

@@ -1,31 +1,21 @@
 -- `facts::probe::is_probe` meets its contract. Assumes nothing.
-use Rattle.facts.proofs.probe.Turns.{response-is-none, not-asked, asked-for}
-use borrow.Author.Tests.{not-true, not-false}
 use native.Mathlib.Omega.{arith}
+use Rattle.facts.proofs.chains.Walked.{not-noted}
 use borrow.Author.Needs.{needs}
 use Rattle.facts.proofs.probe.is_probe.Statement.{statement}
 use Rattle.facts.proofs.probe.is_probe.Tie as tie
 
+array-share-prefix-none : tie.Need-array-share-prefix-none
+array-share-prefix-none c = search needs
+
+slice-aggregate-probe-by : tie.Need-slice-aggregate-probe-by
+slice-aggregate-probe-by c = search needs
+
+probe-by-requires : tie.Need-probe-by-requires
+probe-by-requires c κs = not-noted _ _ _ (omega arith)
+
 returns : tie.Need-returns
-returns c = let a = c .before .before .before .before .before .before .args in response-is-none (a .p .now) (a .l) (a .name .now) (omega arith)
-
-some-asks-requires : tie.Need-some-asks-requires
-some-asks-requires c κs = search needs
-
-returns-2 : tie.Need-returns-2
-returns-2 c =
-    let a = c .before .before .before .before .before .before .before .before .args in
-    not-asked (a .p .now) (a .l) (a .name .now) (omega arith) _ (c .before .some-asks .ensures) (not-true _ (c .if2 .taken))
-
-some-under-requires : tie.Need-some-under-requires
-some-under-requires c κs = search needs
-
-returns-3 : tie.Need-returns-3
-returns-3 c =
-    let a = c .before .before .before .before .before .before .before .before .before .args in
-    asked-for (a .p .now) (a .l) (a .name .now) (omega arith) _ (c .before .before .some-asks .ensures) (not-false _ (c .before .if2 .left)) _
-    (c .some-under .ensures)
+returns c = search needs
 
 pub is-probe-spec : {M : Type 1} → statement M
-is-probe-spec =
-    tie.close (tie.spec returns some-asks-requires returns-2 some-under-requires returns-3)
+is-probe-spec = tie.close (tie.spec array-share-prefix-none slice-aggregate-probe-by probe-by-requires returns)

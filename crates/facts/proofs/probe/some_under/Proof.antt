@@ -1,7 +1,9 @@
 -- `facts::probe::some_under` meets its contract. Assumes nothing.
 use Rattle.wire.specs.message.Readable.{recordShown}
-use Rattle.wire.proofs.message.Walk.{some-found, some-on, some-broken, some-done, record-found, record-broken}
-use mathlib.Core.Path.{_∙_}
+use Rattle.wire.proofs.message.Walk.{some-found, some-on, some-broken, some-done}
+use mathlib.Core.Path.{_∙_, refl}
+use Rattle.facts.specs.chains.Chains.{Whole}
+use Rattle.facts.proofs.chains.Walked.{record-seen, record-none, whole-here, whole-on}
 use borrow.Author.Needs.{needs}
 use mathlib.Core.Path.{_≡_}
 use native.Mathlib.Omega.{arith}
@@ -13,31 +15,33 @@ use Rattle.facts.proofs.probe.some_under.Statement.{statement}
 use Rattle.facts.proofs.probe.some_under.Tie as tie
 
 abbrev Inv-loop : tie.InvT-loop
-Inv-loop p name here₀ left₀ here left = some (under name) (readable (recordAt p) left₀ here₀) ≡ some (under name) (readable (recordAt p) left here)
+Inv-loop p ends name here₀ left₀ here left =
+    (some (under name) (readable (recordAt p) left₀ here₀) ≡ some (under name) (readable (recordAt p) left here)) × Whole (recordAt p) ends left here
 
 abbrev μ-loop : tie.MeasureT-loop
-μ-loop p name here₀ left₀ here left = left
+μ-loop p ends name here₀ left₀ here left = left
 
 loop-holds : tie.Need-loop-holds Inv-loop μ-loop
-loop-holds c = search needs
+loop-holds c = (refl, c .before .before .before .pre .1)
 
-whole-record-requires : tie.Need-whole-record-requires Inv-loop μ-loop
-whole-record-requires c κs = search needs
+record-step-requires : tie.Need-record-step-requires Inv-loop μ-loop
+record-step-requires c κs = whole-here (recordAt (c .before .before .before .before .before .args .p .now)) (c .before .before .before .before .before .args .ends .now) (c .before .loop .left) (c .before .loop .here) (c .before .loop .inv .1) (omega arith)
 
 enum-known-f : tie.Need-enum-known-f Inv-loop μ-loop
 enum-known-f c = search needs
 
-name-is-requires : tie.Need-name-is-requires Inv-loop μ-loop
-name-is-requires c κs = search needs
+is-named-requires : tie.Need-is-named-requires Inv-loop μ-loop
+is-named-requires c κs =
+    (c .before .before .before .before .before .before .before .before .before .pre .0, record-seen (c .before .before .before .before .before .before .before .before .before .args .p .now) (c .before .before .before .before .before .loop .here) _ (c .before .before .before .record-step .ensures) _ (c .before .f .given .1) .long)
 
 returns : tie.Need-returns Inv-loop μ-loop
 returns c =
-    let a = c .before .before .before .before .before .before .before .before .before .before .args in
+    let a = c .before .before .before .before .before .before .before .before .before .before .before .args in
     let l = c .before .before .before .before .before .before .before .loop in
-    let m = record-found (a .p .now) (l .here) _ (c .before .before .before .before .before .whole-record .ensures) _ (c .before .before .before .f .given .1)
+    let m = record-seen (a .p .now) (l .here) _ (c .before .before .before .before .before .record-step .ensures) _ (c .before .before .before .f .given .1)
     in
-    some-found (under (a .name .now)) (recordAt (a .p .now)) _ (l .left) (l .here) (l .inv) (omega arith)
-    (recordShown (a .p .now) (c .before .before .before .f .given .0 .0)) _ (m .here) _ (c .before .name-is .ensures ∙ m .named (a .name .now))
+    some-found (under (a .name .now)) (recordAt (a .p .now)) _ (l .left) (l .here) (l .inv .0) (omega arith)
+    (recordShown (a .p .now) (c .before .before .before .f .given .0 .0)) _ (m .here) _ (c .before .is-named .ensures ∙ m .named (a .name .now))
     (c .if1 .taken)
 
 enum-told : tie.Need-enum-told Inv-loop μ-loop
@@ -45,10 +49,10 @@ enum-told c = search needs
 
 returns-2 : tie.Need-returns-2 Inv-loop μ-loop
 returns-2 c =
-    let a = c .before .before .before .before .before .before .before .args in
+    let a = c .before .before .before .before .before .before .before .before .args in
     let l = c .before .before .before .before .loop in
-    some-broken (under (a .name .now)) (recordAt (a .p .now)) _ (l .left) (l .here) (l .inv)
-    (record-broken (a .p .now) (l .here) _ (c .before .before .whole-record .ensures) (c .enum-told .given .1))
+    some-broken (under (a .name .now)) (recordAt (a .p .now)) _ (l .left) (l .here) (l .inv .0)
+    (record-none (a .p .now) (l .here) _ (c .before .before .record-step .ensures) (c .enum-told .given .1))
 
 sub-left : tie.Need-sub-left Inv-loop μ-loop
 sub-left c = search needs
@@ -58,18 +62,20 @@ loop-less c = search needs
 
 loop-again : tie.Need-loop-again Inv-loop μ-loop
 loop-again c =
-    let a = c .before .before .before .before .before .before .before .before .before .before .args in
+    let a = c .before .before .before .before .before .before .before .before .before .before .before .args in
     let l = c .before .before .before .before .before .before .before .loop in
-    let m = record-found (a .p .now) (l .here) _ (c .before .before .before .before .before .whole-record .ensures) _ (c .before .before .before .f .given .1)
-    in
-    some-on (under (a .name .now)) (recordAt (a .p .now)) _ (l .left) (l .here) (l .inv) (omega arith)
-    (recordShown (a .p .now) (c .before .before .before .f .given .0 .0)) _ (m .here) _ (c .before .name-is .ensures ∙ m .named (a .name .now)) (c .if1 .left)
+    let m = record-seen (a .p .now) (l .here) _ (c .before .before .before .before .before .record-step .ensures) _ (c .before .before .before .f .given .1)
+    in (
+      some-on (under (a .name .now)) (recordAt (a .p .now)) _ (l .left) (l .here) (l .inv .0) (omega arith)
+          (recordShown (a .p .now) (c .before .before .before .f .given .0 .0)) _ (m .here) _ (c .before .is-named .ensures ∙ m .named (a .name .now)) (c .if1 .left),
+      whole-on (recordAt (a .p .now)) (a .ends .now) (l .left) (l .here) (l .inv .1) (omega arith) _ _ (m .here),
+    )
 
 returns-3 : tie.Need-returns-3 Inv-loop μ-loop
 returns-3 c =
-    let a = c .before .before .before .before .args in
+    let a = c .before .before .before .before .before .args in
     let l = c .before .loop in
-    some-done (under (a .name .now)) (recordAt (a .p .now)) _ (l .left) (l .here) (l .inv) (omega arith)
+    some-done (under (a .name .now)) (recordAt (a .p .now)) _ (l .left) (l .here) (l .inv .0) (omega arith)
 
 pub some-under-spec : {M : Type 1} → statement M
 some-under-spec =
@@ -78,9 +84,9 @@ some-under-spec =
     Inv-loop
     μ-loop
     loop-holds
-    whole-record-requires
+    record-step-requires
     enum-known-f
-    name-is-requires
+    is-named-requires
     returns
     enum-told
     returns-2

@@ -1,9 +1,9 @@
 -- `facts::tiebreak::count_under` meets its contract. Assumes nothing.
 use Rattle.wire.specs.names.Answers.{nameIs}
-use mathlib.Core.Path.{ap}
-use Rattle.wire.specs.rdata.Answers.{fits}
+use mathlib.Core.Path.{refl}
 use Rattle.facts.proofs.tiebreak.Turns.{count-done, count-broken, count-turn, met-bounds}
-use Rattle.wire.proofs.message.Walk.{record-found, record-broken}
+use Rattle.facts.specs.chains.Chains.{Whole}
+use Rattle.facts.proofs.chains.Walked.{record-seen, record-none, whole-here, whole-on}
 use borrow.Author.Needs.{needs}
 use mathlib.Core.Path.{_≡_}
 use native.Mathlib.Omega.{arith}
@@ -16,39 +16,36 @@ use Rattle.facts.proofs.tiebreak.count_under.Statement.{statement}
 use Rattle.facts.proofs.tiebreak.count_under.Tie as tie
 
 abbrev Inv-loop : tie.InvT-loop
-Inv-loop p name rtype own c₀ here₀ left₀ c here left =
+Inv-loop p ends name rtype own c₀ here₀ left₀ c here left =
     (c .all + left ≤ left₀) × (c .earlier + left ≤ left₀) × (c .same + left ≤ left₀) × (left₀ < 65536) ×
     (countAll (ownRecord rtype own) (listUnder name (readable (recordAt p) left₀ here₀)) noneCounted ≡ countAll (ownRecord rtype own)
-    (listUnder name (readable (recordAt p) left here)) c)
+    (listUnder name (readable (recordAt p) left here)) c) × Whole (recordAt p) ends left here
 
 abbrev μ-loop : tie.MeasureT-loop
-μ-loop p name rtype own c₀ here₀ left₀ c here left = left
+μ-loop p ends name rtype own c₀ here₀ left₀ c here left = left
 
 loop-holds : tie.Need-loop-holds Inv-loop μ-loop
-loop-holds c = search needs
+loop-holds c = (omega arith, omega arith, omega arith, search needs, refl, c .before .before .before .before .pre .1)
 
-whole-record-requires : tie.Need-whole-record-requires Inv-loop μ-loop
-whole-record-requires c κs = search needs
+record-step-requires : tie.Need-record-step-requires Inv-loop μ-loop
+record-step-requires c κs = whole-here (recordAt (c .before .before .before .before .before .before .args .p .now)) (c .before .before .before .before .before .before .args .ends .now) (c .before .loop .left) (c .before .loop .here) (c .before .loop .inv .5) (omega arith)
 
 enum-known-f : tie.Need-enum-known-f Inv-loop μ-loop
 enum-known-f c = search needs
 
 count-met-requires : tie.Need-count-met-requires Inv-loop μ-loop
 count-met-requires c κs =
-    let a = c .before .before .before .before .before .before .before .before .before .args in
-    let m = record-found (a .p .now) (c .before .before .before .before .before .loop .here) _ (c .before .before .before .whole-record .ensures) _
-    (c .before .f .given .1) in
-    (ap fits (m .content), (omega arith, omega arith, omega arith))
+    (c .before .before .before .before .before .before .before .before .before .before .pre .0, ((c .before .before .before .before .before .loop .here, record-seen (c .before .before .before .before .before .before .before .before .before .before .args .p .now) (c .before .before .before .before .before .loop .here) _ (c .before .before .before .record-step .ensures) _ (c .before .f .given .1)), (omega arith, omega arith, omega arith)))
 
 enum-told : tie.Need-enum-told Inv-loop μ-loop
 enum-told c = search needs
 
 returns : tie.Need-returns Inv-loop μ-loop
 returns c =
-    let a = c .before .before .before .before .before .before .before .before .args in
+    let a = c .before .before .before .before .before .before .before .before .before .args in
     let l = c .before .before .before .before .loop in
     count-broken (a .p .now) (ownRecord (a .rtype) (a .own .now)) (a .name .now) _ (l .left) (l .here) (l .c) (l .inv .4)
-    (record-broken (a .p .now) (l .here) _ (c .before .before .whole-record .ensures) (c .enum-told .given .1))
+    (record-none (a .p .now) (l .here) _ (c .before .before .record-step .ensures) (c .enum-told .given .1))
 
 sub-left : tie.Need-sub-left Inv-loop μ-loop
 sub-left c = search needs
@@ -57,11 +54,11 @@ loop-less : tie.Need-loop-less Inv-loop μ-loop
 loop-less c = search needs
 
 loop-again : tie.Need-loop-again Inv-loop μ-loop
-loop-again c = let a = c .before .before .before .before .before .before .before .before .before .before .args in
+loop-again c = let a = c .before .before .before .before .before .before .before .before .before .before .before .args in
     let l = c .before .before .before .before .before .before .loop in
     let f = c .before .before .f .given .0 .0 in
     let own = ownRecord (a .rtype) (a .own .now) in
-    let m = record-found (a .p .now) (l .here) _ (c .before .before .before .before .whole-record .ensures) f (c .before .before .f .given .1) in
+    let m = record-seen (a .p .now) (l .here) _ (c .before .before .before .before .record-step .ensures) f (c .before .before .f .given .1) in
     let k = met-bounds (tieRecord (recordShown (a .p .now) f)) own (l .c) (nameIs (a .p .now) (f .owner) (a .name .now)) (c .count-met .result)
     (c .count-met .ensures) (l .left) (a .s .count) (omega arith) (l .inv .0) (l .inv .1) (l .inv .2) in (
       k .0,
@@ -69,11 +66,12 @@ loop-again c = let a = c .before .before .before .before .before .before .before
       k .2,
       l .inv .3,
       count-turn (a .p .now) own (a .name .now) _ (l .left) (l .here) (l .c) (l .inv .4) (omega arith) f m _ (c .count-met .ensures),
+      whole-on (recordAt (a .p .now)) (a .ends .now) (l .left) (l .here) (l .inv .5) (omega arith) _ _ (m .here),
     )
 
 returns-2 : tie.Need-returns-2 Inv-loop μ-loop
 returns-2 c =
-    let a = c .before .before .before .before .before .args in
+    let a = c .before .before .before .before .before .before .args in
     let l = c .before .loop in
     count-done (a .p .now) (ownRecord (a .rtype) (a .own .now)) (a .name .now) _ (l .left) (l .here) (l .c) (l .inv .4) (omega arith)
 
@@ -84,7 +82,7 @@ count-under-spec =
     Inv-loop
     μ-loop
     loop-holds
-    whole-record-requires
+    record-step-requires
     enum-known-f
     count-met-requires
     enum-told
