@@ -234,6 +234,57 @@ pub fn claiming(size: usize) -> Vec<u8> {
     p
 }
 
+/// The name of the responder's instance, "booth._voice._tcp.local", in which its service's begins at the sixth byte; and that of its host.
+const OWN_INSTANCE: &[u8] = b"\x05booth\x06_voice\x04_tcp\x05local\0";
+const OWN_SERVICE_AT: usize = 6;
+const OWN_HOST: &[u8] = b"\x04dock\x05local\0";
+
+/// A query with the own instance's name in its question, a record whose rdata is a chain of pointers to `end`, through half of the message, and as many
+/// records as fit with an own owner, at `owner`, and rdata that is `numbers` and a pointer to the chain. They stand in the section whose count is at `count`.
+fn own_behind_chain(
+    size: usize,
+    end: &[u8],
+    owner: usize,
+    rtype: u8,
+    numbers: &[u8],
+    count: usize,
+) -> Vec<u8> {
+    let mut body = [OWN_INSTANCE, &[0, 255, 0, 1], &[0, 0, 99, 0, 1, 0, 0, 0, 0]].concat();
+    let room = HEADER + body.len() + 2 + end.len();
+    let pointers = (size / 2).saturating_sub(room) / 2;
+    body.extend(((end.len() + 2 * pointers) as u16).to_be_bytes());
+    let mut last = HEADER + body.len();
+    body.extend(end);
+    for _ in 0..pointers {
+        let here = HEADER + body.len();
+        body.extend(pointer(last));
+        last = here;
+    }
+    let mut records = 1;
+    while HEADER + body.len() + 14 + numbers.len() <= size {
+        body.extend(pointer(owner));
+        body.extend([0, rtype, 0, 1, 0, 0, 17, 148, 0, numbers.len() as u8 + 2]);
+        body.extend(numbers);
+        body.extend(pointer(last));
+        records += 1;
+    }
+    let mut p = query(1, &body);
+    p[count..count + 2].copy_from_slice(&(records as u16).to_be_bytes());
+    // bytes after the last record are ignored
+    p.resize(size, 0);
+    p
+}
+
+/// Known answers under the own service's name, each with another target behind a chain.
+pub fn knowing_own(size: usize) -> Vec<u8> {
+    own_behind_chain(size, OTHER_HOST, HEADER + OWN_SERVICE_AT, 12, &[], 6)
+}
+
+/// Authority records under the own instance's name, each with the own SRV's rdata, its target behind a chain: as a response, they do not conflict.
+pub fn claiming_own(size: usize) -> Vec<u8> {
+    own_behind_chain(size, OWN_HOST, HEADER, 33, &[0, 0, 0, 0, 15, 160], 8)
+}
+
 /// A response with one PTR record that agrees with those of `knowing` in its owner and in all lengths; its target has a number of its own.
 pub fn alike(number: usize) -> Vec<u8> {
     let target = format!("\x04{number:04}\x05local\0");
@@ -282,5 +333,7 @@ pub fn all(size: usize) -> Vec<(&'static str, Vec<u8>)> {
         ("questions of class 1, as long as an own name", asking(size)),
         ("known answers of class 1, the same", knowing(size)),
         ("Authority records of class 1, the same", claiming(size)),
+        ("known answers under an own name", knowing_own(size)),
+        ("Authority records under an own name", claiming_own(size)),
     ]
 }
