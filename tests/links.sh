@@ -137,7 +137,8 @@ two_interfaces() {
 
 # What is heard of ours on the link after a new start: three probes and an announcement, by both families.
 begun_anew() { # FILE OF A LISTENER, OURS
-    wait_for 8 "$2" 'anew +on wire' && wait_for 8 "$2" 'held +dock\.local' 2 && has "$2" 'anew +on wire \(10\.79\.1\.[0-9]+, fe80' || return 1
+    wait_for 8 "$2" 'anew +on wire' && wait_for 8 "$2" 'held +dock\.local' 2 || return 1
+    has "$2" 'anew +on wire \(10\.79\.1\.[0-9]+, fe80.*\) at [0-9]{13}, start draw' || return 1
     [ "$(count "$1" 'question dock\.local\. type 255')" -ge 6 ] && has "$1" '^record dock\.local\. type 1 ttl 120 10\.79'
 }
 

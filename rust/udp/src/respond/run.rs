@@ -342,7 +342,7 @@ impl Server {
         } else {
             writeln!(
                 io::stdout(),
-                "{now:6} ms  anew      on {place}, start draw {draw} ms"
+                "{now:6} ms  anew      on {place} at {wall}, start draw {draw} ms"
             )?;
         }
         let recording = match &self.options.trace {
