@@ -3,11 +3,12 @@
 # both have to answer each line alike (c/fuzz, rust/fuzz). Coverage is counted in the reference program and in c/fuzz; the proved library is as it is.
 #   tests/fuzz.sh [SECONDS]             60 by default
 #   tests/fuzz.sh --install [SECONDS]   first installs Debian's clang and its fuzzer where they are missing
-#   tests/fuzz.sh memory [SCRIPTS]      plays so many scripts (60) once under valgrind: no memory is read or written that was not lent
+#   tests/fuzz.sh memory [SCRIPTS]      takes so many scripts (400) once under valgrind: no memory is read or written that was not lent
 #   FAULT=NAME tests/fuzz.sh [SECONDS]  the reference program with a fault of rust/reference/faults: succeeds where a difference is found
 #   SCRIPT=600 tests/fuzz.sh ..         begins with fewer scripts, of so many lines in place of 4,000 for each of four seeds
-# It begins with scripts of `generate`, cut into pieces. A script that shows a difference is left in target/fuzz, and both consoles take it as it is:
-# target/bin/console <SCRIPT. Where clang, its fuzzer or valgrind is missing it says 'skipped: ...' and succeeds. It ends by itself.
+# It begins with scripts of `generate`, cut into pieces. A script that shows a difference is left in target/fuzz, and both consoles take it as it is, but for
+# lines `play TRACE`, which no console has: target/bin/console <SCRIPT. Where clang, its fuzzer or valgrind is missing it says 'skipped: ...' and succeeds. It
+# ends by itself.
 set -euo pipefail
 root=$(cd "$(dirname "$0")/.." && pwd)
 cd "$root"
@@ -26,8 +27,9 @@ if [ "${1:-}" = --install ]; then
     has_fuzzer || timeout 300 apt-get install -y --no-install-recommends clang libclang-rt-dev >/dev/null 2>&1 || true
 fi
 memory=
-[ "${1:-}" != memory ] || { memory=yes; shift; }
-number=${1:-60}
+usual=60
+[ "${1:-}" != memory ] || { memory=yes usual=400; shift; }
+number=${1:-$usual}
 case $number in *[!0-9]*) sed -n 2,11p "$0" >&2; exit 2 ;; esac
 
 # Where the reference program's library for C is written, with or without counters for coverage.
@@ -46,7 +48,7 @@ build_reference() { # FLAGS FOLDER
     RUSTFLAGS="$1 ${FAULT:+-Awarnings}" cargo build --release --quiet --manifest-path "$sources/fuzz/Cargo.toml" --target-dir "$2"
 }
 
-# Scripts of `generate`, from one start, table or proxy to the next; long ones are left out.
+# Scripts of `generate`, from one start, table or proxy to the next, long ones left out; and what is to be played from each start on, up to where it is long.
 make_seeds() { # FOLDER LINES
     local seed
     mkdir -p "$1"
@@ -56,6 +58,9 @@ make_seeds() { # FOLDER LINES
             /^(start|table|proxy) / || lines > 40 { keep(); piece = ""; lines = 0 }
             { piece = piece $0 "\n"; lines++ }
             END { keep() }'
+        rust/target/release/generate "$seed" "$2" plays | awk -v folder="$1" -v seed="$seed" '
+            /^start / { close(file); file = sprintf("%s/%d-plays-%05d", folder, seed, ++made); bytes = 0 }
+            (bytes += length($0) + 1) <= 8192 { print >file }'
     done
 }
 

@@ -9,6 +9,7 @@
 enum { BUFFER = 4096, MOST_FIELDS = 20001, MOST_TRACE = 1 << 17, FIRST_ENTRIES = 64 };
 
 static uint8_t state[KURGASHEL_STATE_BYTES], out[BUFFER], unicast[BUFFER];
+static bool is_started;
 static struct kurgashel_entry *table;
 static uint8_t *store;
 static size_t entries, store_bytes;
@@ -145,7 +146,7 @@ static void start(void) {
     struct kurgashel_answer a = kurgashel_start(lent, sizeof state, given, sizeof setup, number(1), number(2));
     free(given);
     take_state_back(lent, a.refusal);
-    if (!refused(a.refusal)) say("started");
+    if (!refused(a.refusal)) is_started = true, say("started");
 }
 
 static void say_sent(struct kurgashel_answer a) {
@@ -198,12 +199,13 @@ static void say_time(const char *before, bool is_set, size_t at) {
     else say("%s-", before);
 }
 
+static const char *const states[] = { "waiting", "probing", "deferred", "held", "lost" };
+
 // The times that a state keeps, by its layout, which no exported function tells.
 static void claims(void) {
-    static const char *const words[] = { "waiting", "probing", "deferred", "held", "lost" };
-    say("%" PRIu64 " instance %s ", word(842), words[kurgashel_claim(state, sizeof state, KURGASHEL_INSTANCE)]);
+    say("%" PRIu64 " instance %s ", word(842), states[kurgashel_claim(state, sizeof state, KURGASHEL_INSTANCE)]);
     say_time("", state[579] < 6, 580);
-    say(" host %s ", words[kurgashel_claim(state, sizeof state, KURGASHEL_HOST)]);
+    say(" host %s ", states[kurgashel_claim(state, sizeof state, KURGASHEL_HOST)]);
     say_time("", state[588] < 6, 589);
     say_time(" reply ", state[660] % 2, 661);
     say_time(" updated ", state[669] % 2, 670);
@@ -219,6 +221,24 @@ static void holds(void) {
             say(" "), say_bytes(state + at, 16), say(" %" PRIu64, word(at + 17));
         }
     if (!any) say(" -");
+}
+
+// All of a state, by its layout: the set-up; the claims, by case and due time; when each of the seven records was last multicast; the reply; the last update;
+// the held queries with what each asks for and knows, of an AAAA which there is not nothing; the start's draw and the last time.
+static void whole_state(void) {
+    const struct kurgashel_setup *s = (const struct kurgashel_setup *)state;
+    say_bytes(s->instance, s->instance_length), say(" "), say_bytes(s->service, s->service_length), say(" "), say_bytes(s->protocol, sizeof s->protocol);
+    say(" "), say_bytes(s->host, s->host_length), say(" "), say_bytes(s->domain, sizeof s->domain), say(" %u ", s->port[0] << 8 | s->port[1]);
+    say_bytes(s->txt, s->txt_length[0] << 8 | s->txt_length[1]), say(" "), say_bytes(s->a, sizeof s->a);
+    say(" "), say_bytes(s->aaaa, s->has_aaaa % 2 * sizeof s->aaaa);
+    for (size_t at = 579; at < 597; at += 9) say(" %u", state[at]), say_time(" ", state[at] < 6, at + 1);
+    for (size_t at = 597; at < 678; at += 9) say_time(" ", state[at] % 2, at + 1);
+    for (size_t at = 678; at < 834; at += 39)
+        if (state[at + 16] % 2) {
+            say(" "), say_bytes(state + at, 16), say(" %" PRIu64 " ", word(at + 17));
+            for (size_t i = 0; i < 14; i++) say("%c", i % 7 == 4 && !(s->has_aaaa % 2) ? '-' : '0' + state[at + 25 + i] % 2);
+        }
+    say(" %" PRIu64 " %" PRIu64, word(834), word(842));
 }
 
 // ---- the cache
@@ -392,6 +412,66 @@ static void trace(void) {
     for (; !(e = kurgashel_trace_next(t.at, t.count, at)).refusal && e.kind != KURGASHEL_TRACE_END; at = e.at)
         if (!whole.refusal) say_event(t.at, t.count, at, e);
     if (e.refusal != whole.refusal || e.at != whole.at) wrong = "a trace is read in another way event by event";
+    free(t.at);
+}
+
+// The call that an event records, made on a state with out buffers of 1,452 bytes; how it was answered, 0 of a claim.
+static uint8_t call_recorded(uint8_t *s, size_t s_bytes, struct bytes t, size_t at) {
+    struct kurgashel_trace_event e = kurgashel_trace_next(t.at, t.count, at);
+    uint8_t o[KURGASHEL_OUT_BYTES], u[KURGASHEL_OUT_BYTES], from[16], *bytes = room(e.length);
+    kurgashel_trace_bytes(t.at, t.count, at, bytes, e.length);
+    for (size_t i = 0; i < 8; i++) from[i] = e.high >> (56 - 8 * i), from[8 + i] = e.low >> (56 - 8 * i);
+    struct kurgashel_answer a = { 0 };
+    switch (e.kind) {
+    case KURGASHEL_TRACE_TICK: a = kurgashel_tick(s, s_bytes, e.time, o, sizeof o); break;
+    case KURGASHEL_TRACE_STOP: a = kurgashel_stop(s, s_bytes, e.time, o, sizeof o); break;
+    case KURGASHEL_TRACE_PORT: a = kurgashel_update_port(s, s_bytes, e.time, (uint16_t)e.port, o, sizeof o); break;
+    case KURGASHEL_TRACE_TXT: a = kurgashel_update_txt(s, s_bytes, e.time, bytes, e.length, o, sizeof o); break;
+    case KURGASHEL_TRACE_PACKET:
+        a = kurgashel_receive(s, s_bytes, e.time, from, sizeof from, (uint16_t)e.port, e.draw, e.hold, bytes, e.length, o, sizeof o, u, sizeof u);
+    }
+    free(bytes);
+    return a.refusal;
+}
+
+// Plays an event to a state: its bytes have to be what the call that was recorded leaves, and to stay where that, the event or the state's size is refused.
+static struct kurgashel_played play_event(uint8_t *s, size_t s_bytes, struct bytes t, size_t at) {
+    uint8_t *lent = lend(s, s_bytes), *called = lend(s, s_bytes);
+    struct kurgashel_played p = kurgashel_play(lent, s_bytes, t.at, t.count, at);
+    uint8_t call = p.turn == KURGASHEL_PLAYED_CALL ? call_recorded(called, s_bytes, t, at) : 0;
+    if (p.call != call) wrong = "a call that is played is answered in another way";
+    if (p.turn != KURGASHEL_PLAYED_CLAIM && (p.agrees || p.last || p.claim || p.state)) wrong = "what is no claim has something of one";
+    if (memcmp(lent, called, s_bytes)) wrong = "a call that is played leaves other bytes";
+    take_back(s, lent, s_bytes, p.refusal || p.call || p.turn != KURGASHEL_PLAYED_CALL);
+    free(called);
+    return p;
+}
+
+// On bytes that are no state, or none that a start made: with a byte less, and with one changed.
+static void play_elsewhere(struct bytes t, size_t at) {
+    uint8_t *other = lend(state, sizeof state);
+    size_t changed = (t.count + at) * 31 % sizeof state;
+    other[changed] ^= 1 << at % 8;
+    play_event(other, sizeof state, t, at);
+    struct kurgashel_played p = play_event(other, sizeof state - 1, t, at);
+    if (p.refusal != KURGASHEL_SETUP || p.turn != KURGASHEL_PLAYED_END || p.at != at) wrong = "a state of another size is not refused";
+    free(other);
+}
+
+static void play(void) {
+    struct bytes t = bytes_of(1);
+    struct kurgashel_trace_answer whole = kurgashel_trace_check(t.at, t.count);
+    struct kurgashel_played p;
+    if (whole.refusal) say("refused %u %zu", whole.refusal, whole.at);
+    else say("played");
+    size_t at = 0;
+    for (;; at = p.at) {
+        play_elsewhere(t, at);
+        if ((p = play_event(state, sizeof state, t, at)).refusal || p.turn == KURGASHEL_PLAYED_END) break;
+        if (p.turn == KURGASHEL_PLAYED_CLAIM)
+            say(" %" PRIu64 " %s %s %s", p.last, p.claim ? "host" : "instance", p.state < 5 ? states[p.state] : "?", p.agrees ? "ok" : "bad");
+    }
+    if (p.refusal != whole.refusal || p.at != whole.at) wrong = "a trace is played up to elsewhere than it is read";
     free(t.at);
 }
 
@@ -615,6 +695,7 @@ const char *exported_answer(const char *line, size_t bytes, size_t *answer_bytes
     else if (is(0, "read")) read_message();
     else if (is(0, "trace")) trace();
     else if (is(0, "record")) record();
+    else if (is(0, "play")) play();
     else say("no such line");
     *answer_bytes = length;
     return text;
@@ -629,6 +710,15 @@ bool exported_can(const char *line, size_t bytes) {
     return count - zeros < 5 || (count - zeros == 5 && number(field) <= UINT16_MAX);
 }
 
+const char *exported_state(size_t *answer_bytes) {
+    length = 0;
+    whole_state();
+    *answer_bytes = length;
+    return text;
+}
+
+bool exported_is_started(void) { return is_started; }
+
 bool exported_due(uint64_t *time) {
     struct kurgashel_due d = kurgashel_due(state, sizeof state);
     *time = d.time;
@@ -641,6 +731,7 @@ size_t exported_entries(void) { return entries; }
 void exported_reset(void) {
     memset(state, 0, sizeof state), memset(out, 0, sizeof out), memset(unicast, 0, sizeof unicast), memset(&browser, 0, sizeof browser);
     state[579] = state[588] = 7; // no names, both claims lost
+    is_started = false;
     make_table(FIRST_ENTRIES, KURGASHEL_SLOT_BYTES * FIRST_ENTRIES);
     free(rich), free(ldh);
     rich = ldh = NULL, rich_bytes = ldh_bytes = 0;

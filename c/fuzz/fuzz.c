@@ -1,5 +1,6 @@
-// What a fuzzer calls: an input is a script of the console's lines, each is answered by the exported functions and by the reference program, and the answers have to
-// be the same. A script that shows a difference can be handed to both consoles as it is. Built by tests/fuzz.sh.
+// What a fuzzer calls: an input is a script of the console's lines, each is answered by the exported functions and by the reference program, and the answers
+// have to be the same. A script that shows a difference can be handed to both consoles as it is, but for lines `play TRACE`, which the players answer. Built by
+// tests/fuzz.sh.
 #include "exported.h"
 #include "reference.h"
 #include <inttypes.h>
@@ -12,7 +13,7 @@ static const char BAD[] = "bad line";
 
 // How many lines of each kind were compared, and how many of them were not refused; told at the end, so that a run of refusals alone would show.
 static const char *const kinds[] = { "start", "recv", "tick", "stop", "update", "claims", "holds", "out", "unicast", "put", "look", "slot", "clear", "table", "browse",
-    "ask", "list", "proxy", "question", "answer", "cached", "txt", "read", "trace", "record" };
+    "ask", "list", "proxy", "question", "answer", "cached", "txt", "read", "trace", "record", "play" };
 enum { KINDS = sizeof kinds / sizeof *kinds, PUT = 9 };
 static unsigned long long compared[KINDS], accepted[KINDS];
 
@@ -35,6 +36,17 @@ static void fail(const char *what, const char *line, size_t bytes) {
 
 static void show(const char *who, const char *answer, size_t bytes) { fprintf(stderr, "  %s %.*s\n", who, (int)(bytes < SHOWN ? bytes : SHOWN), answer); }
 
+// Both responders know the same. Before the first start ours has no names.
+static void compare_states(struct reference *reference, const char *line, size_t bytes) {
+    if (!exported_is_started()) return;
+    size_t expected_bytes, given_bytes;
+    const char *expected = reference_state(reference, &expected_bytes), *given = exported_state(&given_bytes);
+    if (given_bytes == expected_bytes && !memcmp(given, expected, given_bytes)) return;
+    show("reference:", expected, expected_bytes);
+    show("exported: ", given, given_bytes);
+    fail("another state", line, bytes);
+}
+
 // Both answer one line. Lines that are not of their form, and those that no exported function can be handed, are passed over.
 static void compare(struct reference *reference, const char *line, size_t bytes) {
     if (!exported_can(line, bytes)) return;
@@ -55,13 +67,15 @@ static void compare(struct reference *reference, const char *line, size_t bytes)
         fprintf(stderr, "  due %" PRIu64 ", by the reference program %" PRIu64 "\n", due, expected_due);
         fail("another due time", line, bytes);
     }
+    if (bytes > 4 && !memcmp(line, "play", 4)) compare_states(reference, line, bytes);
 }
 
 static void compare_text(struct reference *reference, const char *line) { compare(reference, line, strlen(line)); }
 
-// What no answer of the script may have shown: all bytes of the out buffers, the claims, and the first slots where something was put there.
+// What no answer of the script may have shown: all that the responder knows, all bytes of the out buffers, and the first slots where something was put there.
 static void compare_rest(struct reference *reference, bool is_put) {
     char line[32];
+    compare_states(reference, "at the end", 10);
     compare_text(reference, "claims");
     compare_text(reference, "holds");
     compare_text(reference, "out 0 4096");

@@ -5,9 +5,9 @@ use super::packet::txt_of;
 use super::random::Random;
 use super::Script;
 use crate::console::trace::{event_of, words};
-use crate::console::Console;
+use crate::console::{hex, Console};
 use crate::player::{play, state_number};
-use crate::trace::{write, Event, Received};
+use crate::trace::{read, write, Event, Received};
 use crate::MOST_TIME;
 
 /// The lengths of the records, kind byte included, by kind.
@@ -397,6 +397,41 @@ pub fn plays(seed: u64, count: usize) -> Vec<Vec<u8>> {
     inputs
 }
 
+/// About how many bytes a trace of a fuzzer's line has.
+const SOME_BYTES: usize = 400;
+
+/// The same as lines for a fuzzer: `start` and its fields, then `play` and a trace, as
+/// often as it takes. A broken trace is one line.
+pub fn play_lines(seed: u64, count: usize) -> Vec<Vec<u8>> {
+    let mut lines = Vec::new();
+    for input in plays(seed, count) {
+        let mut halves = input.splitn(2, |byte| *byte == b'\n');
+        let (fields, trace) = (halves.next().unwrap_or(b""), halves.next().unwrap_or(b""));
+        lines.push([b"start ", fields].concat());
+        let pieces = read(trace).map_or(vec![trace.to_vec()], |events| pieces_of(&events));
+        lines.extend(
+            pieces
+                .iter()
+                .map(|piece| format!("play {}", hex(piece)).into_bytes()),
+        );
+    }
+    lines
+}
+
+/// Events as several traces, each ended by the event that makes it long enough.
+fn pieces_of(events: &[Event]) -> Vec<Vec<u8>> {
+    let mut pieces = vec![Vec::new()];
+    for event in events {
+        let event = write(std::slice::from_ref(event), u64::MAX).expect("values that fit");
+        let last = pieces.last_mut().expect("a piece");
+        last.extend(event);
+        if last.len() >= SOME_BYTES {
+            pieces.push(Vec::new());
+        }
+    }
+    pieces
+}
+
 /// The fields of a start and a trace, now and then broken.
 fn input(random: &mut Random, fields: &[u8], events: &[Event]) -> Vec<u8> {
     let mut trace = write(events, u64::MAX).expect("values that fit");
@@ -419,7 +454,6 @@ fn input(random: &mut Random, fields: &[u8], events: &[Event]) -> Vec<u8> {
 mod tests {
     use super::*;
     use crate::player::run;
-    use crate::trace::read;
 
     #[test]
     fn what_is_written_is_read() {
@@ -433,6 +467,18 @@ mod tests {
             if let Ok(events) = read(&broken) {
                 assert_eq!(write(&events, u64::MAX), Ok(broken));
             }
+        }
+    }
+
+    #[test]
+    fn pieces_are_the_whole() {
+        let mut random = Random::new(7);
+        for _ in 0..500 {
+            let events = some_events(&mut random);
+            let pieces = pieces_of(&events);
+            assert_eq!(write(&events, u64::MAX), Ok(pieces.concat()));
+            let all = pieces.iter().flat_map(|piece| read(piece).unwrap());
+            assert_eq!(all.collect::<Vec<_>>(), events);
         }
     }
 
