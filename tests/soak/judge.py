@@ -23,25 +23,31 @@ class Holding:
 
 
 def changes(life):
-    """Its starts, each (time, draw): the first, and one for each time that its link came back; and each (time, state, name) that it printed."""
-    lines = life.file.read_text().splitlines()
-    starts = [(int(found[1]), int(found[2])) for line in lines if (found := BEGUN.match(line))]
-    told = [(int(found[1]), found[2], found[3]) for line in lines if (found := LINE.match(line))]
-    if told and not starts:
-        raise ValueError(f"{life.file}: it does not say when it began")
-    # its clock ran before its first start where its link was down; what it told first is of that start
-    return starts, [(starts[0][0] + time - told[0][0], state, name) for time, state, name in told]
+    """What it printed, in order: (time, state, name) of a claim or a link, and (time, "begun", draw) of each start, one whenever its link came back."""
+    told, zero = [], None
+    for line in life.file.read_text().splitlines():
+        if found := BEGUN.match(line):
+            told.append((int(found[1]), "begun", int(found[2])))
+        elif found := LINE.match(line):
+            if not told:
+                raise ValueError(f"{life.file}: it does not say when it began")
+            # what it tells first is of its first start; its clock ran before that where its link was down
+            zero = zero or told[0][0] - int(found[1])
+            told.append((zero + int(found[1]), found[2], found[3]))
+    return told
 
 
 def holdings(life):
     """Its holdings; a holding is late where the three waits between probing and held took over 50 ms more than they should, so that a step was late, and begun
     late where the wait before it first probed did, which is the start's draw."""
-    starts, told = changes(life)
+    told, start = changes(life), 0
     for at, (since, state, name) in enumerate(told):
+        if state == "begun":
+            start = at
         if state == "held":
-            until = next((time for time, word, other in told[at + 1 :] if other == name or word == "down"), life.killed)
-            begun, draw = max(start for start in starts if start[0] <= since)
-            probed = [time for time, word, other in told[:at] if (word, other) == ("probing", name) and time >= begun]
+            until = next((time for time, word, other in told[at + 1 :] if other == name or word in ("down", "begun")), life.killed)
+            begun, _, draw = told[start]
+            probed = [time for time, word, other in told[start:at] if (word, other) == ("probing", name)] or [since]
             yield Holding(life.machine, name, since, until, since - probed[-1] > STEPS + LATE, probed[0] - begun > draw + LATE)
 
 
@@ -113,8 +119,8 @@ def times_up(soak, life):
     """From when to when it ran with its link up, each time; the first from its own line on, where it says when it began."""
     flaps = sorted((down, up) for machine, down, up in soak.flaps if machine == life.machine and life.begun < up and down < life.killed)
     ends = [down for down, _ in flaps] + [life.killed]
-    starts, _ = changes(life)
-    first = starts[0][0] if starts and starts[0][0] < ends[0] else life.begun
+    begun = next((time for time, _, _ in changes(life)), None)
+    first = begun if begun and begun < ends[0] else life.begun
     return [(since, until) for since, until in zip([first] + [up for _, up in flaps], ends) if since < until]
 
 
