@@ -10,7 +10,7 @@ root=$(cd "$(dirname "$0")/.." && pwd)
 . "$root/tests/machines/machines.sh"
 . "$root/tests/interop/programs.sh"
 
-cases="ipv6_alone both_families nothing_beyond_the_link two_interfaces a_link_down_and_up a_quick_flap an_address_changed an_interface_that_comes_later
+cases="ipv6_alone both_families nothing_beyond_the_link two_interfaces a_link_down_and_up a_quick_flap a_flap_untold an_address_changed an_interface_that_comes_later
     names_picked_anew every_name_is_taken ends_with_a_status the_port_is_taken idle_is_idle a_supervisor_is_told"
 service=_voice._tcp
 booth=booth._voice._tcp.local
@@ -160,6 +160,25 @@ a_quick_flap() {
     id=$(program_of "$last") && start_listener b peer wire && kill -STOP "$id" || return 1
     printf 'link set wire down\nlink set wire up\naddr replace fd79:1::1/64 dev wire\n' | ip -n "$net-a" -batch - && sleep 0.5
     kill -CONT "$id" && begun_anew peer ours
+}
+
+# When it last began anew, by the wall clock.
+last_anew() { sed -nE 's/.* ms  anew .* at ([0-9]+), start draw.*/\1/p' "$work/$1" | tail -n 1; } # FILE
+
+# Linux tells of a lost carrier at most once a second, where an interface's number is that of its other end, as of one that is on a cable: of a second flap within
+# that time it says only that the carrier is there. The names are claimed anew after it all the same.
+a_flap_untold() {
+    local flapped=0 tries=60
+    ip -n "$net-b" link add cable index 77 type veth peer name to-b2 index 77 netns "$net-bridges" && ip -n "$net-b" addr add 10.79.1.5/24 dev cable &&
+        ip -n "$net-bridges" link set to-b2 master first up && ip -n "$net-b" link set cable up && sleep 1.2 || return 1
+    start_ours b ours --interface cable --ipv4-only && holds ours && sleep 1.2 || return 1
+    for _ in 1 2; do
+        flapped=$(now)
+        ip -n "$net-bridges" link set to-b2 down && sleep 0.1 && ip -n "$net-bridges" link set to-b2 up && sleep 0.1
+    done
+    until [ "$(last_anew ours)0" -gt "${flapped}0" ] || [ "$tries" = 0 ]; do sleep 0.05 && tries=$((tries - 1)); done
+    ip -n "$net-b" link del cable
+    has ours 'anew +on cable' && echo "    the last $(($(last_anew ours) - flapped)) ms after the second flap began" && [ "$tries" -gt 0 ]
 }
 
 # Another IPv4 address: it is told to all, and to those who ask.
