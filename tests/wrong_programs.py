@@ -6,9 +6,13 @@
     tests/wrong_programs.py --apply            only says whether each edit, of must-fail/ too, still applies: no proof, a second
     tests/wrong_programs.py --cover            only says which public functions have fewer than two edits in their own text
 
-A copy is checked over a copy of what the proof of its crate left behind (target/rlib), so that only what the edit touches is checked again. So a refusal
-here is a test, and never a verdict of proof: nothing is called proved by it. Every crate has to be proved before (`rt check`). The edits of must-fail/ are
-tried from nothing by `rt ci`; of those that it has tried the first error is judged here as well.
+A copy is checked over a copy of what the proof of its crate left behind (target/rlib), so that only what the edit touches is checked again; of a program
+nothing is left, so it is checked once as it stands for that. So a refusal here is a test, and never a verdict of proof: nothing is called proved by it. Every
+crate has to be proved before (`rt check`). The edits of must-fail/ are tried from nothing by `rt ci`; of those that it has tried the first error is judged here
+as well.
+
+In a crate of theorems an edit may say in which file it has to be refused first (`first: proofs/Calls.antt`). Then the copy has that file and what it is proved
+from, and nothing else: what is refused there is refused in the whole crate.
 
 Edits of different functions share a copy: a function is proved from the contracts of those that it calls, so whether its own body meets its own contract is
 what it would be alone, as long as no function in the copy names another whose contract is changed there. Each needs a failed fact in the proof of its own
@@ -24,6 +28,7 @@ import re
 import shutil
 import subprocess
 import sys
+import threading
 import time
 
 ROOT = pathlib.Path(__file__).resolve().parent.parent
@@ -99,6 +104,37 @@ def pairs(edit):
             old = ""
 
 
+def first_file(edit):
+    """The file in which an edit says that it is refused first, if it says so."""
+    said = re.search(r"^first: (\S+)$", edit.read_text(), re.M)
+    return said and said.group(1)
+
+
+def reached_from(crate, copy, first):
+    """The files of a crate of theorems that one of them is proved from, with itself."""
+    found, todo = set(), [first]
+    while todo:
+        file = todo.pop()
+        if file in found or not (copy / file).is_file():
+            continue
+        found.add(file)
+        uses = re.findall(rf"\bRattle·{crate}·(specs|proofs)\.(?:specs|proofs)((?:\.[\w-]+)+)", (copy / file).read_text())
+        todo += [f"{part}{path.replace('.', '/')}.antt" for part, path in uses]
+    return found
+
+
+def cut_to(crate, copy, first):
+    """Leaves of a copy of a crate of theorems what one file is proved from."""
+    needed = reached_from(crate, copy, first)
+    for part in ("specs", "proofs"):
+        for file in (copy / part).glob("*.antt"):
+            if file.name != "Lib.antt" and f"{part}/{file.name}" not in needed:
+                file.unlink()
+        root = copy / part / "Lib.antt"
+        keep = lambda line: not re.match(r"(pub )?mod ", line) or f"{part}/{line.split()[-1]}.antt" in needed
+        root.write_text("\n".join(line for line in root.read_text().splitlines() if keep(line)) + "\n")
+
+
 def applied(edit, texts):
     """Changes `texts`, the new texts of the crate's files, as an edit says."""
     crate, count = edit.parent.parent, 0
@@ -147,6 +183,7 @@ class Kit:
             if colon:
                 self.uses[name.strip()] = uses.split()
         self.kept = self.folder_name()
+        self.wholes, self.lock = {}, threading.Lock()
 
     def words(self, name, source):
         rlib = lambda crate: (TARGET if (ROOT / "crates" / crate).is_dir() else self.own) / "rlib" / f"{crate}.rlib"
@@ -165,7 +202,20 @@ class Kit:
         subprocess.run([*self.words("empty", empty / "src" / "lib.rt"), "--incremental", empty / "kept"], capture_output=True, check=True)
         return next((empty / "kept").iterdir()).name
 
-    def checked(self, name, label, texts):
+    def left_by(self, name):
+        """What the check of a crate as it stands leaves behind; of a program it is made here, once."""
+        left = TARGET / "rlib" / f"{name}.rlib" / "toolchain" / "checked"
+        if left.is_dir():
+            return left
+        with self.lock:
+            if name not in self.wholes:
+                whole = TARGET / "wrong" / name / "whole"
+                shutil.rmtree(whole, ignore_errors=True)
+                subprocess.run([*self.words(name, ROOT / "crates" / name / "src" / "main.rt"), "--incremental", whole], capture_output=True, check=True)
+                self.wholes[name] = whole / self.kept
+        return self.wholes[name]
+
+    def checked(self, name, label, texts, first=None):
         """What the prover answers of a copy of a crate in which some files have other texts: its status, and all that it says, without the copy's path."""
         copy = TARGET / "wrong" / name / label
         shutil.rmtree(copy, ignore_errors=True)
@@ -175,10 +225,10 @@ class Kit:
                 shutil.copytree(ROOT / "crates" / name / part, copy / part)
         for file, text in texts.items():
             (copy / file).write_text(text)
-        # links: the prover replaces a file and never writes into one; of a program's proof nothing is left, so it is checked from nothing
-        left = TARGET / "rlib" / f"{name}.rlib" / "toolchain" / "checked"
-        if left.is_dir():
-            shutil.copytree(left, copy / "kept" / self.kept, copy_function=os.link)
+        if first:
+            cut_to(name, copy, first)
+        # links: the prover replaces a file and never writes into one
+        shutil.copytree(self.left_by(name), copy / "kept" / self.kept, copy_function=os.link)
         source = copy / "src" / ("main.rt" if (copy / "src" / "main.rt").is_file() else "lib.rt")
         run = subprocess.run([*self.words(name, source), "--incremental", copy / "kept"], stdout=subprocess.PIPE, stderr=subprocess.STDOUT, text=True)
         shutil.rmtree(copy)
@@ -193,8 +243,8 @@ def errors(log):
         yield re.sub(r"^\S*?/((?:src|specs|proofs)/)", r"\1", line.group(2)), int(line.group(3)), line.group(1)
 
 
-def judged(status, log, function=None):
-    """Whether a copy was refused for a fact, of this function if one is given, and in a word or two why not."""
+def judged(status, log, function=None, first=None):
+    """Whether a copy was refused for a fact, of this function or first in this file if one is given, and in a word or two why not."""
     if status == 0:
         return False, "NOT REFUSED: the crate is still proved with this edit"
     if status != 1 or not re.search(r"^logic=not-proved", log, re.M):
@@ -204,6 +254,8 @@ def judged(status, log, function=None):
             continue
         if SHAPE.search(error):
             return False, f"refused by a proof's shape, not by a fact: {error[:200]}"
+        if first and path != first:
+            return False, f"refused first at {path}:{line}, not in {first}"
         return True, f"{path}:{line}"
     return False, "refused, and nothing says which fact fails"
 
@@ -239,7 +291,8 @@ def tried_alone(kit, edit):
         texts = applied(edit, {})
     except Unfit as why:
         return False, str(why)
-    return judged(*kit.checked(crate_of(edit), edit.stem, texts))
+    first = first_file(edit)
+    return judged(*kit.checked(crate_of(edit), edit.stem, texts, first), first=first)
 
 
 def tried(kit, group):
