@@ -1,6 +1,6 @@
-//! What reading, receiving and taking into a cache cost on the messages of `bench::chains`, whose names take long to follow: the least of seven, in microseconds.
-//! `receive` and `take` walk a message again after it was read, and follow each name anew; `take` compares what it expanded with each entry of the record's type and
-//! lengths.
+//! What reading, receiving and taking into a cache cost on the messages of `bench::chains`, whose names take long to follow: the least of seven, in
+//! microseconds. `receive` and `take` walk a message again after it was read, and follow each name anew; `take` compares what it expanded with each entry of
+//! the record's type and lengths.
 
 use std::time::Instant;
 

@@ -1,5 +1,5 @@
-//! An ordinary cache on a table and a byte store that are laid out as the proved one's, with the same refusals 1 and 8: 1 to 512 entries of 32 bytes, and for each
-//! a slot of 1,024 bytes, of which 256 are the owner's. What it does beside that is what `ordinary_cache` does.
+//! An ordinary cache on a table and a byte store that are laid out as the proved one's, with the same refusals 1 and 8: 1 to 512 entries of 32 bytes, and for
+//! each a slot of 1,024 bytes, of which 256 are the owner's. What it does beside that is what `ordinary_cache` does.
 
 use reference::message::MOST_MESSAGE;
 use reference::refusal::Refusal;
