@@ -8,7 +8,8 @@ timeline: tells from recordings (responder --trace) which device held which name
 usage: timeline [options] DEVICE=FILE[@DISTANCE] ..
 
   DEVICE=FILE[@DISTANCE]  a recording of a device; DISTANCE is added to its clock, in milliseconds, so that all are on one clock: the number behind 'begun on .. at'
-                          that the responder prints, for the wall clock. Several recordings of one device, in the order in which they began, are its restarts
+                          that the responder prints, for the wall clock, or that behind 'anew on .. at' less the milliseconds before it. Several recordings of one device, in the
+                          order in which they began, are its restarts
   --name NAME             only this name, such as 'booth._voice._tcp.local'
   --at TIME               only who held at this time of the common clock, in milliseconds
   --page FILE             also write a page with a picture
