@@ -3,6 +3,8 @@
 
     tests/wrong_programs.py                    every edit
     tests/wrong_programs.py NAME [LABEL ..]    those of a crate, or some of them
+    tests/wrong_programs.py --gate             those that may have come to another end since all were tried, and one in eight of the others
+    tests/wrong_programs.py --record           every edit; where all are refused tests/wrong_tried.txt says so, of the commit that is checked out
     tests/wrong_programs.py --apply            only says whether each edit, of must-fail/ too, still applies: no proof, a second
     tests/wrong_programs.py --cover            only says which public functions have fewer than two edits in their own text
 
@@ -18,10 +20,15 @@ Edits of different functions share a copy: a function is proved from the contrac
 what it would be alone, as long as no function in the copy names another whose contract is changed there. Each needs a failed fact in the proof of its own
 function; one that has none there is tried again alone. An edit of anything else (a constant, a definition, a theorem) is tried alone.
 
+How an edit ends depends on its crate, on what that rests on and on the kit, and on nothing else. tests/wrong_tried.txt has a commit and a kit at which all edits
+were refused; with --gate those are tried whose crate has changed since, or a crate below it but in its proofs alone, and of the others one in eight, other ones
+at each commit. Where the commit can't be found, or the kit is another, all are tried.
+
 An edit fails the run where the copy is not refused, where the prover was not reached, where its text no longer stands exactly once in its file, or where
 the refusal only says that the proof no longer has the code's shape (a `Need-..` that is not there)."""
 import argparse
 import concurrent.futures
+import hashlib
 import os
 import pathlib
 import re
@@ -33,6 +40,7 @@ import time
 
 ROOT = pathlib.Path(__file__).resolve().parent.parent
 TARGET = ROOT / "target"
+TRIED = ROOT / "tests" / "wrong_tried.txt"
 PARTS = ("src", "specs", "proofs")
 # so many edits share a copy
 MOST_TOGETHER = 24
@@ -346,8 +354,54 @@ def cover_all(name):
     return short == 0
 
 
-def try_all(name, labels, jobs):
+def said(*words):
+    """What a command prints; None where it fails."""
+    run = subprocess.run(words, cwd=ROOT, stdout=subprocess.PIPE, stderr=subprocess.DEVNULL, text=True)
+    return run.stdout.strip() if run.returncode == 0 else None
+
+
+def changed_crates(commit):
+    """The crates that have changed since a commit, and those that rest on one that has changed in more than its proofs; None where it can't be told."""
+    files = said("git", "diff", "--name-only", commit, "--", "crates", "crates.txt")
+    others = said("git", "ls-files", "--others", "--exclude-standard", "crates")
+    if files is None or others is None or "crates.txt" in files.split():
+        return None
+    parts = {tuple(file.split("/")[1:3]) for file in (files + "\n" + others).split()}
+    changed, moved = {crate for crate, _ in parts}, {crate for crate, part in parts if part in ("src", "specs")}
+    uses = {}
+    for line in (ROOT / "crates.txt").read_text().splitlines():
+        crate, colon, below = line.split("#")[0].partition(":")
+        if colon:
+            uses[crate.strip()] = set(below.split())
+    while more := {crate for crate, below in uses.items() if below & moved} - moved:
+        moved |= more
+    return changed | moved
+
+
+def chosen_for_gate(every):
+    """The edits that the gate tries, and in a line which they are."""
+    commit, kit = TRIED.read_text().splitlines()[0].split(" ", 1) if TRIED.is_file() else ("none", "")
+    changed = changed_crates(commit) if kit == said("rt", "version") else None
+    if changed is None:
+        return every, f"all {len(every)} wrong programs, since it can't be told what has changed since all were tried"
+    head = said("git", "rev-parse", "HEAD") or ""
+    is_drawn = lambda edit: hashlib.sha256(f"{head} {title(edit)}".encode()).digest()[0] % 8 == 0
+    some = [edit for edit in every if crate_of(edit) in changed or is_drawn(edit)]
+    return some, f"{len(some)} of {len(every)} wrong programs: of crates changed since {commit[:12]}, where all were refused ({len(changed)}), and one in eight of the others"
+
+
+def record():
+    """Says that all edits were refused at the commit that is checked out, if no source differs from it."""
+    if said("git", "status", "--porcelain", "crates", "crates.txt") != "":
+        sys.exit("not recorded: the sources are not those of a commit")
+    TRIED.write_text(f"{said('git', 'rev-parse', 'HEAD')} {said('rt', 'version')}\n")
+
+
+def try_all(name, labels, jobs, gate=False):
     every = edits("wrong", name, labels)
+    if gate:
+        every, which = chosen_for_gate(every)
+        print(which, flush=True)
     if labels and len(every) != len(set(labels)):
         sys.exit(f"{name} has no such wrong program: {' '.join(sorted(set(labels) - {e.stem for e in every}))}")
     crates = sorted({crate_of(edit) for edit in every})
@@ -374,11 +428,17 @@ def main():
     parser = argparse.ArgumentParser(description="Tries the wrong programs: the prover has to refuse each because a fact fails.")
     parser.add_argument("--apply", action="store_true", help="only say whether each edit still applies")
     parser.add_argument("--cover", action="store_true", help="only say which public functions have fewer than two")
+    parser.add_argument("--gate", action="store_true", help="try those that may end otherwise since all were tried, and one in eight of the others")
+    parser.add_argument("--record", action="store_true", help="try all, and record where all are refused")
     parser.add_argument("--jobs", type=int, default=os.cpu_count(), help="so many at a time (the number of cores)")
     parser.add_argument("crate", nargs="?", help="the edits of this crate alone")
     parser.add_argument("label", nargs="*", help="these edits alone")
     words = parser.parse_args()
-    done = apply_all() if words.apply else cover_all(words.crate) if words.cover else try_all(words.crate, words.label, words.jobs)
+    if words.record and words.crate:
+        parser.error("--record is of every edit")
+    done = apply_all() if words.apply else cover_all(words.crate) if words.cover else try_all(words.crate, words.label, words.jobs, words.gate)
+    if done and words.record:
+        record()
     sys.exit(0 if done else 1)
 
 
