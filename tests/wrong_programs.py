@@ -21,8 +21,8 @@ what it would be alone, as long as no function in the copy names another whose c
 function; one that has none there is tried again alone. An edit of anything else (a constant, a definition, a theorem) is tried alone.
 
 How an edit ends depends on its crate, on what that rests on and on the kit, and on nothing else. tests/wrong_tried.txt has a commit and a kit at which all edits
-were refused; with --gate those are tried whose crate has changed since, or a crate below it but in its proofs alone, and of the others one in eight, other ones
-at each commit. Where the commit can't be found, or the kit is another, all are tried.
+were refused that are as they were then; with --gate those are tried whose crate has changed since, edits too, or a crate below it but in its proofs alone, and of
+the others one in eight, other ones at each commit. Where the commit can't be found, or the kit is another, all are tried.
 
 An edit fails the run where the copy is not refused, where the prover was not reached, where its text no longer stands exactly once in its file, or where
 the refusal only says that the proof no longer has the code's shape (a `Need-..` that is not there)."""
