@@ -1,4 +1,3 @@
 -- Laws that belong to no one function.
 mod Same
-mod Front
 pub mod Equal

@@ -1,6 +1,7 @@
 pub mod Lists
 pub mod refusals
 pub mod octets
+pub mod bytes
 pub mod case_folding
 pub mod name_pieces
 pub mod names

@@ -16,14 +16,14 @@ pub struct Opened {
     pub bytes: [u8; 289],
 }
 
-// Whether two lists of bytes are the same.
+// Whether two lists of bytes are the same. The lengths are compared before any byte is, and bytes one by one from the first eight on that are not the same.
 pub fn same_bytes(a: &[u8], b: &[u8]) -> bool
     ensures { λ r. ⌜ r ≡ sameBytes (now (a .entry)) (now (b .entry)) ⌝ }
 {
     if a.len() != b.len() {
         return false;
     }
-    let mut i = 0;
+    let mut i = crate::bytes::same_front(a, b);
     while i < a.len() {
         if a[i] != b[i] {
             return false;

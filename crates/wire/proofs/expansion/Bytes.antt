@@ -2,10 +2,10 @@
 use mathlib.Core.Path.{_≡_, refl, sym, ap, ap₂, _∙_}
 use mathlib.Core.List.{List, [], _∷_}
 use mathlib.Core.Bool.{Bool, true, false, _&&_, and-false}
-use Prim.Native.Nat.{ℕ, suc, _+_, _<_, _≤_}
+use Prim.Native.Nat.{ℕ, zero, suc, _+_, _<_, _≤_}
 use native.Mathlib.Numerals.{add-one}
 use native.Mathlib.Omega.{arith}
-use lib.ListN.{length, getD, drop, drop-of-length-le}
+use lib.ListN.{length, getD, take, drop, drop-of-length-le}
 use lib.Seq.{drop-cons}
 use lib.Dec.{eqb}
 use borrow.Author.Tests.{eq-eqb, ne-eqb, eqb-true}
@@ -33,6 +33,18 @@ same-lengths [] [] h = absurd (h refl)
 same-lengths [] (y ∷ ys) h = refl
 same-lengths (x ∷ xs) [] h = refl
 same-lengths (x ∷ xs) (y ∷ ys) h = rw (same-lengths xs ys (λ e. h (ap suc e))) (and-false (eqb x y))
+
+-- lists whose first bytes are the same are the same where the rest is
+pub same-front : (r : ℕ) (a b : List ℕ) → take r a ≡ take r b → sameBytes a b ≡ sameBytes (drop r a) (drop r b)
+unfolding sameBytes
+same-front zero a b e = refl
+same-front (suc r) [] [] e = refl
+same-front (suc r) [] (y ∷ ys) e = let z : _≡_ {A = ℕ} 0 1 = cc in absurd (omega arith)
+same-front (suc r) (x ∷ xs) [] e = let z : _≡_ {A = ℕ} 0 1 = cc in absurd (omega arith)
+same-front (suc r) (x ∷ xs) (y ∷ ys) e =
+    let h : x ≡ y = cc in
+    let t : take r xs ≡ take r ys = cc in
+    simp (eq-eqb x y h) (same-front r xs ys t)
 
 -- a turn of the loop
 module _ (a b : List ℕ) (i : ℕ) (h : i < length a) (k : i < length b) (inv : sameBytes a b ≡ sameBytes (drop i a) (drop i b)) where

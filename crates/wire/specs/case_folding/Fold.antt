@@ -1,9 +1,8 @@
 -- "Names are equal with ASCII letters folded and nothing else" (the specification). A length byte is at most 63, below every letter, so all bytes of an
 -- uncompressed name may be folded alike.
-use Prim.Native.Nat.{ℕ, _+_, _*_}
+use Prim.Native.Nat.{ℕ, _+_}
 use mathlib.Core.List.{List, [], _∷_}
 use mathlib.Core.Bool.{Bool, true, false, cond, _&&_}
-use lib.ListN.{getD}
 use lib.Dec.{leb, eqb}
 
 -- 'A' to 'Z' (65 to 90) become 'a' to 'z'
@@ -16,7 +15,3 @@ sameName [] [] = true
 sameName [] (y ∷ ys) = false
 sameName (x ∷ xs) [] = false
 sameName (x ∷ xs) (y ∷ ys) = eqb (lower x) (lower y) && sameName xs ys
-
--- the eight bytes at an offset as one number, the first counting least
-abbrev pub eightAt : List ℕ → ℕ → ℕ
-eightAt s i = getD s i 0 + (getD s (i + 1) 0 + (getD s (i + 2) 0 + (getD s (i + 3) 0 + (getD s (i + 4) 0 + (getD s (i + 5) 0 + (getD s (i + 6) 0 + (getD s (i + 7) 0) * 256) * 256) * 256) * 256) * 256) * 256) * 256

@@ -5,13 +5,13 @@ use mathlib.Core.Path.{_≡_, refl, sym, ap, _∙_}
 use Prim.Native.Nat.{ℕ, _≤_, _-_}
 use lib.ListN.{length, drop}
 use Rattle.wire.specs.case_folding.Fold.{sameName}
-use Rattle.wire.proofs.case_folding.Same.{turn-differ, turn-agree, same-end}
+use Rattle.wire.proofs.case_folding.Same.{same-front, turn-differ, turn-agree, same-end}
 use Rattle.wire.proofs.case_folding.Equal.{same-lengths}
 use Rattle.wire.proofs.case_folding.same_name.Statement.{statement}
 use Rattle.wire.proofs.case_folding.same_name.Tie as tie
 use Rattle.wire.proofs.case_folding.same_name.Reads as reads
 use Rattle.wire.proofs.case_folding.same_name.Lts as lts
-use Rattle.wire.proofs.case_folding.same_front.Reads as same-front-reads
+use Rattle.wire.proofs.bytes.same_front.Reads as same-front-reads
 use Rattle.wire.proofs.case_folding.same_letter.Reads as same-letter-reads
 
 abbrev Inv-loop : tie.InvT-loop
@@ -27,7 +27,7 @@ same-front-requires : tie.Need-same-front-requires Inv-loop μ-loop
 same-front-requires c κs = search needs
 
 loop-holds : tie.Need-loop-holds Inv-loop μ-loop
-loop-holds c = (c .same-front .ensures .0, c .same-front .ensures .1)
+loop-holds c = (c .same-front .ensures .0, same-front (c .same-front .result) _ _ (c .same-front .ensures .1))
 
 shared-slice-read-same-letter : tie.Need-shared-slice-read-same-letter Inv-loop μ-loop
 shared-slice-read-same-letter c = omega arith

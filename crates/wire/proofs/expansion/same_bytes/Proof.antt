@@ -4,11 +4,12 @@ use native.Mathlib.Omega.{arith}
 use Prim.Native.Nat.{_≤_, _-_}
 use lib.ListN.{length, drop}
 use Rattle.wire.specs.expansion.Equal.{sameBytes}
-use Rattle.wire.proofs.expansion.Bytes.{same-lengths, turn-differ, turn-agree, same-end}
+use Rattle.wire.proofs.expansion.Bytes.{same-lengths, same-front, turn-differ, turn-agree, same-end}
 use Rattle.wire.proofs.expansion.same_bytes.Statement.{statement}
 use Rattle.wire.proofs.expansion.same_bytes.Tie as tie
 use Rattle.wire.proofs.expansion.same_bytes.Reads as reads
 use Rattle.wire.proofs.expansion.same_bytes.Lts as lts
+use Rattle.wire.proofs.bytes.same_front.Reads as same-front-reads
 
 abbrev Inv-loop : tie.InvT-loop
 Inv-loop a b i₀ i = (length a ≡ length b) × (i ≤ length a) × (sameBytes a b ≡ sameBytes (drop i a) (drop i b))
@@ -19,8 +20,11 @@ abbrev μ-loop : tie.MeasureT-loop
 returns : tie.Need-returns Inv-loop μ-loop
 returns c = sym (same-lengths _ _ (c .if1 .taken))
 
+same-front-requires : tie.Need-same-front-requires Inv-loop μ-loop
+same-front-requires c κs = search needs
+
 loop-holds : tie.Need-loop-holds Inv-loop μ-loop
-loop-holds c = search needs
+loop-holds c = (omega arith, c .same-front .ensures .0, same-front (c .same-front .result) _ _ (c .same-front .ensures .1))
 
 shared-slice-read-if2 : tie.Need-shared-slice-read-if2 Inv-loop μ-loop
 shared-slice-read-if2 c = search needs
@@ -50,6 +54,7 @@ same-bytes-spec =
     Inv-loop
     μ-loop
     returns
+    same-front-requires
     loop-holds
     shared-slice-read-if2
     shared-slice-read-if2-2

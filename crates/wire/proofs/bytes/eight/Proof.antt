@@ -1,10 +1,10 @@
 use native.Mathlib.Omega.{arith}
 use Prim.Native.Nat.{_+_}
 use borrow.Author.Needs.{needs}
-use Rattle.wire.proofs.case_folding.eight.Statement.{statement}
-use Rattle.wire.proofs.case_folding.eight.Tie as tie
-use Rattle.wire.proofs.case_folding.eight.Reads as reads
-use Rattle.wire.proofs.case_folding.eight.Lts as lts
+use Rattle.wire.proofs.bytes.eight.Statement.{statement}
+use Rattle.wire.proofs.bytes.eight.Tie as tie
+use Rattle.wire.proofs.bytes.eight.Reads as reads
+use Rattle.wire.proofs.bytes.eight.Lts as lts
 
 shared-slice-read-b0 : tie.Need-shared-slice-read-b0
 shared-slice-read-b0 c = search needs

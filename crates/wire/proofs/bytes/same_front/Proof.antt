@@ -2,17 +2,16 @@ use borrow.Author.Needs.{needs}
 use native.Mathlib.Omega.{arith}
 use mathlib.Core.Path.{_≡_, refl, sym, _∙_}
 use Prim.Native.Nat.{ℕ, _≤_, _-_}
-use lib.ListN.{length, drop}
-use Rattle.wire.specs.case_folding.Fold.{sameName}
-use Rattle.wire.proofs.case_folding.Front.{past8}
-use Rattle.wire.proofs.case_folding.same_front.Statement.{statement}
-use Rattle.wire.proofs.case_folding.same_front.Tie as tie
-use Rattle.wire.proofs.case_folding.same_front.Reads as reads
-use Rattle.wire.proofs.case_folding.same_front.Lts as lts
-use Rattle.wire.proofs.case_folding.eight.Reads as eight-reads
+use lib.ListN.{length, take}
+use Rattle.wire.proofs.bytes.Front.{past8}
+use Rattle.wire.proofs.bytes.same_front.Statement.{statement}
+use Rattle.wire.proofs.bytes.same_front.Tie as tie
+use Rattle.wire.proofs.bytes.same_front.Reads as reads
+use Rattle.wire.proofs.bytes.same_front.Lts as lts
+use Rattle.wire.proofs.bytes.eight.Reads as eight-reads
 
 abbrev Inv-loop : tie.InvT-loop
-Inv-loop a b i₀ i = (length a ≡ length b) × (i ≤ length a) × (sameName a b ≡ sameName (drop i a) (drop i b))
+Inv-loop a b i₀ i = (length a ≡ length b) × (i ≤ length a) × (take i a ≡ take i b)
 
 abbrev μ-loop : tie.MeasureT-loop
 μ-loop a b i₀ i = length a - i
