@@ -1,82 +1,33 @@
--- A name that was read run by run, written over the front of a buffer. Assumes nothing.
-use mathlib.Core.Path.{_≡_, refl, sym, ap, ap₂, _∙_}
-use mathlib.Core.List.{List, [], _∷_, _++_}
-use mathlib.Core.Bool.{true}
-use Prim.Native.Nat.{ℕ, zero, suc, _+_, _-_, _<_, _≤_}
-use native.Mathlib.Nat.{zero-add}
+-- The span of a name that was written into a buffer. Assumes nothing.
+use mathlib.Core.Path.{_≡_, sym, ap, _∙_}
+use Prim.Native.Nat.{ℕ, _<_, _≤_}
 use native.Mathlib.Omega.{arith}
 use borrow.Author.Tests.{le-leb, lt-leb}
-use lib.ListN.{length, take, drop, replicate, length-append}
-use lib.Seq.{sets, sets-eq, take-at}
-use Rattle.wire.specs.message.Layout.{bytesOf}
-use Rattle.wire.specs.names.Names.{Reading, name}
-use Rattle.wire.specs.names.Answers.{spanOf, foundOf, expanded}
+use lib.ListN.{length}
+use Rattle.wire.specs.names.Names.{Reading}
+use Rattle.wire.specs.names.Answers.{foundOf}
+use Rattle.wire.specs.declared.names.Span.{Span}
+use Rattle.wire.specs.declared.names.Name.{Name}
 use Rattle.wire.specs.declared.names.Name.the-variants.{Found, Malformed}
-use Rattle.wire.specs.declared.names.Expanded.{Expanded}
-use Rattle.wire.proofs.octets.Sets.{sets-append}
 use Rattle.wire.proofs.names.Use.{as-name, as-malformed}
-use Rattle.capi_reader.specs.Reader.{noSpan, spanWithin, withName}
-use Rattle.capi_reader.specs.Runs.{spanIn, Lies}
+use Rattle.capi_reader.specs.Reader.{noSpan, spanWithin}
 use Rattle.capi_reader.specs.declared.NameSpan.{NameSpan}
-use Rattle.capi_reader.specs.declared.Runs.{Runs}
-use Rattle.capi_reader.specs.declared.RunsRead.{RunsRead}
-use Rattle.capi_reader.specs.declared.RunsRead.the-variants as runs
 
--- so many bytes at the most
-take-most : (n : ℕ) (l : List ℕ) → length (take n l) ≤ n
-take-most zero l = omega arith
-take-most (suc n) [] = omega arith
-take-most (suc n) (x ∷ l) = omega (arith, take-most n l)
+module _ (room : ℕ) (x : Reading) (r : Name) (h : r ≡ foundOf x) where
+  pub within-bad : r ≡ Malformed → noSpan ≡ spanWithin room x
+  within-bad k = sym (ap (spanWithin room) (as-malformed x r h k))
 
--- bytes over the front of a list
-over : (l bs : List ℕ) → length bs ≤ length l → sets l 0 bs ≡ bs ++ drop (length bs) l
-over l bs h = sets-eq bs l 0 (omega arith) ∙ ap (λ (k : ℕ). bs ++ drop k l) (zero-add (length bs))
+  module _ (s : Span) (k : r ≡ Found s) where
+    pub within-short : room < s .len → noSpan ≡ spanWithin room x
+    within-short l =
+        let f = as-name x r s h k in
+        let g : room < length (f .0) = omega (arith, f .2) in
+        sym (ap (spanWithin room) (f .1) ∙ simp (lt-leb _ _ g))
 
-module _ (p : List ℕ) (x : Reading) (out : List ℕ) (r : RunsRead) (span : spanIn r ≡ foundOf x) (lies : Lies p x r) where
-  pub into-bad : r ≡ runs.Malformed → (noSpan ≡ spanWithin (length out) x) × (out ≡ withName out x)
-  into-bad k =
-      let f = as-malformed x Malformed (sym (ap spanIn k) ∙ span) refl in
-      (sym (ap (spanWithin (length out)) f), sym (ap (withName out) f))
-
-  module _ (w : Runs) (k : r ≡ runs.Found w) where
-    found : (bs : List ℕ) × (x ≡ name bs (w .span .end)) × (length bs ≡ w .span .len) × (w .span ≡ spanOf bs (w .span .end))
-    found = as-name x (Found (w .span)) (w .span) (sym (ap spanIn k) ∙ span) refl
-
-    pub into-short : length out < w .span .len → (noSpan ≡ spanWithin (length out) x) × (out ≡ withName out x)
-    into-short h =
-        let f = found in
-        let l : length out < length (f .0) = omega (arith, f .2) in
-        (sym (ap (spanWithin (length out)) (f .1) ∙ simp (lt-leb _ _ l)), sym (ap (withName out) (f .1) ∙ simp (lt-leb _ _ l)))
-
-    module _ (fits : w .span .len ≤ length out) where
-      pub into-span : _≡_ {A = NameSpan} (record { end = w .span .end; length = w .span .len; labels = w .span .labels; «first_label» = w .span .first }) (spanWithin (length out) x)
-      into-span =
-          let f = found in
-          let l : length (f .0) ≤ length out = omega (arith, f .2) in
-          (λ i. record { end = f .3 i .end; length = f .3 i .len; labels = f .3 i .labels; «first_label» = f .3 i .first })
-          ∙ sym (ap (spanWithin (length out)) (f .1) ∙ simp (le-leb _ _ l))
-
-      written : (bs : List ℕ) → found .0 ≡ bs → (out′ : List ℕ) → out′ ≡ sets out 0 bs → out′ ≡ withName out x
-      written bs is out′ h =
-          let f = found in
-          let l : length (f .0) ≤ length out = omega (arith, f .2) in
-          h ∙ ap (sets out 0) (sym is) ∙ over out (f .0) l ∙ sym (ap (withName out) (f .1) ∙ simp (le-leb _ _ l))
-
-      pub into-runs : w .whole ≡ true → (out₁ out₂ : List ℕ) → out₁ ≡ sets out 0 (take (w .front) (drop (w .from) p))
-          → out₂ ≡ sets out₁ (w .front) (take (w .rest) (drop (w .start) p)) → out₂ ≡ withName out x
-      into-runs whole out₁ out₂ h₁ h₂ =
-          let f = found in
-          let g = (rw k at lies) whole in
-          let a = take (w .front) (drop (w .from) p) in
-          let b = take (w .rest) (drop (w .start) p) in
-          let is : f .0 ≡ a ++ b = sym (ap bytesOf (f .1)) ∙ g .1 in
-          let long : w .front ≡ 0 + length a =
-          omega (arith, f .2, g .0, ap length is, length-append a b, take-most (w .front) (drop (w .from) p), take-most (w .rest) (drop (w .start) p)) in
-          written (a ++ b) is out₂ (h₂ ∙ ap₂ (λ (l : List ℕ) (j : ℕ). sets l j b) h₁ long ∙ sets-append out 0 a b)
-
-      pub into-expanded : (e : Expanded) → e ≡ expanded x → (out′ : List ℕ) → out′ ≡ sets out 0 (take (w .span .len) (e .bytes)) → out′ ≡ withName out x
-      into-expanded e is out′ h =
-          let f = found in
-          written (take (w .span .len) (e .bytes))
-          (sym (ap (λ (y : Expanded). take (w .span .len) (y .bytes)) (is ∙ ap expanded (f .1)) ∙ take-at (f .0) (replicate (255 - length (f .0)) 0) (w .span .len) (f .2)))
-          out′ h
+    pub within-fits : s .len ≤ room
+        → _≡_ {A = NameSpan} (record { end = s .end; length = s .len; labels = s .labels; «first_label» = s .first }) (spanWithin room x)
+    within-fits l =
+        let f = as-name x r s h k in
+        let g : length (f .0) ≤ room = omega (arith, f .2) in
+        (λ i. record { end = f .3 i .end; length = f .3 i .len; labels = f .3 i .labels; «first_label» = f .3 i .first })
+        ∙ sym (ap (spanWithin room) (f .1) ∙ simp (le-leb _ _ g))

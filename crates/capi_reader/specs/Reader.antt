@@ -2,7 +2,7 @@
 use Prim.Native.Nat.{ℕ, _-_}
 use mathlib.Core.List.{List, _++_}
 use mathlib.Core.Bool.{cond}
-use lib.ListN.{length, drop, replicate}
+use lib.ListN.{length, replicate}
 use lib.Dec.{leb}
 use Rattle.wire.specs.labels.Counted.{labelsIn, firstIn}
 use Rattle.wire.specs.names.Names.{Reading, name, malformed}
@@ -35,11 +35,6 @@ abbrev pub spanWithin : ℕ → Reading → NameSpan
 spanWithin room (name bs e) =
     cond (leb (length bs) room) (record { end = e; length = length bs; labels = labelsIn bs; «first_label» = firstIn bs }) noSpan
 spanWithin room malformed = noSpan
-
--- a buffer with a name over its first bytes; as it was where the name is malformed or longer
-abbrev pub withName : List ℕ → Reading → List ℕ
-withName out (name bs e) = cond (leb (length bs) (length out)) (bs ++ drop (length bs) out) out
-withName out malformed = out
 
 -- where the parts of a message lie; all is 0 but the refusal where there is one
 abbrev pub sectionsOf : MessageRead → Sections

@@ -5,10 +5,8 @@ ghost use mathlib.Core.Path.{_≡_};
 ghost use lib.ListN.{length};
 ghost use Rattle.wire.specs.message.Layout.{messageAt, readOf};
 ghost use Rattle.wire.specs.names.Names.{nameAt};
-ghost use Rattle.wire.specs.names.Answers.{foundOf, orLater};
-ghost use Rattle.capi_reader.specs.Reader.{endOf, lengthOf, nameOf, spanWithin, withName, sectionsOf};
-ghost use Rattle.capi_reader.specs.Runs.{fromOf, spanIn, Lies};
-use wire::name_pieces::Piece;
+ghost use Rattle.wire.specs.runs.Written.{withName};
+ghost use Rattle.capi_reader.specs.Reader.{endOf, lengthOf, nameOf, spanWithin, sectionsOf};
 
 // A name: its uncompressed length, 0 where it is malformed, how many labels it has and how long the first is, 0 and 0 of the root, and its bytes, with zeros
 // behind them.
@@ -28,22 +26,6 @@ pub struct NameSpan {
     pub length: usize,
     pub labels: usize,
     pub first_label: usize,
-}
-
-// A name that was read: its span, and two runs of labels in the message. The first that is not empty has `front` bytes from `from` on, the last one has
-// `rest` bytes from `start` on, the zero byte with them. Whether the two are the whole name is told: whether no other is between them.
-struct Runs {
-    span: wire::names::Span,
-    from: usize,
-    front: usize,
-    start: usize,
-    rest: usize,
-    whole: bool,
-}
-
-enum RunsRead {
-    Found(Runs),
-    Malformed,
 }
 
 // Where the parts of a message lie: the refusal, and where it is 0 the ID, the flags, each section's offset and count, and the offset past the last record.
@@ -110,93 +92,16 @@ pub extern "C" fn kurgashel_name(message: &[u8], at: usize) -> Name
     }
 }
 
-// What is known, or where that is 0, as it is until something is known, what comes later.
-fn or_later(known: usize, later: usize) -> usize
-    ensures { λ r. ⌜ r ≡ orLater known later ⌝ }
-{
-    if known == 0 {
-        return later;
-    }
-    known
-}
-
-// Where the first run of labels begins that is not empty: `start` where none was before, else `from`.
-fn first_run(front: usize, from: usize, start: usize) -> usize
-    ensures { λ r. ⌜ r ≡ fromOf front from start ⌝ }
-{
-    if front == 0 {
-        return start;
-    }
-    from
-}
-
-// The name at an offset, and two of its runs. It is read by a loop, and nothing is copied.
-fn runs_at(p: &[u8], at: usize) -> RunsRead
-    ensures span { λ r. ⌜ spanIn r ≡ foundOf (nameAt (now (p .entry)) at) ⌝ }
-    ensures bytes { λ r. ⌜ Lies (now (p .entry)) (nameAt (now (p .entry)) at) r ⌝ }
-{
-    let mut from = at;
-    let mut front = 0;
-    let mut start = at;
-    // how many bytes are before the run at `start`
-    let mut last = 0;
-    let mut here = at;
-    let mut used = 0;
-    // past the first pointer, and 0 until one has been followed
-    let mut end = 0;
-    let mut labels = 0;
-    // the length of the first label, and 0 until one has been read
-    let mut first = 0;
-    loop {
-        match wire::name_pieces::piece_at(p, start, here, used) {
-            Piece::Root => {
-                let past = or_later(end, here + 1);
-                let len = used + 1;
-                return RunsRead::Found(Runs {
-                    span: wire::names::Span {
-                        end: past,
-                        len,
-                        labels,
-                        first,
-                    },
-                    from,
-                    front,
-                    start,
-                    rest: len - last,
-                    whole: front == last,
-                });
-            }
-            Piece::Label(n) => {
-                here = here + 1 + n;
-                used = used + 1 + n;
-                labels = labels + 1;
-                first = or_later(first, n);
-            }
-            Piece::Pointer(target) => {
-                end = or_later(end, here + 2);
-                from = first_run(front, from, start);
-                front = or_later(front, used);
-                last = used;
-                start = target;
-                here = target;
-            }
-            Piece::Bad => {
-                return RunsRead::Malformed;
-            }
-        }
-    }
-}
-
 // Writes the name at an offset, uncompressed, over the first bytes of a buffer; the others stay. Nothing is written where it is malformed or longer.
 #[no_mangle]
 pub extern "C" fn kurgashel_name_into(message: &[u8], at: usize, out: &mut [u8]) -> NameSpan
     ensures answer { λ r. ⌜ r ≡ spanWithin (length (now (out .entry))) (nameAt (now (message .entry)) at) ⌝ }
     ensures bytes { λ _. ⌜ now (out .exit) ≡ withName (now (out .entry)) (nameAt (now (message .entry)) at) ⌝ }
 {
-    match runs_at(message, at) {
-        RunsRead::Found(runs) => {
-            let len = runs.span.len;
-            if out.len() < len {
+    let room = out.len();
+    match wire::runs::name_into(message, at, out) {
+        wire::names::Name::Found(read) => {
+            if room < read.len {
                 return NameSpan {
                     end: 0,
                     length: 0,
@@ -204,23 +109,14 @@ pub extern "C" fn kurgashel_name_into(message: &[u8], at: usize, out: &mut [u8])
                     first_label: 0,
                 };
             }
-            if runs.whole {
-                wire::buffer::put(out, 0, wire::rdata::part(message, runs.from, runs.front));
-                let rest = wire::rdata::part(message, runs.start, runs.rest);
-                wire::buffer::put(out, runs.front, rest);
-            } else {
-                let expanded = wire::names::expand(message, at);
-                let bytes = expanded.bytes;
-                wire::buffer::put(out, 0, wire::rdata::part(&bytes, 0, len));
-            }
             NameSpan {
-                end: runs.span.end,
-                length: len,
-                labels: runs.span.labels,
-                first_label: runs.span.first,
+                end: read.end,
+                length: read.len,
+                labels: read.labels,
+                first_label: read.first,
             }
         }
-        RunsRead::Malformed => NameSpan {
+        wire::names::Name::Malformed => NameSpan {
             end: 0,
             length: 0,
             labels: 0,

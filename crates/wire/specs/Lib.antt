@@ -9,5 +9,6 @@ pub mod labels
 pub mod nsec
 pub mod rdata
 pub mod message
+pub mod runs
 pub mod long_message
 pub mod expansion

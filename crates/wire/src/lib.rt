@@ -12,3 +12,4 @@ pub mod nsec;
 pub mod octets;
 pub mod rdata;
 pub mod refusals;
+pub mod runs;

@@ -131,12 +131,12 @@ pub fn expand(p: &[u8], at: usize) -> Expanded
     }
 }
 
-// The length of a name's first label: the one that is known, or where that is 0, since none was read, `n`.
-fn first_label(known: usize, n: usize) -> usize
-    ensures { λ r. ⌜ r ≡ orLater known n ⌝ }
+// What is known, or where that is 0, as it is until something is known, what comes later.
+pub(crate) fn or_later(known: usize, later: usize) -> usize
+    ensures { λ r. ⌜ r ≡ orLater known later ⌝ }
 {
     if known == 0 {
-        return n;
+        return later;
     }
     known
 }
@@ -174,7 +174,7 @@ fn pass(
             })
         }
         Piece::Label(n) => {
-            let one = first_label(first, n);
+            let one = or_later(first, n);
             pass(p, start, at + 1 + n, used + 1 + n, end, labels + 1, one)
         }
         Piece::Pointer(target) => jump(p, at, target, used, end, labels, first),
@@ -245,7 +245,7 @@ pub fn name_at(p: &[u8], at: usize) -> Name
                 here = here + 1 + n;
                 used = used + 1 + n;
                 labels = labels + 1;
-                first = first_label(first, n);
+                first = or_later(first, n);
             }
             Piece::Pointer(target) => {
                 if end == 0 {

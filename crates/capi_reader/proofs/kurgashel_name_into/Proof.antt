@@ -1,115 +1,61 @@
 -- `capi_reader::kurgashel_name_into` meets its contract. Assumes nothing.
-use mathlib.Core.Path.{ap, _∙_}
-use Prim.Native.Nat.{_≤_}
 use native.Mathlib.Omega.{arith}
 use lib.ListN.{length}
-use lib.Seq.{sets}
 use Rattle.wire.specs.names.Names.{nameAt}
-use Rattle.capi_reader.proofs.Into.{into-short, into-span, into-runs, into-expanded, into-bad}
+use Rattle.capi_reader.proofs.Into.{within-bad, within-short, within-fits}
 use borrow.Author.Needs.{needs}
 use Rattle.capi_reader.proofs.kurgashel_name_into.Statement.{statement}
 use Rattle.capi_reader.proofs.kurgashel_name_into.Tie as tie
 use Rattle.capi_reader.proofs.kurgashel_name_into.Reads as reads
 use Rattle.capi_reader.proofs.kurgashel_name_into.Lts as lts
-use Rattle.capi_reader.proofs.runs_at.Reads as runs-at-reads
-use Rattle.wire.proofs.buffer.put.Reads as put-reads
-use Rattle.wire.proofs.names.expand.Reads as expand-reads
-use Rattle.wire.proofs.rdata.part.Reads as part-reads
+use Rattle.wire.proofs.runs.name_into.Reads as name-into-reads
 
-runs-at-requires : tie.Need-runs-at-requires
-runs-at-requires c κs = search needs
+name-into-requires : tie.Need-name-into-requires
+name-into-requires c κs = search needs
 
-enum-known-runs : tie.Need-enum-known-runs
-enum-known-runs c = search needs
-
-returns : tie.Need-returns
-returns c =
-    let a = c .before .before .before .before .before .before .before .args in
-    let g = c .before .before .before .before .runs-at .ensures in
-    into-short (a .message .now) (nameAt (a .message .now) (a .at)) (a .out .now) _ (g .0) (g .1) _ (c .before .before .runs .given .1) (c .if1 .taken)
-
-part-requires : tie.Need-part-requires
-part-requires c κs = search needs
-
-put-requires : tie.Need-put-requires
-put-requires c κs = search needs
-
-part-requires-2 : tie.Need-part-requires-2
-part-requires-2 c κs = search needs
-
-put-requires-2 : tie.Need-put-requires-2
-put-requires-2 c κs = search needs
-
-expand-requires : tie.Need-expand-requires
-expand-requires c κs = search needs
-
-slice-aggregate-part : tie.Need-slice-aggregate-part
-slice-aggregate-part c = search needs
-
-part-requires-3 : tie.Need-part-requires-3
-part-requires-3 c κs = search needs
-
-put-requires-3 : tie.Need-put-requires-3
-put-requires-3 c κs = search needs
-
-enum-told : tie.Need-enum-told
-enum-told c = search needs
+enum-known-read : tie.Need-enum-known-read
+enum-known-read c = search needs
 
 same-length : tie.Need-same-length
 same-length c = search needs
 
-returns-2 : tie.Need-returns-2
-returns-2 c =
-    let a = c .before .before .before .before .before .before .before .before .before .before .before .before .before .before .before .before .before .before .args in
-    let g = c .before .before .before .before .before .before .before .before .before .before .before .before .before .before .before .runs-at .ensures in
-    let k = c .before .before .before .before .before .before .before .before .before .before .before .before .before .runs .given .1 in
-    let x = nameAt (a .message .now) (a .at) in
-    let fits : c .before .before .before .before .before .before .before .before .before .before .before .before .before .runs .given .0 .0 .span .len ≤ length (a .out .now) = omega arith in (
-      into-span (a .message .now) x (a .out .now) _ (g .0) (g .1) _ k fits,
-      into-runs (a .message .now) x (a .out .now) _ (g .0) (g .1) _ k fits (c .before .before .before .before .before .before .before .before .before .before .if2 .taken) _ _
-          (c .before .before .before .before .before .before .before .put .ensures ∙ ap (sets (a .out .now) 0) (c .before .before .before .before .before .before .before .before .part .ensures .0))
-          (c .before .before .put2 .ensures ∙ ap (sets (c .before .before .before .before .before .before .before .put .last .0) _) (c .before .before .before .before .part2 .ensures .0)),
-    )
+returns : tie.Need-returns
+returns c =
+    let a = c .before .before .before .before .before .before .before .before .before .before .before .args in
+    let g = c .before .before .before .before .before .before .before .name-into .ensures in
+    (within-short (length (a .out .now)) (nameAt (a .message .now) (a .at)) _ (g .0) _ (c .before .before .before .read .given .1) (omega arith), g .1)
+
+enum-told : tie.Need-enum-told
+enum-told c = search needs
 
 same-length-2 : tie.Need-same-length-2
 same-length-2 c = search needs
 
+returns-2 : tie.Need-returns-2
+returns-2 c =
+    let a = c .before .before .before .before .before .before .before .before .before .before .before .args in
+    let g = c .before .before .before .before .before .before .before .name-into .ensures in
+    (within-fits (length (a .out .now)) (nameAt (a .message .now) (a .at)) _ (g .0) _ (c .before .before .before .read .given .1) (omega arith), g .1)
+
+same-length-3 : tie.Need-same-length-3
+same-length-3 c = search needs
+
 returns-3 : tie.Need-returns-3
 returns-3 c =
-    let a = c .before .before .before .before .before .before .before .before .before .before .before .before .before .before .before .before .args in
-    let g = c .before .before .before .before .before .before .before .before .before .before .before .before .before .runs-at .ensures in
-    let k = c .before .before .before .before .before .before .before .before .before .before .before .runs .given .1 in
-    let x = nameAt (a .message .now) (a .at) in
-    let fits : c .before .before .before .before .before .before .before .before .before .before .before .runs .given .0 .0 .span .len ≤ length (a .out .now) = omega arith in (
-      into-span (a .message .now) x (a .out .now) _ (g .0) (g .1) _ k fits,
-      into-expanded (a .message .now) x (a .out .now) _ (g .0) (g .1) _ k fits (c .before .before .before .before .before .before .before .expand .result) (c .before .before .before .before .before .before .before .expand .ensures) _
-          (c .before .before .put3 .ensures ∙ ap (sets (a .out .now) 0) (c .before .before .before .part3 .ensures .0)),
-    )
-
-returns-4 : tie.Need-returns-4
-returns-4 c =
-    let a = c .before .before .before .before .before .args in
-    let g = c .before .before .runs-at .ensures in
-    into-bad (a .message .now) (nameAt (a .message .now) (a .at)) (a .out .now) _ (g .0) (g .1) (c .enum-told .given .1)
+    let a = c .before .before .before .before .before .before .before .before .args in
+    let g = c .before .before .before .before .name-into .ensures in
+    (within-bad (length (a .out .now)) (nameAt (a .message .now) (a .at)) _ (g .0) (c .enum-told .given .1), g .1)
 
 pub kurgashel-name-into-spec : {M : Type 1} → statement M
 kurgashel-name-into-spec =
     tie.close
     (tie.spec
-    runs-at-requires
-    enum-known-runs
-    returns
-    part-requires
-    put-requires
-    part-requires-2
-    put-requires-2
-    expand-requires
-    slice-aggregate-part
-    part-requires-3
-    put-requires-3
-    enum-told
+    name-into-requires
+    enum-known-read
     same-length
-    returns-2
+    returns
+    enum-told
     same-length-2
-    returns-3
-    returns-4)
+    returns-2
+    same-length-3
+    returns-3)

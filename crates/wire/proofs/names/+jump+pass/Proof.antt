@@ -14,7 +14,7 @@ use Rattle.wire.proofs.names.pass.Kinds as pass-kinds
 use Rattle.wire.proofs.names.+jump+pass.Lts-pass as pass-lts
 use Rattle.wire.proofs.names.chase.Reads as chase-reads
 use Rattle.wire.proofs.name_pieces.piece_at.Reads as piece-at-reads
-use Rattle.wire.proofs.names.first_label.Reads as first-label-reads
+use Rattle.wire.proofs.names.or_later.Reads as or-later-reads
 use Rattle.wire.proofs.names.+jump+pass.{statement}
 use Rattle.wire.proofs.names.+jump+pass.Tie.{close}
 
@@ -41,7 +41,7 @@ abbrev jump-claims : ℕ → jump-lts.Claims
 jump-claims t = (chase-reads.Asked, chase-reads.Learnt, pass-below t, pass.Post)
 
 abbrev pass-claims : ℕ → pass-lts.Claims
-pass-claims t = (piece-at-reads.Asked, piece-at-reads.Learnt, first-label-reads.Asked, first-label-reads.Learnt, pass-below t, pass.Post, jump-below t, jump.Post)
+pass-claims t = (piece-at-reads.Asked, piece-at-reads.Learnt, or-later-reads.Asked, or-later-reads.Learnt, pass-below t, pass.Post, jump-below t, jump.Post)
 
 jump-chase-requires : (t : ℕ) → jump-lts.Need-chase-requires (jump-claims t) (jump-at t) jump.Post
 jump-chase-requires t c κs = omega arith
@@ -84,8 +84,8 @@ pass-add-t17 t c = omega arith
 pass-enum-known-n : (t : ℕ) → pass-lts.Need-enum-known-n (pass-claims t) (pass-at t) pass.Post
 pass-enum-known-n t c = search needs
 
-pass-first-label-requires : (t : ℕ) → pass-lts.Need-first-label-requires (pass-claims t) (pass-at t) pass.Post
-pass-first-label-requires t c κs = search needs
+pass-or-later-requires : (t : ℕ) → pass-lts.Need-or-later-requires (pass-claims t) (pass-at t) pass.Post
+pass-or-later-requires t c κs = search needs
 
 pass-add-pass : (t : ℕ) → pass-lts.Need-add-pass (pass-claims t) (pass-at t) pass.Post
 pass-add-pass t c = omega (arith, label-in _ _ _ _ _ (sym (c .before .before .before .before .piece-at .ensures) ∙ c .before .before .n .given .1))
@@ -119,7 +119,7 @@ pass-returns-2 : (t : ℕ) → pass-lts.Need-returns-2 (pass-claims t) (pass-at 
 pass-returns-2 t c = seen-root-after _ _ _ _ _ _ _ _ (c .before .before .before .piece-at .ensures) (c .before .enum-told .given .1) (c .if1 .left)
 
 pass-returns-3 : (t : ℕ) → pass-lts.Need-returns-3 (pass-claims t) (pass-at t) pass.Post
-pass-returns-3 t c = c .pass .ensures ∙ sym (seen-label _ _ _ _ _ _ _ _ (c .before .before .before .before .before .piece-at .ensures) _ (c .before .before .before .n .given .1) _ (c .before .first-label .ensures))
+pass-returns-3 t c = c .pass .ensures ∙ sym (seen-label _ _ _ _ _ _ _ _ (c .before .before .before .before .before .piece-at .ensures) _ (c .before .before .before .n .given .1) _ (c .before .or-later .ensures))
 
 pass-returns-4 : (t : ℕ) → pass-lts.Need-returns-4 (pass-claims t) (pass-at t) pass.Post
 pass-returns-4 t c = c .jump .ensures ∙ sym (seen-pointer _ _ _ _ _ _ _ _ (c .before .before .before .before .piece-at .ensures) _ (c .before .before .target .given .1))
@@ -152,7 +152,7 @@ pub +jump+pass-spec : {M : Type 1} → statement M
     (pass-returns t)
     (pass-add-t17 t)
     (pass-enum-known-n t)
-    (pass-first-label-requires t)
+    (pass-or-later-requires t)
     (pass-add-pass t)
     (pass-add-pass-2 t)
     (pass-add-pass-3 t)

@@ -12,7 +12,7 @@ use Rattle.wire.proofs.names.name_at.Tie as tie
 use Rattle.wire.proofs.names.name_at.Reads as reads
 use Rattle.wire.proofs.names.name_at.Lts as lts
 use Rattle.wire.proofs.name_pieces.piece_at.Reads as piece-at-reads
-use Rattle.wire.proofs.names.first_label.Reads as first-label-reads
+use Rattle.wire.proofs.names.or_later.Reads as or-later-reads
 
 abbrev Inv-loop : tie.InvT-loop
 Inv-loop p at start₀ here₀ used₀ end₀ labels₀ first₀ start here used end labels first =
@@ -63,8 +63,8 @@ add-used-2 c = omega (arith, label-room _ _ _ _ _ (sym (c .before .before .befor
 add-labels : tie.Need-add-labels Inv-loop μ-loop
 add-labels c = omega arith
 
-first-label-requires : tie.Need-first-label-requires Inv-loop μ-loop
-first-label-requires c κs = search needs
+or-later-requires : tie.Need-or-later-requires Inv-loop μ-loop
+or-later-requires c κs = search needs
 
 loop-less : tie.Need-loop-less Inv-loop μ-loop
 loop-less c = omega (arith, label-room _ _ _ _ _ (sym (c .before .before .before .before .piece-at .ensures) ∙ c .before .before .n .given .1))
@@ -74,7 +74,7 @@ loop-again c = (
   label-room _ _ _ _ _ (sym (c .before .before .before .before .piece-at .ensures) ∙ c .before .before .n .given .1),
   omega arith,
   c .before .before .before .before .before .loop .inv .2
-      ∙ seen-label _ _ _ _ _ _ _ _ (c .before .before .before .before .piece-at .ensures) _ (c .before .before .n .given .1) _ (c .first-label .ensures),
+      ∙ seen-label _ _ _ _ _ _ _ _ (c .before .before .before .before .piece-at .ensures) _ (c .before .before .n .given .1) _ (c .or-later .ensures),
 )
 
 enum-known-target : tie.Need-enum-known-target Inv-loop μ-loop
@@ -121,7 +121,7 @@ name-at-spec =
     add-used
     add-used-2
     add-labels
-    first-label-requires
+    or-later-requires
     loop-less
     loop-again
     enum-known-target

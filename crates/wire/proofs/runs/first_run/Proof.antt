@@ -1,9 +1,9 @@
 use mathlib.Core.Path.{sym}
 use borrow.Author.Tests.{eq-eqb, ne-eqb}
-use Rattle.capi_reader.proofs.first_run.Statement.{statement}
-use Rattle.capi_reader.proofs.first_run.Tie as tie
-use Rattle.capi_reader.proofs.first_run.Reads as reads
-use Rattle.capi_reader.proofs.first_run.Lts as lts
+use Rattle.wire.proofs.runs.first_run.Statement.{statement}
+use Rattle.wire.proofs.runs.first_run.Tie as tie
+use Rattle.wire.proofs.runs.first_run.Reads as reads
+use Rattle.wire.proofs.runs.first_run.Lts as lts
 
 returns : tie.Need-returns
 returns c = sym (simp (eq-eqb _ _ (c .if1 .taken)))

@@ -1,20 +1,20 @@
--- `capi_reader::runs_at` meets its contract. Assumes nothing.
+-- `wire::runs::runs_at` meets its contract. Assumes nothing.
 use borrow.Author.Needs.{needs}
 use mathlib.Core.Path.{_≡_, sym, _∙_}
 use Prim.Native.Nat.{_<_, _≤_, _+_, _-_}
 use native.Mathlib.Omega.{arith}
 use Rattle.wire.specs.names.Names.{nameAt, fromRun}
 use Rattle.wire.specs.names.Answers.{foundOf, seenOf}
 use Rattle.wire.proofs.name_pieces.Pieces.{is-root, label-in, label-room, pointer-in, pointer-back}
 use Rattle.wire.proofs.names.Walked.{seen-start, seen-label, seen-bad}
-use Rattle.capi_reader.proofs.InRuns.{later-most, later-zero, root-span, pointer-span, Kept, kept-start, kept-label, kept-pointer, kept-root}
-use Rattle.capi_reader.proofs.runs_at.Statement.{statement}
-use Rattle.capi_reader.proofs.runs_at.Tie as tie
-use Rattle.capi_reader.proofs.runs_at.Reads as reads
-use Rattle.capi_reader.proofs.runs_at.Lts as lts
-use Rattle.capi_reader.proofs.first_run.Reads as first-run-reads
-use Rattle.capi_reader.proofs.or_later.Reads as or-later-reads
+use Rattle.wire.proofs.runs.InRuns.{later-most, later-zero, root-span, pointer-span, Kept, kept-start, kept-label, kept-pointer, kept-root}
+use Rattle.wire.proofs.runs.runs_at.Statement.{statement}
+use Rattle.wire.proofs.runs.runs_at.Tie as tie
+use Rattle.wire.proofs.runs.runs_at.Reads as reads
+use Rattle.wire.proofs.runs.runs_at.Lts as lts
+use Rattle.wire.proofs.runs.first_run.Reads as first-run-reads
+use Rattle.wire.proofs.names.or_later.Reads as or-later-reads
 use Rattle.wire.proofs.name_pieces.piece_at.Reads as piece-at-reads
 
 abbrev Inv-loop : tie.InvT-loop
 Inv-loop p at from₀ front₀ start₀ last₀ here₀ used₀ end₀ labels₀ first₀ from front start last here used end labels first =

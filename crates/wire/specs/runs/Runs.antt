@@ -5,13 +5,13 @@ use mathlib.Core.List.{List, _++_}
 use mathlib.Core.Bool.{true, cond}
 use lib.ListN.{take, drop}
 use lib.Dec.{eqb}
 use Rattle.wire.specs.message.Layout.{bytesOf}
 use Rattle.wire.specs.names.Names.{Reading}
 use Rattle.wire.specs.declared.names.Name.{Name}
 use Rattle.wire.specs.declared.names.Name.the-variants as n
-use Rattle.capi_reader.specs.declared.Runs.{Runs}
-use Rattle.capi_reader.specs.declared.RunsRead.{RunsRead}
-use Rattle.capi_reader.specs.declared.RunsRead.the-variants as r
+use Rattle.wire.specs.declared.runs.Runs.{Runs}
+use Rattle.wire.specs.declared.runs.RunsRead.{RunsRead}
+use Rattle.wire.specs.declared.runs.RunsRead.the-variants as r
 
 -- where the first run begins that is not empty: at `start` where `front`, the bytes of one before, are none
 abbrev pub fromOf : ℕ → ℕ → ℕ → ℕ

@@ -1,9 +1,9 @@
 use mathlib.Core.Path.{sym}
 use borrow.Author.Tests.{eq-eqb, ne-eqb}
-use Rattle.capi_reader.proofs.or_later.Statement.{statement}
-use Rattle.capi_reader.proofs.or_later.Tie as tie
-use Rattle.capi_reader.proofs.or_later.Reads as reads
-use Rattle.capi_reader.proofs.or_later.Lts as lts
+use Rattle.wire.proofs.names.or_later.Statement.{statement}
+use Rattle.wire.proofs.names.or_later.Tie as tie
+use Rattle.wire.proofs.names.or_later.Reads as reads
+use Rattle.wire.proofs.names.or_later.Lts as lts
 
 returns : tie.Need-returns
 returns c = sym (simp (eq-eqb _ _ (c .if1 .taken)))

@@ -8,17 +8,17 @@ use borrow.Author.Tests.{eqb-true, eqb-false}
 use lib.Dec.{eqb}
 use lib.ListN.{take, drop}
 use lib.Seq.{take-add, drop-drop, drop-cons}
 use Rattle.wire.specs.message.Layout.{bytesOf}
 use Rattle.wire.specs.name_pieces.Pieces.{pieceAt}
 use Rattle.wire.specs.names.Names.{Reading, name, malformed, before, ending, fromRun, nameAt}
 use Rattle.wire.specs.names.Answers.{orLater, seenOf}
 use Rattle.wire.specs.declared.name_pieces.Piece.{Piece}
 use Rattle.wire.specs.declared.name_pieces.Piece.the-variants.{Root, Label, Pointer}
 use Rattle.wire.specs.declared.names.Name.the-variants.{Found}
 use Rattle.wire.proofs.names.Rest.{read-at}
 use Rattle.wire.proofs.names.Walked.{seen-root, seen-root-after, seen-pointer, passed-first, passed-later}
 use Rattle.wire.proofs.name_pieces.Pieces.{is-root}
-use Rattle.capi_reader.specs.Runs.{fromOf}
+use Rattle.wire.specs.runs.Runs.{fromOf}
 
 -- what is known is not over what comes later, and is 0 only if that is
 pub later-most : (known later k : ℕ) → known ≤ later → k ≡ orLater known later → k ≤ later
