@@ -2,7 +2,7 @@
 // message once, and then walks a section with a cursor.
 ghost use mathlib.Core.Path.{_≡_};
 ghost use Rattle.wire.specs.message.Message.{ttlOf};
-ghost use Rattle.wire.specs.message.Layout.{questionRead, recordRead, questionAt, recordAt, listFrom};
+ghost use Rattle.wire.specs.message.Layout.{questionRead, recordBehind, recordRead, questionAt, recordAt, listFrom};
 ghost use Rattle.wire.specs.message.Layout.{sectionsOf, plainHeader, messageAt, readOf, refusalOf};
 ghost use Rattle.wire.specs.message.Places.{pastItem, pastList};
 ghost use Rattle.wire.specs.message.Readable.{wholeRead};
@@ -118,35 +118,41 @@ pub fn counted_ttl(ttl: u32) -> u32
     ttl
 }
 
-// The record at an offset. Its rdata lies in the packet; whether it is as its type asks is not looked at here.
+// The record whose owner starts at an offset and has this span: the owner was read, and is not followed again. Its rdata lies in the packet; whether it is as
+// its type asks is not looked at here.
+pub fn record_behind(p: &[u8], at: usize, span: Span) -> RecordRead
+    ensures { λ r. ⌜ r ≡ recordBehind (now (p .entry)) at span ⌝ }
+{
+    let end = span.end;
+    if p.len() < end {
+        return RecordRead::Malformed;
+    }
+    if p.len() - end < 10 {
+        return RecordRead::Malformed;
+    }
+    let rdlength = crate::octets::be16(p, end + 8) as usize;
+    let rdata = end + 10;
+    if p.len() - rdata < rdlength {
+        return RecordRead::Malformed;
+    }
+    RecordRead::Found(RecordAt {
+        owner: at,
+        span,
+        rtype: crate::octets::be16(p, end),
+        class: crate::octets::be16(p, end + 2),
+        ttl: counted_ttl(crate::octets::be32(p, end + 4)),
+        rdata,
+        rdlength,
+        next: rdata + rdlength,
+    })
+}
+
+// The record at an offset.
 pub fn record_at(p: &[u8], at: usize) -> RecordRead
     ensures { λ r. ⌜ r ≡ recordRead (now (p .entry)) at ⌝ }
 {
     match crate::names::name_at(p, at) {
-        crate::names::Name::Found(span) => {
-            let end = span.end;
-            if p.len() < end {
-                return RecordRead::Malformed;
-            }
-            if p.len() - end < 10 {
-                return RecordRead::Malformed;
-            }
-            let rdlength = crate::octets::be16(p, end + 8) as usize;
-            let rdata = end + 10;
-            if p.len() - rdata < rdlength {
-                return RecordRead::Malformed;
-            }
-            RecordRead::Found(RecordAt {
-                owner: at,
-                span,
-                rtype: crate::octets::be16(p, end),
-                class: crate::octets::be16(p, end + 2),
-                ttl: counted_ttl(crate::octets::be32(p, end + 4)),
-                rdata,
-                rdlength,
-                next: rdata + rdlength,
-            })
-        }
+        crate::names::Name::Found(span) => record_behind(p, at, span),
         crate::names::Name::Malformed => RecordRead::Malformed,
     }
 }

@@ -16,7 +16,7 @@ use Rattle.wire.proofs.names.Use.{as-name, as-malformed}
 use Rattle.wire.specs.rdata.Rdata.{Rdata, rdata, unfit, rdataAt}
 use Rattle.wire.specs.rdata.Answers.{fits}
 use Rattle.wire.specs.message.Message.{ttlOf}
-use Rattle.wire.specs.message.Layout.{questionRead, recordRead, questionAt, recordAt, questionMeant, recordMeant, withRdata, bytesOf}
+use Rattle.wire.specs.message.Layout.{questionRead, recordBehind, recordFrom, recordRead, questionAt, recordAt, questionMeant, recordMeant, withRdata, bytesOf}
 use Rattle.wire.specs.message.Places.{pastItem}
 use Rattle.wire.specs.declared.message.Place.{Place}
 use Rattle.wire.specs.declared.message.Place.the-variants.{At, Malformed}
@@ -27,6 +27,15 @@ use Rattle.wire.specs.declared.message.RecordAt.{RecordAt}
 use Rattle.wire.specs.declared.message.RecordRead.{RecordRead}
 use Rattle.wire.specs.declared.message.RecordRead.the-variants as r
 
+-- a record is what stands behind its owner, and nothing behind a malformed one
+pub behind-name : (p : List ℕ) (at : ℕ) (bs : List ℕ) (e : ℕ) → nameAt p at ≡ name bs e → recordRead p at ≡ recordBehind p at (spanOf bs e)
+unfolding recordRead
+behind-name p at bs e is = ap (recordFrom p at) is
+
+pub behind-malformed : (p : List ℕ) (at : ℕ) → nameAt p at ≡ malformed → recordRead p at ≡ r.Malformed
+unfolding recordRead
+behind-malformed p at is = ap (recordFrom p at) is
+
 module _ (p : List ℕ) (at : ℕ) (n : Name) (h : n ≡ foundOf (nameAt p at)) where
   module _ (k : n ≡ nam.Malformed) where
     pub question-bad : q.Malformed ≡ questionRead p at
@@ -34,8 +43,7 @@ module _ (p : List ℕ) (at : ℕ) (n : Name) (h : n ≡ foundOf (nameAt p at)) 
     question-bad = simp (as-malformed (nameAt p at) n h k)
 
     pub record-bad : r.Malformed ≡ recordRead p at
-    unfolding recordRead
-    record-bad = simp (as-malformed (nameAt p at) n h k)
+    record-bad = sym (behind-malformed p at (as-malformed (nameAt p at) n h k))
 
   module _ (s : Span) (k : n ≡ nam.Found s) where
     is : nameAt p at ≡ name (as-name (nameAt p at) n s h k .0) (s .end)
@@ -55,23 +63,26 @@ module _ (p : List ℕ) (at : ℕ) (n : Name) (h : n ≡ foundOf (nameAt p at)) 
         simp (is, le-leb _ _ l)
         (λ i. q.Found (record { name = at; span = sym whole i; rtype = et i; class = ec i; next = s .end + 4 }))
 
-    pub record-short : length p < s .end + 10 → r.Malformed ≡ recordRead p at
-    unfolding recordRead
-    record-short l = simp (is, lt-leb _ _ l)
+    -- the record is read from the owner's end on
+    pub record-behind : (a : RecordRead) → a ≡ recordBehind p at s → a ≡ recordRead p at
+    record-behind a b = b ∙ ap (recordBehind p at) (sym whole) ∙ sym (behind-name p at _ _ is)
 
-    pub record-over : s .end + 10 ≤ length p → length p < s .end + 10 + word16 p (s .end + 8) → r.Malformed ≡ recordRead p at
-    unfolding recordRead
-    record-over l o = simp (is, le-leb _ _ l, lt-leb _ _ o)
+-- a record behind an owner whose span is known
+module _ (p : List ℕ) (at : ℕ) (s : Span) where
+  pub behind-short : length p < s .end + 10 → r.Malformed ≡ recordBehind p at s
+  behind-short l = simp (lt-leb _ _ l)
 
-    pub record-found : (w t c v u : ℕ) → w ≡ word16 p (s .end + 8) → t ≡ word16 p (s .end) → c ≡ word16 p (s .end + 2) → v ≡ word32 p (s .end + 4) → u ≡ ttlOf v
-        → s .end + 10 ≤ length p → s .end + 10 + w ≤ length p
-        → r.Found (record { owner = at; span = s; rtype = t; class = c; ttl = u; rdata = s .end + 10; rdlength = w; next = s .end + 10 + w }) ≡ recordRead p at
-    unfolding recordRead
-    record-found w t c v u ew et ec ev eu l o =
-        let o′ : s .end + 10 + word16 p (s .end + 8) ≤ length p = omega arith in
-        let ttl : u ≡ ttlOf (word32 p (s .end + 4)) = eu ∙ ap ttlOf ev in
-        simp (is, le-leb _ _ l, le-leb _ _ o′)
-        (λ i. r.Found (record { owner = at; span = sym whole i; rtype = et i; class = ec i; ttl = ttl i; rdata = s .end + 10; rdlength = ew i; next = s .end + 10 + ew i }))
+  pub behind-over : s .end + 10 ≤ length p → length p < s .end + 10 + word16 p (s .end + 8) → r.Malformed ≡ recordBehind p at s
+  behind-over l o = simp (le-leb _ _ l, lt-leb _ _ o)
+
+  pub behind-found : (w t c v u : ℕ) → w ≡ word16 p (s .end + 8) → t ≡ word16 p (s .end) → c ≡ word16 p (s .end + 2) → v ≡ word32 p (s .end + 4) → u ≡ ttlOf v
+      → s .end + 10 ≤ length p → s .end + 10 + w ≤ length p
+      → r.Found (record { owner = at; span = s; rtype = t; class = c; ttl = u; rdata = s .end + 10; rdlength = w; next = s .end + 10 + w }) ≡ recordBehind p at s
+  behind-found w t c v u ew et ec ev eu l o =
+      let o′ : s .end + 10 + word16 p (s .end + 8) ≤ length p = omega arith in
+      let ttl : u ≡ ttlOf (word32 p (s .end + 4)) = eu ∙ ap ttlOf ev in
+      simp (le-leb _ _ l, le-leb _ _ o′)
+      (λ i. r.Found (record { owner = at; span = s; rtype = et i; class = ec i; ttl = ttl i; rdata = s .end + 10; rdlength = ew i; next = s .end + 10 + ew i }))
 
 -- past a question, and past a record whose rdata fits
 module _ (p : List ℕ) (at : ℕ) where

@@ -11,6 +11,7 @@ use Rattle.wire.specs.names.Names.{Reading, name, malformed, nameAt}
 use Rattle.wire.specs.names.Answers.{spanOf}
 use Rattle.wire.specs.rdata.Rdata.{Rdata, rdata, unfit, rdataAt}
 use Rattle.wire.specs.message.Message.{Question, Record, recordOf, Message, ttlOf}
+use Rattle.wire.specs.declared.names.Span.{Span}
 use Rattle.wire.specs.declared.message.QuestionAt.{QuestionAt}
 use Rattle.wire.specs.declared.message.QuestionRead.{QuestionRead}
 use Rattle.wire.specs.declared.message.QuestionRead.the-variants as q
@@ -33,21 +34,25 @@ questionFrom p at malformed = q.Malformed
 unfoldable pub questionRead : List ℕ → ℕ → QuestionRead
 questionRead p at = questionFrom p at (nameAt p at)
 
--- A record: a name, then type, class, TTL and the length of the rdata, in ten bytes, and the rdata "starting where the record's length field ends".
-abbrev pub recordFrom : List ℕ → ℕ → Reading → RecordRead
-recordFrom p at (name bs e) =
-    cond (leb (e + 10) (length p) && leb (e + 10 + word16 p (e + 8)) (length p))
+-- A record: a name, then type, class, TTL and the length of the rdata, in ten bytes, and the rdata "starting where the record's length field ends". First the
+-- record whose owner lies at `at` and has a span that is known.
+abbrev pub recordBehind : List ℕ → ℕ → Span → RecordRead
+recordBehind p at s =
+    cond (leb (s .end + 10) (length p) && leb (s .end + 10 + word16 p (s .end + 8)) (length p))
     (r.Found (record {
       owner = at;
-      span = spanOf bs e;
-      rtype = word16 p e;
-      class = word16 p (e + 2);
-      ttl = ttlOf (word32 p (e + 4));
-      rdata = e + 10;
-      rdlength = word16 p (e + 8);
-      next = e + 10 + word16 p (e + 8);
+      span = s;
+      rtype = word16 p (s .end);
+      class = word16 p (s .end + 2);
+      ttl = ttlOf (word32 p (s .end + 4));
+      rdata = s .end + 10;
+      rdlength = word16 p (s .end + 8);
+      next = s .end + 10 + word16 p (s .end + 8);
     }))
     r.Malformed
+
+abbrev pub recordFrom : List ℕ → ℕ → Reading → RecordRead
+recordFrom p at (name bs e) = recordBehind p at (spanOf bs e)
 recordFrom p at malformed = r.Malformed
 
 unfoldable pub recordRead : List ℕ → ℕ → RecordRead
