@@ -1,7 +1,7 @@
 -- What a screen can show, byte by byte. Assumes nothing.
 use mathlib.Core.Path.{_≡_, refl, sym, ap, _∙_}
 use mathlib.Core.List.{List, [], _∷_}
-use mathlib.Core.Bool.{Bool, true, false, _&&_, and-false, and-true}
+use mathlib.Core.Bool.{Bool, true, false, _&&_, and-false, and-true, or-true}
 use Prim.Native.Nat.{ℕ, _+_, _-_, _<_, _≤_}
 use native.Mathlib.Numerals.{add-one}
 use native.Mathlib.Omega.{arith}
@@ -9,7 +9,7 @@ use borrow.Author.Tests.{le-leb, lt-leb, lt-ltb, le-ltb, eq-eqb, ne-eqb, leb-tru
 use mathlib.Mathlib.Data.Bool.Basic.{and-eq-true-eq-eq-true-and-eq-true as both}
 use lib.ListN.{length, getD, drop, drop-of-length-le}
 use lib.Seq.{drop-cons}
-use lib.Dec.{leb, eqb}
+use lib.Dec.{leb}
 use Rattle.own.specs.declared.utf8.Next.{Next}
 use Rattle.own.specs.utf8.Utf8.{owing, within, starts, following, mayStand, behind, shownFrom, isShown, allPlain}
 
@@ -39,6 +39,10 @@ module _ (b : ℕ) (v : Bool) (is : v ≡ within 0x20 0x7E b) where
   pub starts-lead : v ≡ false → (w : Bool) → w ≡ within 0xC2 0xF4 b → w ≡ starts b
   unfolding starts
   starts-lead t w iw = sym (simp (sym is ∙ t) (sym iw))
+
+pub starts-led : (b : ℕ) → 0xC2 ≤ b → b ≤ 0xF4 → starts b ≡ true
+unfolding starts
+starts-led b h k = simp (between 0xC2 0xF4 b h k) (or-true (within 0x20 0x7E b))
 
 -- what follows it, by the table
 module _ (b : ℕ) where
@@ -108,22 +112,14 @@ plain-shown (b ∷ bs) h =
     let t = starts-plain b _ refl (f .0) in
     plain-shown bs (f .1) ∙ sym (simp (sym t, follows-1 b k))
 
-pub shown-begin : (s : List ℕ) (n : Next) → n ≡ owing 0 0x80 0xBF → isShown s ≡ shownFrom n s
-unfolding isShown
-shown-begin s n e = rw e
-
--- a turn of the loops over the bytes
+-- a turn of the loop over the bytes
 module _ (s : List ℕ) (i : ℕ) where
   pub plain-end : (v : Bool) → length s ≤ i → allPlain s ≡ (v && allPlain (drop i s)) → v ≡ allPlain s
   unfolding allPlain
   plain-end v h inv = sym (inv ∙ rw (drop-of-length-le s h) (and-true v))
 
-  pub shown-end : (n : Next) → length s ≤ i → isShown s ≡ shownFrom n (drop i s) → eqb (n .owed) 0 ≡ isShown s
-  unfolding shownFrom
-  shown-end n h inv = sym (inv ∙ rw (drop-of-length-le s h))
-
   module _ (h : i < length s) where
-    front : drop i s ≡ getD s i 0 ∷ drop (i + 1) s
+    pub front : drop i s ≡ getD s i 0 ∷ drop (i + 1) s
     front = drop-cons s i 0 h ∙ ap (λ (k : ℕ). getD s i 0 ∷ drop k s) (sym (add-one i))
 
     module _ (p : Bool) (inv : allPlain s ≡ (p && allPlain (drop i s))) (v : Bool) (is : v ≡ within 0x20 0x7E (getD s i 0)) where
@@ -136,14 +132,3 @@ module _ (s : List ℕ) (i : ℕ) where
 
       pub plain-lost : v ≡ false → (w : Bool) → w ≡ false → allPlain s ≡ (w && allPlain (drop (i + 1) s))
       plain-lost t w k = plain-turn ∙ simp (t, k, and-false)
-
-    module _ (n : Next) (inv : isShown s ≡ shownFrom n (drop i s)) (v : Bool) (is : v ≡ mayStand n (getD s i 0)) where
-      shown-turn : isShown s ≡ (v && shownFrom (behind n (getD s i 0)) (drop (i + 1) s))
-      unfolding shownFrom
-      shown-turn = inv ∙ rw (front, is)
-
-      pub shown-stop : v ≡ false → false ≡ isShown s
-      shown-stop t = sym (shown-turn ∙ simp t)
-
-      pub shown-on : v ≡ true → (m : Next) → m ≡ behind n (getD s i 0) → isShown s ≡ shownFrom m (drop (i + 1) s)
-      shown-on t m e = rw e (shown-turn ∙ simp t)

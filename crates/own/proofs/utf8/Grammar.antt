@@ -2,7 +2,7 @@
 use mathlib.Core.Path.{_≡_, refl, sym, ap, _∙_}
 use mathlib.Core.Logic.{_⊎_, inl, inr}
 use mathlib.Core.List.{List, [], _∷_, _++_}
-use mathlib.Core.Bool.{Bool, true, false, _||_, or-true}
+use mathlib.Core.Bool.{Bool, true, false, _||_}
 use mathlib.Mathlib.Data.Bool.Basic.{and-eq-true-eq-eq-true-and-eq-true as both}
 use Prim.Native.Nat.{ℕ, zero, suc, _-_, _<_, _≤_}
 use native.Mathlib.Omega.{arith}
@@ -11,7 +11,7 @@ use lib.Dec.{ltb, eqb}
 use Rattle.own.specs.declared.utf8.Next.{Next}
 use Rattle.own.specs.utf8.Utf8.{owing, within, starts, following, mayStand, behind, shownFrom, isShown}
 use Rattle.own.specs.utf8.Grammar.{Range, Character, one, two, three-E0, three-E1, three-ED, three-EE, four-F0, four-F1, four-F4, Octets, none, next, NoControl, nothing, byte, ShownExactly}
-use Rattle.own.proofs.utf8.Bytes.{between, within-true, starts-plain, follows-1, follows-2, follows-3, follows-4, follows-E0, follows-ED, follows-F0, follows-F4, stands-first, stands-owed, behind-first, behind-owed}
+use Rattle.own.proofs.utf8.Bytes.{between, within-true, starts-plain, starts-led, follows-1, follows-2, follows-3, follows-4, follows-E0, follows-ED, follows-F0, follows-F4, stands-first, stands-owed, behind-first, behind-owed}
 
 abbrev Both : List ℕ → Type 0
 Both s = Octets s × NoControl s
@@ -148,10 +148,6 @@ owed {k} {low} {high} {b} r h = record { holds = simp (owed-stands b k low high,
 plain-first : (a : ℕ) → 0x20 ≤ a → a ≤ 0x7E → starts a ≡ true
 plain-first a h k = sym (starts-plain a _ refl (between 0x20 0x7E a h k))
 
-lead : (a : ℕ) → 0xC2 ≤ a → a ≤ 0xF4 → starts a ≡ true
-unfolding starts
-lead a h k = simp (between 0xC2 0xF4 a h k) (or-true (within 0x20 0x7E a))
-
 three : (a : ℕ) → 0xE0 < a → (a ≡ 0xED → ⊥) → a < 0xF0 → following a ≡ owing 2 0x80 0xBF
 three a h n k = follows-3 a (omega arith) (λ e. omega arith) n k
 
@@ -159,21 +155,21 @@ three a h n k = follows-3 a (omega arith) (λ e. omega arith) n k
 char : {c s : List ℕ} → Character c → NoControl (c ++ s) → Stands start s → Stands start (c ++ s)
 char (one {a = a} r) (byte h k _) w =
     let p : a ≤ 0x7F = r .1 in first (plain-first a (omega arith) (omega arith)) (follows-1 a (omega arith)) w
-char (two {a = a} r t) _ w = first (lead a (r .0) (omega (arith, r .1))) (follows-2 a (omega (arith, r .0)) (omega (arith, r .1))) (owed t w)
-char (three-E0 t u) _ w = first (lead 0xE0 (omega arith) (omega arith)) (follows-E0 0xE0 refl) (owed t (owed u w))
+char (two {a = a} r t) _ w = first (starts-led a (r .0) (omega (arith, r .1))) (follows-2 a (omega (arith, r .0)) (omega (arith, r .1))) (owed t w)
+char (three-E0 t u) _ w = first (starts-led 0xE0 (omega arith) (omega arith)) (follows-E0 0xE0 refl) (owed t (owed u w))
 char (three-E1 {a = a} r t u) _ w =
     let h : 0xE1 ≤ a = r .0 in
-    let k : a ≤ 0xEC = r .1 in first (lead a (omega arith) (omega arith)) (three a (omega arith) (λ e. omega arith) (omega arith)) (owed t (owed u w))
-char (three-ED t u) _ w = first (lead 0xED (omega arith) (omega arith)) (follows-ED 0xED refl) (owed t (owed u w))
+    let k : a ≤ 0xEC = r .1 in first (starts-led a (omega arith) (omega arith)) (three a (omega arith) (λ e. omega arith) (omega arith)) (owed t (owed u w))
+char (three-ED t u) _ w = first (starts-led 0xED (omega arith) (omega arith)) (follows-ED 0xED refl) (owed t (owed u w))
 char (three-EE {a = a} r t u) _ w =
     let h : 0xEE ≤ a = r .0 in
-    let k : a ≤ 0xEF = r .1 in first (lead a (omega arith) (omega arith)) (three a (omega arith) (λ e. omega arith) (omega arith)) (owed t (owed u w))
-char (four-F0 t u v) _ w = first (lead 0xF0 (omega arith) (omega arith)) (follows-F0 0xF0 refl) (owed t (owed u (owed v w)))
+    let k : a ≤ 0xEF = r .1 in first (starts-led a (omega arith) (omega arith)) (three a (omega arith) (λ e. omega arith) (omega arith)) (owed t (owed u w))
+char (four-F0 t u v) _ w = first (starts-led 0xF0 (omega arith) (omega arith)) (follows-F0 0xF0 refl) (owed t (owed u (owed v w)))
 char (four-F1 {a = a} r t u v) _ w =
     let h : 0xF1 ≤ a = r .0 in
     let k : a ≤ 0xF3 = r .1 in
-    first (lead a (omega arith) (omega arith)) (follows-4 a (omega arith) (λ e. omega arith) (λ e. omega arith)) (owed t (owed u (owed v w)))
-char (four-F4 t u v) _ w = first (lead 0xF4 (omega arith) (omega arith)) (follows-F4 0xF4 refl) (owed t (owed u (owed v w)))
+    first (starts-led a (omega arith) (omega arith)) (follows-4 a (omega arith) (λ e. omega arith) (λ e. omega arith)) (owed t (owed u (owed v w)))
+char (four-F4 t u v) _ w = first (starts-led 0xF4 (omega arith) (omega arith)) (follows-F4 0xF4 refl) (owed t (owed u (owed v w)))
 
 rest-free : (c : List ℕ) {s : List ℕ} → NoControl (c ++ s) → NoControl s
 rest-free [] n = n
