@@ -3,23 +3,47 @@
 ghost use mathlib.Core.Path.{_≡_};
 ghost use Prim.Native.Nat.{_+_, _≤_, _<_};
 ghost use lib.ListN.{length};
+ghost use Rattle.wire.specs.octets.Octets.{word32};
 ghost use Rattle.capi_responder.specs.codec.Numbers.{word64};
 ghost use Rattle.capi_responder.specs.codec.Layout as layout;
-ghost use Rattle.capi_responder.specs.idle.Idle.{claimRests, replyRests, whenKept, multicastsKept, zerosFrom, noneHeld, nothingDue, isIdle};
+ghost use Rattle.capi_responder.specs.idle.Idle.{toCome, claimRests, replyRests, whenKept, multicastsKept, noneHeld, nothingDue, isIdle};
 use crate::layout;
 use claims::records::RECORDS;
 use claims::refusal_tests::LAST_KEPT;
 use claims::refusal_tests::LAST_TIME;
 use writer::own_packets::LEAST_OUT;
 
+// A byte, of the width of a number.
+fn wide(b: u8) -> u64
+    ensures { λ r. ⌜ (r ≡ b) × (r < 256) ⌝ }
+{
+    b as u64
+}
+
+// The number of 32 bits at an offset. Nothing is tested and all is of one width, so that the compiler makes one load of two such numbers.
+fn half_at(b: &[u8], at: usize) -> u64
+    requires { ⌜ at + 4 ≤ length (now b) ⌝ }
+    ensures { λ r. ⌜ (r ≡ word32 (now (b .entry)) at) × (r < 4294967296) ⌝ }
+{
+    wide(b[at]) * 16777216 + wide(b[at + 1]) * 65536 + wide(b[at + 2]) * 256 + wide(b[at + 3])
+}
+
 // The number of 64 bits at an offset.
 fn number_at(b: &[u8], at: usize) -> u64
-    requires { ⌜ at < layout.stateSize ⌝ }
+    requires { ⌜ at + layout.numberSize ≤ length (now b) ⌝ }
     ensures { λ r. ⌜ r ≡ word64 (now (b .entry)) at ⌝ }
 {
-    let high = wire::octets::be32(b, at) as u64;
-    let low = wire::octets::be32(b, at + 4) as u64;
-    high * 4294967296 + low
+    half_at(b, at) * 4294967296 + half_at(b, at + 4)
+}
+
+// A due time that is still to come, and that a state may keep.
+fn is_to_come(due: u64, time: u64) -> bool
+    ensures { λ r. ⌜ r ≡ toCome due time ⌝ }
+{
+    if due <= time {
+        return false;
+    }
+    due <= LAST_KEPT
 }
 
 // No step of the claim is due, its time is one that a state may keep, and its bytes are those that would be written.
@@ -28,17 +52,13 @@ fn claim_rests(b: &[u8], at: usize, time: u64) -> bool
     ensures { λ r. ⌜ r ≡ claimRests (now (b .entry)) at time ⌝ }
 {
     let tag = b[at];
-    let due = number_at(b, at + 1);
     if tag < 6 {
-        if due <= time {
-            return false;
-        }
-        return due <= LAST_KEPT;
+        return is_to_come(number_at(b, at + 1), time);
     }
     if 7 < tag {
         return false;
     }
-    due == 0
+    number_at(b, at + 1) == 0
 }
 
 // The same of the PTR reply.
@@ -47,17 +67,13 @@ fn reply_rests(b: &[u8], at: usize, time: u64) -> bool
     ensures { λ r. ⌜ r ≡ replyRests (now (b .entry)) at time ⌝ }
 {
     let flag = b[at];
-    let due = number_at(b, at + 1);
     if flag == 0 {
-        return due == 0;
+        return number_at(b, at + 1) == 0;
     }
     if flag != 1 {
         return false;
     }
-    if due <= time {
-        return false;
-    }
-    due <= LAST_KEPT
+    is_to_come(number_at(b, at + 1), time)
 }
 
 // A last multicast or the last update, if there was one, is a time that a state may keep, and its bytes are those that would be written.
@@ -66,14 +82,13 @@ fn when_kept(b: &[u8], at: usize) -> bool
     ensures { λ r. ⌜ r ≡ whenKept (now (b .entry)) at ⌝ }
 {
     let flag = b[at];
-    let last = number_at(b, at + 1);
     if flag == 0 {
-        return last == 0;
+        return number_at(b, at + 1) == 0;
     }
     if flag != 1 {
         return false;
     }
-    last <= LAST_KEPT
+    number_at(b, at + 1) <= LAST_KEPT
 }
 
 // The same of each.
@@ -91,22 +106,21 @@ fn multicasts_kept(b: &[u8]) -> bool
     true
 }
 
-// No query is held: the bytes of all four places are zeros, as those of a start are. Twenty numbers are as many bytes and four more, the first of the draw,
-// which are zeros in every state that is not refused.
+// No query is held: the bytes of all four places are zeros, as those of a start are, and so are the first four of the draw, in every state that is not
+// refused. It looks at all of them, since a loop that may stop early takes several times as long.
 fn none_held(b: &[u8]) -> bool
     requires { ⌜ length (now b) ≡ layout.stateSize ⌝ }
     ensures { λ r. ⌜ r ≡ noneHeld (now (b .entry)) ⌝ }
 {
-    let mut at = layout::HOLDS;
-    let mut left: usize = 20;
-    while 0 < left {
-        if number_at(b, at) != 0 {
-            return false;
+    let mut clear = true;
+    let mut i = layout::HOLDS;
+    while i < layout::DRAW + 4 {
+        if b[i] != 0 {
+            clear = false;
         }
-        at += layout::NUMBER_SIZE;
-        left -= 1;
+        i += 1;
     }
-    true
+    clear
 }
 
 // The claims and the reply rest, no query is held, and what else changes is in order.

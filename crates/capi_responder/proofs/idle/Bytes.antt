@@ -20,7 +20,7 @@ last-byte q a h = (omega arith, omega arith)
 
 -- the bytes of the number that eight bytes read as
 module _ (a₀ a₁ a₂ a₃ a₄ a₅ a₆ a₇ : ℕ) (r : List ℕ) where
-  abbrev eight : List ℕ
+  abbrev pub eight : List ℕ
   eight = a₀ ∷ a₁ ∷ a₂ ∷ a₃ ∷ a₄ ∷ a₅ ∷ a₆ ∷ a₇ ∷ r
 
   abbrev q₁ : ℕ
@@ -38,10 +38,10 @@ module _ (a₀ a₁ a₂ a₃ a₄ a₅ a₆ a₇ : ℕ) (r : List ℕ) where
   abbrev q₅ : ℕ
   q₅ = q₄ * 256 + a₅
 
-  abbrev q₆ : ℕ
+  abbrev pub q₆ : ℕ
   q₆ = q₅ * 256 + a₆
 
-  in-turn : word64 eight 0 ≡ q₆ * 256 + a₇
+  pub in-turn : word64 eight 0 ≡ q₆ * 256 + a₇
   in-turn = omega arith
 
   module _ (h₀ : a₀ < 256) (h₁ : a₁ < 256) (h₂ : a₂ < 256) (h₃ : a₃ < 256) (h₄ : a₄ < 256) (h₅ : a₅ < 256) (h₆ : a₆ < 256) (h₇ : a₇ < 256) where
@@ -66,15 +66,15 @@ module _ (a₀ a₁ a₂ a₃ a₄ a₅ a₆ a₇ : ℕ) (r : List ℕ) where
         let d₇ : word64 eight 0 % 256 ≡ a₇ = ap (λ (n : ℕ). n % 256) in-turn ∙ last-byte q₆ a₇ h₇ .1 in
         λ i. d₀ i ∷ d₁ i ∷ d₂ i ∷ d₃ i ∷ d₄ i ∷ d₅ i ∷ d₆ i ∷ d₇ i ∷ []
 
-module _ (b : List ℕ) (bytes : Bytes b) where
+module _ (b : List ℕ) where
   next : (i j : ℕ) → j ≡ i + 1 → i < length b → drop i b ≡ getD b i 0 ∷ drop j b
   next i j e h = rest b i 0 h ∙ ap (λ (k : ℕ). getD b i 0 ∷ drop k b) (sym e)
 
   module _ (at : ℕ) (h : at + 8 ≤ length b) where
-    abbrev a : ℕ → ℕ
+    abbrev pub a : ℕ → ℕ
     a k = getD b (at + k) 0
 
-    spelled : drop at b ≡ a 0 ∷ a 1 ∷ a 2 ∷ a 3 ∷ a 4 ∷ a 5 ∷ a 6 ∷ a 7 ∷ drop (at + 8) b
+    pub spelled : drop at b ≡ a 0 ∷ a 1 ∷ a 2 ∷ a 3 ∷ a 4 ∷ a 5 ∷ a 6 ∷ a 7 ∷ drop (at + 8) b
     spelled =
         let z : at ≡ at + 0 = omega arith in
         ap (λ (k : ℕ). drop k b) z
@@ -87,18 +87,23 @@ module _ (b : List ℕ) (bytes : Bytes b) where
         ∙ ap (λ (l : List ℕ). a 5 ∷ l) (next (at + 6) (at + 7) (omega arith) (omega arith)
         ∙ ap (λ (l : List ℕ). a 6 ∷ l) (next (at + 7) (at + 8) (omega arith) (omega arith))))))))
 
-    pub number-stands : drop at b ≡ bytes64 (word64 b at) ++ drop (at + 8) b
-    number-stands =
+    abbrev spelt : List ℕ
+    spelt = eight (a 0) (a 1) (a 2) (a 3) (a 4) (a 5) (a 6) (a 7) (drop (at + 8) b)
+
+    pub read-spelt : word64 b at ≡ word64 spelt 0
+    read-spelt = word64-from b at ∙ ap (λ (l : List ℕ). word64 l 0) spelled
+
+    pub number-stands : Bytes b → drop at b ≡ bytes64 (word64 b at) ++ drop (at + 8) b
+    number-stands bytes =
         let r = drop (at + 8) b in
-        let read : word64 (eight (a 0) (a 1) (a 2) (a 3) (a 4) (a 5) (a 6) (a 7) r) 0 ≡ word64 b at = sym (word64-from b at ∙ ap (λ (l : List ℕ). word64 l 0) spelled) in
         let same : _ = digits (a 0) (a 1) (a 2) (a 3) (a 4) (a 5) (a 6) (a 7) r (bytes (at + 0)) (bytes (at + 1)) (bytes (at + 2)) (bytes (at + 3)) (bytes (at + 4))
         (bytes (at + 5)) (bytes (at + 6)) (bytes (at + 7)) in
-        spelled ∙ ap (λ (l : List ℕ). l ++ r) (sym same ∙ ap bytes64 read)
+        spelled ∙ ap (λ (l : List ℕ). l ++ r) (sym same ∙ ap bytes64 (sym read-spelt))
 
   -- a case byte and its number, by what they are
-  pub case-stands : (at tag n : ℕ) → at + 9 ≤ length b → byteAt b at ≡ tag → word64 b (at + 1) ≡ n → drop at b ≡ caseBytes tag n ++ drop (at + 9) b
-  case-stands at tag n h t w =
+  pub case-stands : Bytes b → (at tag n : ℕ) → at + 9 ≤ length b → byteAt b at ≡ tag → word64 b (at + 1) ≡ n → drop at b ≡ caseBytes tag n ++ drop (at + 9) b
+  case-stands bytes at tag n h t w =
       let k : (at + 1) + 8 ≡ at + 9 = omega arith in
       next at (at + 1) refl (omega arith)
-      ∙ ap (λ (l : List ℕ). getD b at 0 ∷ l) (number-stands (at + 1) (omega arith) ∙ ap (λ (j : ℕ). bytes64 (word64 b (at + 1)) ++ drop j b) k)
+      ∙ ap (λ (l : List ℕ). getD b at 0 ∷ l) (number-stands (at + 1) (omega arith) bytes ∙ ap (λ (j : ℕ). bytes64 (word64 b (at + 1)) ++ drop j b) k)
       ∙ (λ i. (t i ∷ bytes64 (w i)) ++ drop (at + 9) b)

@@ -94,8 +94,8 @@ module _ (b : List ℕ) (bytes : Bytes b) (long : length b ≡ layout.stateSize)
         ∙ ap (λ (l : List ℕ). whenBytes (whenAt b 651) ++ l) (reply .same
         ∙ ap (λ (l : List ℕ). whenBytes (whenAt b 660) ++ l) (updated .same
         ∙ ap (λ (l : List ℕ). whenBytes (whenAt b 669) ++ l) (held .same
-        ∙ ap (λ (l : List ℕ). holdsBytes (holdsAt b) ++ l) (number-stands b bytes 834 (omega arith)
-        ∙ ap (λ (l : List ℕ). bytes64 (word64 b 834) ++ l) (number-stands b bytes 842 (omega arith)
+        ∙ ap (λ (l : List ℕ). holdsBytes (holdsAt b) ++ l) (number-stands b 834 (omega arith) bytes
+        ∙ ap (λ (l : List ℕ). bytes64 (word64 b 834) ++ l) (number-stands b 842 (omega arith) bytes
         ∙ ap (λ (l : List ℕ). bytes64 (word64 b 842) ++ l) ended)))))))))))))
 
     sent-fits : (o : Own) → Fits64 (whenTime (sentOf o (multicastsAt b)))

@@ -9,7 +9,7 @@ use lib.Dec.{leb, ltb, eqb}
 use Rattle.wire.specs.octets.Octets.{byteAt}
 use Rattle.claims.specs.Time.{lastKept}
 use Rattle.capi_responder.specs.codec.Numbers.{word64}
-use Rattle.capi_responder.specs.idle.Idle.{claimRest, claimRests, replyRest, replyRests, lastKeeps, whenKept}
+use Rattle.capi_responder.specs.idle.Idle.{toCome, claimRest, claimRests, replyRest, replyRests, lastKeeps, whenKept}
 
 -- tests that all have to hold, in turn
 pub stop : {x : Bool} (y : Bool) → x ≡ false → false ≡ (x && y)
@@ -31,11 +31,8 @@ module _ (b : List ℕ) (at tag n : ℕ) (t : tag ≡ byteAt b at) (d : n ≡ wo
     unfolding claimRests
     claim-is = λ i. claimRest (t i) (d i) time
 
-    pub claim-come : tag < 6 → n ≤ time → false ≡ claimRests b at time
-    claim-come h k = sym (simp (lt-ltb tag 6 h, le-ltb time n k)) ∙ claim-is
-
-    pub claim-to-come : tag < 6 → time < n → leb n lastKept ≡ claimRests b at time
-    claim-to-come h k = sym (simp (lt-ltb tag 6 h, lt-ltb time n k)) ∙ claim-is
+    pub claim-step : tag < 6 → {v : Bool} → v ≡ toCome n time → v ≡ claimRests b at time
+    claim-step h e = let r : claimRest tag n time ≡ toCome n time = simp (lt-ltb tag 6 h) in e ∙ sym r ∙ claim-is
 
     pub claim-unknown : 7 < tag → false ≡ claimRests b at time
     claim-unknown h =
@@ -56,15 +53,11 @@ module _ (b : List ℕ) (at tag n : ℕ) (t : tag ≡ byteAt b at) (d : n ≡ wo
     pub reply-unknown : (tag ≡ 0 → ⊥) → (tag ≡ 1 → ⊥) → false ≡ replyRests b at time
     reply-unknown h k = sym (simp (ne-eqb tag 0 h, ne-eqb tag 1 k)) ∙ reply-is
 
-    pub reply-come : tag ≡ 1 → n ≤ time → false ≡ replyRests b at time
-    reply-come h k =
+    pub reply-step : tag ≡ 1 → {v : Bool} → v ≡ toCome n time → v ≡ replyRests b at time
+    reply-step h e =
         let z : tag ≡ 0 → ⊥ = (λ e. omega arith) in
-        sym (simp (ne-eqb tag 0 z, eq-eqb tag 1 h, le-ltb time n k)) ∙ reply-is
-
-    pub reply-to-come : tag ≡ 1 → time < n → leb n lastKept ≡ replyRests b at time
-    reply-to-come h k =
-        let z : tag ≡ 0 → ⊥ = (λ e. omega arith) in
-        sym (simp (ne-eqb tag 0 z, eq-eqb tag 1 h, lt-ltb time n k)) ∙ reply-is
+        let r : replyRest tag n time ≡ toCome n time = simp (ne-eqb tag 0 z, eq-eqb tag 1 h) in
+        e ∙ sym r ∙ reply-is
 
   last-is : lastKeeps tag n ≡ whenKept b at
   unfolding whenKept

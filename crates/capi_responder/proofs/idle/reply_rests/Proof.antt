@@ -1,5 +1,5 @@
 use mathlib.Core.Path.{refl}
-use Rattle.capi_responder.proofs.idle.Tests.{reply-unset, reply-unknown, reply-come, reply-to-come}
+use Rattle.capi_responder.proofs.idle.Tests.{reply-unset, reply-unknown, reply-step}
 use borrow.Author.Needs.{needs}
 use Rattle.capi_responder.proofs.idle.reply_rests.Statement.{statement}
 use Rattle.capi_responder.proofs.idle.reply_rests.Tie as tie
@@ -14,16 +14,22 @@ number-at-requires : tie.Need-number-at-requires
 number-at-requires c κs = search needs
 
 returns : tie.Need-returns
-returns c = let a = c .before .before .before .before .args in reply-unset (a .b .now) (a .at) _ _ refl (c .before .number-at .ensures) (a .time) (c .if1 .taken)
+returns c = let a = c .before .before .before .before .args in reply-unset (a .b .now) (a .at) _ _ refl (c .number-at .ensures) (a .time) (c .before .if1 .taken)
 
 returns-2 : tie.Need-returns-2
-returns-2 c = let a = c .before .before .before .before .before .args in reply-unknown (a .b .now) (a .at) _ _ refl (c .before .before .number-at .ensures) (a .time) (c .before .if1 .left) (c .if2 .taken)
+returns-2 c = let a = c .before .before .before .before .args in reply-unknown (a .b .now) (a .at) _ _ refl refl (a .time) (c .before .if1 .left) (c .if2 .taken)
+
+add-number-at-2 : tie.Need-add-number-at-2
+add-number-at-2 c = search needs
+
+number-at-requires-2 : tie.Need-number-at-requires-2
+number-at-requires-2 c κs = search needs
+
+is-to-come-requires : tie.Need-is-to-come-requires
+is-to-come-requires c κs = search needs
 
 returns-3 : tie.Need-returns-3
-returns-3 c = let a = c .before .before .before .before .before .before .args in reply-come (a .b .now) (a .at) _ _ refl (c .before .before .before .number-at .ensures) (a .time) (c .before .if2 .left) (c .if3 .taken)
-
-returns-4 : tie.Need-returns-4
-returns-4 c = let a = c .before .before .before .before .before .before .args in reply-to-come (a .b .now) (a .at) _ _ refl (c .before .before .before .number-at .ensures) (a .time) (c .before .if2 .left) (c .if3 .left)
+returns-3 c = let a = c .before .before .before .before .before .before .args in reply-step (a .b .now) (a .at) _ _ refl (c .before .number-at2 .ensures) (a .time) (c .before .before .if2 .left) (c .is-to-come .ensures)
 
 pub reply-rests-spec : {M : Type 1} → statement M
 reply-rests-spec =
@@ -34,5 +40,7 @@ reply-rests-spec =
     number-at-requires
     returns
     returns-2
-    returns-3
-    returns-4)
+    add-number-at-2
+    number-at-requires-2
+    is-to-come-requires
+    returns-3)
