@@ -21,11 +21,13 @@ fn eight(s: &[u8], i: usize) -> u64
     low + b4 * 4294967296 + b5 * 1099511627776 + b6 * 281474976710656 + b7 * 72057594037927936
 }
 
-// So many first bytes are the same in two lists of one length. They are passed over eight at a time; of the eight that follow some may be the same too.
+// So many first bytes are the same in two lists of one length. They are passed over eight at a time: where eight or more are left the lists differ in the next
+// eight, of which some may be the same too.
 pub(crate) fn same_front(a: &[u8], b: &[u8]) -> usize
     requires { ⌜ length (now a) ≡ length (now b) ⌝ }
     ensures within { λ r. ⌜ r ≤ length (now (a .entry)) ⌝ }
     ensures same { λ r. ⌜ take r (now (a .entry)) ≡ take r (now (b .entry)) ⌝ }
+    ensures next { λ r. ⌜ (r + 8 ≤ length (now (a .entry)) → now (a .entry) ≡ now (b .entry) → ⊥) ⌝ }
 {
     let mut i = 0;
     while 8 <= a.len() - i {

@@ -24,6 +24,9 @@ pub fn same_bytes(a: &[u8], b: &[u8]) -> bool
         return false;
     }
     let mut i = crate::bytes::same_front(a, b);
+    if 8 <= a.len() - i {
+        return false;
+    }
     while i < a.len() {
         if a[i] != b[i] {
             return false;

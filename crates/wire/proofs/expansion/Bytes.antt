@@ -27,6 +27,13 @@ same-equal (x ∷ xs) (y ∷ ys) h =
     let k = both (eqb x y) (sameBytes xs ys) .0 h in
     ap₂ (λ (b : ℕ) (l : List ℕ). b ∷ l) (eqb-true x y (k .0)) (same-equal xs ys (k .1))
 
+pub not-equal : (a b : List ℕ) → (a ≡ b → ⊥) → false ≡ sameBytes a b
+not-equal a b ne = go (sameBytes a b) refl
+  where
+    go : (t : Bool) → sameBytes a b ≡ t → false ≡ sameBytes a b
+    go true e = absurd (ne (same-equal a b e))
+    go false e = sym e
+
 pub same-lengths : (a b : List ℕ) → (length a ≡ length b → ⊥) → sameBytes a b ≡ false
 unfolding sameBytes
 same-lengths [] [] h = absurd (h refl)

@@ -1,8 +1,10 @@
 use borrow.Author.Needs.{needs}
 use native.Mathlib.Omega.{arith}
-use mathlib.Core.Path.{_≡_, refl, sym, _∙_}
+use mathlib.Core.Path.{_≡_, refl, sym, ap, _∙_}
+use mathlib.Core.List.{List}
 use Prim.Native.Nat.{ℕ, _≤_, _-_}
 use lib.ListN.{length, take}
+use Rattle.wire.specs.bytes.Eight.{eightAt}
 use Rattle.wire.proofs.bytes.Front.{past8}
 use Rattle.wire.proofs.bytes.same_front.Statement.{statement}
 use Rattle.wire.proofs.bytes.same_front.Tie as tie
@@ -29,7 +31,11 @@ eight-requires-2 : tie.Need-eight-requires-2 Inv-loop μ-loop
 eight-requires-2 c κs = omega arith
 
 returns : tie.Need-returns Inv-loop μ-loop
-returns c = (omega arith, c .before .before .before .before .loop .inv .2)
+returns c =
+    let x = c .before .before .eight .ensures in
+    let y = c .before .eight2 .ensures in
+    let i = c .before .before .before .before .loop .i in
+    (omega arith, (c .before .before .before .before .loop .inv .2, λ l e. c .if1 .taken (x .0 ∙ ap (λ (s : List ℕ). eightAt s i) e ∙ sym (y .0))))
 
 add-i : tie.Need-add-i Inv-loop μ-loop
 add-i c = omega arith
@@ -47,7 +53,7 @@ loop-again c =
     )
 
 returns-2 : tie.Need-returns-2 Inv-loop μ-loop
-returns-2 c = (omega arith, c .before .loop .inv .2)
+returns-2 c = (omega arith, (c .before .loop .inv .2, λ l e. omega (arith, l)))
 
 pub same-front-spec : {M : Type 1} → statement M
 same-front-spec =

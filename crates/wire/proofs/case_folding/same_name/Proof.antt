@@ -27,7 +27,7 @@ same-front-requires : tie.Need-same-front-requires Inv-loop μ-loop
 same-front-requires c κs = search needs
 
 loop-holds : tie.Need-loop-holds Inv-loop μ-loop
-loop-holds c = (c .same-front .ensures .0, same-front (c .same-front .result) _ _ (c .same-front .ensures .1))
+loop-holds c = (c .same-front .ensures .0, same-front (c .same-front .result) _ _ (c .same-front .ensures .1 .0))
 
 shared-slice-read-same-letter : tie.Need-shared-slice-read-same-letter Inv-loop μ-loop
 shared-slice-read-same-letter c = omega arith

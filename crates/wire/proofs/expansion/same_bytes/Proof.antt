@@ -4,7 +4,7 @@ use native.Mathlib.Omega.{arith}
 use Prim.Native.Nat.{_≤_, _-_}
 use lib.ListN.{length, drop}
 use Rattle.wire.specs.expansion.Equal.{sameBytes}
-use Rattle.wire.proofs.expansion.Bytes.{same-lengths, same-front, turn-differ, turn-agree, same-end}
+use Rattle.wire.proofs.expansion.Bytes.{not-equal, same-lengths, same-front, turn-differ, turn-agree, same-end}
 use Rattle.wire.proofs.expansion.same_bytes.Statement.{statement}
 use Rattle.wire.proofs.expansion.same_bytes.Tie as tie
 use Rattle.wire.proofs.expansion.same_bytes.Reads as reads
@@ -23,17 +23,23 @@ returns c = sym (same-lengths _ _ (c .if1 .taken))
 same-front-requires : tie.Need-same-front-requires Inv-loop μ-loop
 same-front-requires c κs = search needs
 
-loop-holds : tie.Need-loop-holds Inv-loop μ-loop
-loop-holds c = (omega arith, c .same-front .ensures .0, same-front (c .same-front .result) _ _ (c .same-front .ensures .1))
-
-shared-slice-read-if2 : tie.Need-shared-slice-read-if2 Inv-loop μ-loop
-shared-slice-read-if2 c = search needs
-
-shared-slice-read-if2-2 : tie.Need-shared-slice-read-if2-2 Inv-loop μ-loop
-shared-slice-read-if2-2 c = search needs
+sub-if2 : tie.Need-sub-if2 Inv-loop μ-loop
+sub-if2 c = omega (arith, c .same-front .ensures .0)
 
 returns-2 : tie.Need-returns-2 Inv-loop μ-loop
-returns-2 c = turn-differ _ _ (c .before .before .before .before .loop .i) (omega arith) (omega arith) (c .before .before .before .before .loop .inv .2) (c .if2 .taken)
+returns-2 c = not-equal _ _ (c .before .same-front .ensures .1 .1 (omega arith))
+
+loop-holds : tie.Need-loop-holds Inv-loop μ-loop
+loop-holds c = (omega arith, c .before .same-front .ensures .0, same-front (c .before .same-front .result) _ _ (c .before .same-front .ensures .1 .0))
+
+shared-slice-read-if3 : tie.Need-shared-slice-read-if3 Inv-loop μ-loop
+shared-slice-read-if3 c = search needs
+
+shared-slice-read-if3-2 : tie.Need-shared-slice-read-if3-2 Inv-loop μ-loop
+shared-slice-read-if3-2 c = search needs
+
+returns-3 : tie.Need-returns-3 Inv-loop μ-loop
+returns-3 c = turn-differ _ _ (c .before .before .before .before .loop .i) (omega arith) (omega arith) (c .before .before .before .before .loop .inv .2) (c .if3 .taken)
 
 add-i : tie.Need-add-i Inv-loop μ-loop
 add-i c = search needs
@@ -42,10 +48,10 @@ loop-less : tie.Need-loop-less Inv-loop μ-loop
 loop-less c = search needs
 
 loop-again : tie.Need-loop-again Inv-loop μ-loop
-loop-again c = (omega arith, omega arith, turn-agree _ _ (c .before .before .before .before .loop .i) (omega arith) (omega arith) (c .before .before .before .before .loop .inv .2) (c .if2 .left))
+loop-again c = (omega arith, omega arith, turn-agree _ _ (c .before .before .before .before .loop .i) (omega arith) (omega arith) (c .before .before .before .before .loop .inv .2) (c .if3 .left))
 
-returns-3 : tie.Need-returns-3 Inv-loop μ-loop
-returns-3 c = same-end _ _ (c .before .loop .i) (omega arith) (omega arith) (c .before .loop .inv .2)
+returns-4 : tie.Need-returns-4 Inv-loop μ-loop
+returns-4 c = same-end _ _ (c .before .loop .i) (omega arith) (omega arith) (c .before .loop .inv .2)
 
 pub same-bytes-spec : {M : Type 1} → statement M
 same-bytes-spec =
@@ -55,11 +61,13 @@ same-bytes-spec =
     μ-loop
     returns
     same-front-requires
-    loop-holds
-    shared-slice-read-if2
-    shared-slice-read-if2-2
+    sub-if2
     returns-2
+    loop-holds
+    shared-slice-read-if3
+    shared-slice-read-if3-2
+    returns-3
     add-i
     loop-less
     loop-again
-    returns-3)
+    returns-4)
