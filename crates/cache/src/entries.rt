@@ -3,6 +3,7 @@
 ghost use mathlib.Core.Path.{_≡_};
 ghost use denote.Ref.{ptr};
 ghost use Prim.Native.Nat.{_*_};
+ghost use lib.ListN.{take, drop};
 ghost use Rattle.wire.specs.rdata.Answers.{startIn};
 ghost use Rattle.cache.specs.entries.Entries.{isLive, slotOf, isOf, liveOf, soon, heardAhead, tooLong};
 
@@ -45,6 +46,20 @@ pub fn slot_of<'a>(store: &'a [u8], i: usize) -> &'a [u8]
         return wire::rdata::part(store, store.len(), 0);
     }
     wire::rdata::part(store, 1024 * i, 1024)
+}
+
+// The rdata of so many bytes in slot i. Of a slot that the store has it is a part of the store itself.
+pub fn rdata_of<'a>(store: &'a [u8], i: usize, len: usize) -> &'a [u8]
+    ensures { λ r. ⌜ now r ≡ take len (drop 256 (slotOf (now (store .entry)) i)) ⌝ }
+{
+    if i < store.len() / 1024 {
+        if len <= MOST_RDATA as usize {
+            let at = 1024 * i + 256;
+            let end = at + len;
+            return &store[at..end];
+        }
+    }
+    wire::rdata::part(slot_of(store, i), 256, len)
 }
 
 // Whether the entry in slot i is of a name and a type. The type and the lengths are compared before any byte is folded.

@@ -1,14 +1,12 @@
 // One record of a message against one entry by value (specification, 'The cache'). Its owner and rdata, names expanded, lie in the slot that it would fill, and
 // are compared as bytes. What the rules do to the entries follows from what was found of them.
 ghost use mathlib.Core.Path.{_≡_};
-ghost use lib.ListN.{length, take};
+ghost use lib.ListN.{take};
 ghost use Rattle.wire.specs.case_folding.Fold.{sameName};
-ghost use Rattle.wire.specs.rdata.Rdata.{rdataAt};
-ghost use Rattle.wire.specs.rdata.Answers.{dataOf};
 ghost use Rattle.cache.specs.entries.Entries.{slotOf};
 ghost use Rattle.cache.specs.entries.Cache.{cachedAs};
-ghost use Rattle.cache.specs.records.Heard.{heardAt, isTaken, isFlushing, isSought, isAlike, liveHeard, holdsHeard, flushedHeard};
-ghost use Rattle.cache.specs.records.Heard.{Named, firstSlot, isFilling, chosenOf};
+ghost use Rattle.cache.specs.records.Heard.{isTaken, isFlushing, isSought, isAlike, mayHold, hasBytes, liveHeard, flushedHeard};
+ghost use Rattle.cache.specs.records.Heard.{firstSlot, isFilling, chosenOf};
 use crate::entries::Entry;
 
 // A record of a message as it lies; whether it is whole, how many bytes its rdata has, names expanded, and whether it holds a name, which of an NSEC says
@@ -67,64 +65,6 @@ pub fn is_cached(class: u16, rtype: u16, restricted: bool) -> bool
     restricted
 }
 
-// How many bytes rdata has that holds a name, the name expanded: it is followed once, and nothing is copied.
-fn named_length(p: &[u8], f: wire::message::RecordAt, form: wire::rdata::Form) -> usize
-    requires { ⌜ Named (now p) f form ⌝ }
-    ensures { λ r. ⌜ r ≡ length (dataOf (rdataAt (now (p .entry)) f)) ⌝ }
-{
-    let before = form.before;
-    let behind = form.behind;
-    match wire::names::name_at(p, f.rdata + before) {
-        wire::names::Name::Found(span) => before + span.len + behind,
-        wire::names::Name::Malformed => 0,
-    }
-}
-
-// The record at an offset.
-pub fn hear(p: &[u8], at: usize) -> Heard
-    ensures { λ r. ⌜ r ≡ heardAt (now (p .entry)) at ⌝ }
-{
-    match wire::message::whole_record(p, at) {
-        wire::message::RecordRead::Found(f) => {
-            let form = wire::rdata::form_at(p, f);
-            if !form.named {
-                return Heard {
-                    whole: true,
-                    at: f,
-                    len: f.rdlength,
-                    named: false,
-                };
-            }
-            Heard {
-                whole: true,
-                at: f,
-                len: named_length(p, f, form),
-                named: true,
-            }
-        }
-        wire::message::RecordRead::Malformed => Heard {
-            whole: false,
-            at: wire::message::RecordAt {
-                owner: 0,
-                span: wire::names::Span {
-                    end: 0,
-                    len: 0,
-                    labels: 0,
-                    first: 0,
-                },
-                rtype: 0,
-                class: 0,
-                ttl: 0,
-                rdata: 0,
-                rdlength: 0,
-                next: 0,
-            },
-            len: 0,
-            named: false,
-        },
-    }
-}
-
 // Whether the rules are for a record.
 pub fn is_taken(h: Heard) -> bool
     ensures { λ r. ⌜ r ≡ isTaken h ⌝ }
@@ -180,6 +120,16 @@ fn is_alike(e: Entry, time: u64, h: Heard) -> bool
     crate::entries::is_live(e, time)
 }
 
+// Whether an entry may hold a record: it agrees with it in the length of its rdata too. Nearly all others are told by this, before any byte is looked at.
+pub fn may_hold(e: Entry, time: u64, h: Heard) -> bool
+    ensures { λ r. ⌜ r ≡ mayHold time h e ⌝ }
+{
+    if !is_alike(e, time, h) {
+        return false;
+    }
+    e.rdata as usize == h.len
+}
+
 // Whether the entry in slot i is a live one of a record's name and type.
 pub fn is_live_heard(e: Entry, i: usize, store: &[u8], time: u64, slot: &[u8], h: Heard) -> bool
     ensures { λ r. ⌜ r ≡ liveHeard time (now (store .entry)) (now (slot .entry)) h i e ⌝ }
@@ -191,19 +141,13 @@ pub fn is_live_heard(e: Entry, i: usize, store: &[u8], time: u64, slot: &[u8], h
     is_owner(store, i, e.owner as usize, slot, f.span.len)
 }
 
-// Whether the entry in slot i is live and holds a record. Rdata, in which records of a name and a type differ, is compared before the owner.
-pub fn is_equal(e: Entry, i: usize, store: &[u8], time: u64, slot: &[u8], h: Heard) -> bool
-    ensures { λ r. ⌜ r ≡ holdsHeard time (now (store .entry)) (now (slot .entry)) h i e ⌝ }
+// Whether the bytes of the entry in slot i are a record's: its rdata, in which records of a name and a type differ, is compared before its owner. An entry that
+// may hold a record does where they are.
+pub fn has_bytes(e: Entry, i: usize, store: &[u8], slot: &[u8], h: Heard) -> bool
+    ensures { λ r. ⌜ r ≡ hasBytes (now (store .entry)) (now (slot .entry)) h i e ⌝ }
 {
     let f = h.at;
-    if !is_alike(e, time, h) {
-        return false;
-    }
-    let len = e.rdata as usize;
-    if len != h.len {
-        return false;
-    }
-    let held = wire::rdata::part(crate::entries::slot_of(store, i), 256, len);
+    let held = crate::entries::rdata_of(store, i, e.rdata as usize);
     let heard = wire::rdata::part(slot, 256, h.len);
     if !wire::expansion::same_bytes(held, heard) {
         return false;

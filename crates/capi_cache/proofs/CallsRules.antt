@@ -33,13 +33,13 @@ use Rattle.cache.proofs.records.Heard as HE
 use Rattle.cache.proofs.records.Heard.Laws as HE′
 use Rattle.cache.proofs.records.Choice as CH
 use Rattle.capi_cache.proofs.Lent.{ref, ShrOf}
-use Rattle.cache.specs.records.Heard.{isFlushing, isSought, holdsHeard, flushedHeard, firstSlot, isFilling, chosenOf}
+use Rattle.cache.specs.records.Heard.{isFlushing, isSought, hasBytes, flushedHeard, firstSlot, isFilling, chosenOf}
 use Rattle.cache.proofs.records.flush_from as flush-from
 use Rattle.cache.proofs.records.seek_from as seek-from
 use Rattle.cache.proofs.records.fill_from as fill-from
 use Rattle.cache.proofs.records.chosen as chosen
 use Rattle.cache.proofs.records.flush_heard as flush-heard
-use Rattle.cache.proofs.records.is_equal as is-equal
+use Rattle.cache.proofs.records.has_bytes as has-bytes
 
 module _ {M : Type 1} (𝓤 : URA M) (H : Heap 𝓤) (A : Atoms 𝓤) (W : Given 𝓤 H A) (at-mem : Memory → SProp 𝓤) (run : Routine → Fun 𝓤) where
   abbrev pub FlushFrom : Contract 𝓤
@@ -135,23 +135,23 @@ module _ {M : Type 1} (𝓤 : URA M) (H : Heap 𝓤) (A : Atoms 𝓤) (W : Given
     gives-flush-heard w =
         qed W (raw (FlushHeard .post to-flush-heard w) ∷ []) ∵ updating ! $ use1 W (later (some (λ (y : Entry). ((‵ (flft κ-store q-store) ⊛ ‵ (flft κ-ms q-ms) ⊛ ‵ ftrue) ⊛ ‵ (E.the-row .own y (w ∷ []))) ⊛ raw (ensured 𝓤 H A flush-heard.ended (flush-heard.clauses 𝓤 H A at-mem run) (κ-store, (κ-ms, tt)) (e, (i, (ref u8 b-store o-store γ-store store, (time, (ref u8 b-ms o-ms γ-ms ms, (h, tt)))))) tt y)))) (id⊢ 𝓤 _) $ await ! tt $ pick ! (λ y. split ! $ move ! (1 ∷ []) $ use1 W (raw (fact 𝓤 (y ≡ flushedHeard time store ms h i e))) (exE 𝓤 _ (λ ws. snd∗ 𝓤 (sem 𝓤 H A (lasts flush-heard.ended (κ-store, (κ-ms, tt)) (e, (i, (ref u8 b-store o-store γ-store store, (time, (ref u8 b-ms o-ms γ-ms ms, (h, tt)))))) ws)) (fact 𝓤 (y ≡ flushedHeard time store ms h i e)))) $ heard ! (y ≡ flushedHeard time store ms h i e) (λ same. split ! $ move ! (1 ∷ []) $ peeks ! E.the-row (Is E.the-row) (shows 𝓤 H A E.the-row) y (w ∷ []) (λ is. drop ! $ split ! $ move ! (1 ∷ []) $ split ! $ move ! (1 ∷ []) $ drop ! $ at-once ! $ check ! (subst (λ (k : Entry). Is E.the-row k (w ∷ [])) (same) is) $ keep ! (1 ∷ 0 ∷ []) $ done !)))
 
-  abbrev pub IsEqual : Contract 𝓤
-  IsEqual = tripleOf 𝓤 H A is-equal.signature (is-equal.spec 𝓤 H A at-mem run)
+  abbrev pub HasBytes : Contract 𝓤
+  HasBytes = tripleOf 𝓤 H A has-bytes.signature (has-bytes.spec 𝓤 H A at-mem run)
 
-  module _ (κ-store : Lft) (q-store : Share) (b-store o-store : ℕ) (γ-store : GName) (store : List ℕ) (κ-ms : Lft) (q-ms : Share) (b-ms o-ms : ℕ) (γ-ms : GName) (ms : List ℕ) (e : Entry) (v-e : Val) (i : ℕ) (time : ℕ) (h : Heard) (v-h : Val) where
-    abbrev pub to-is-equal : IsEqual .Ghost
-    to-is-equal = (((κ-store, (κ-ms, tt)), (q-store, (q-ms, tt)), tt, (e, (i, (ref u8 b-store o-store γ-store store, (time, (ref u8 b-ms o-ms γ-ms ms, (h, tt)))))), (v-e ∷ [], (vint w64 i ∷ [], (sliceVal (b-store, o-store) (length store) ∷ [], (vint w64 time ∷ [], (sliceVal (b-ms, o-ms) (length ms) ∷ [], (v-h ∷ [], tt))))))), tt)
+  module _ (κ-store : Lft) (q-store : Share) (b-store o-store : ℕ) (γ-store : GName) (store : List ℕ) (κ-ms : Lft) (q-ms : Share) (b-ms o-ms : ℕ) (γ-ms : GName) (ms : List ℕ) (e : Entry) (v-e : Val) (i : ℕ) (h : Heard) (v-h : Val) where
+    abbrev pub to-has-bytes : HasBytes .Ghost
+    to-has-bytes = (((κ-store, (κ-ms, tt)), (q-store, (q-ms, tt)), tt, (e, (i, (ref u8 b-store o-store γ-store store, (ref u8 b-ms o-ms γ-ms ms, (h, tt))))), (v-e ∷ [], (vint w64 i ∷ [], (sliceVal (b-store, o-store) (length store) ∷ [], (sliceVal (b-ms, o-ms) (length ms) ∷ [], (v-h ∷ [], tt)))))), tt)
 
-    pub goes-is-equal : Is E.the-row e (v-e ∷ []) → i < 2 ^ 64 → time < 2 ^ 64 → Is HE.the-row h (v-h ∷ []) → ent 𝓤 (⋆ 𝓤 H A (‵ (flft κ-store q-store) ∷ ‵ (ShrOf u8 κ-store b-store o-store γ-store store) ∷ ‵ (flft κ-ms q-ms) ∷ ‵ (ShrOf u8 κ-ms b-ms o-ms γ-ms ms) ∷ [])) (IsEqual .pre to-is-equal)
-    goes-is-equal is-e g-i g-time is-h =
-        qed W (‵ (flft κ-store q-store) ∷ ‵ (ShrOf u8 κ-store b-store o-store γ-store store) ∷ ‵ (flft κ-ms q-ms) ∷ ‵ (ShrOf u8 κ-ms b-ms o-ms γ-ms ms) ∷ []) ∵ nothing ! $ move ! (3 ∷ 0 ∷ []) $ join ! $ move ! (1 ∷ 0 ∷ []) $ join ! $ nothing ! $ owned ! HE.the-row (Is HE.the-row) ((LL.makes HE.the-type HE′.the-plain) 𝓤 H A) h _ is-h $ fjoin ! $ move ! (3 ∷ 0 ∷ []) $ fjoin ! $ owned ! u64 (Is u64) (uint-makes 𝓤 H A W w64) time _ (refl, g-time) $ fjoin ! $ move ! (2 ∷ 0 ∷ []) $ fjoin ! $ owned ! usize (Is usize) (uint-makes 𝓤 H A W w64) i _ (refl, g-i) $ fjoin ! $ owned ! E.the-row (Is E.the-row) ((LL.makes E.the-type E′.the-plain) 𝓤 H A) e _ is-e $ fjoin ! $ move ! (1 ∷ 0 ∷ []) $ join ! $ nothing ! $ move ! (1 ∷ 0 ∷ []) $ done !
+    pub goes-has-bytes : Is E.the-row e (v-e ∷ []) → i < 2 ^ 64 → Is HE.the-row h (v-h ∷ []) → ent 𝓤 (⋆ 𝓤 H A (‵ (flft κ-store q-store) ∷ ‵ (ShrOf u8 κ-store b-store o-store γ-store store) ∷ ‵ (flft κ-ms q-ms) ∷ ‵ (ShrOf u8 κ-ms b-ms o-ms γ-ms ms) ∷ [])) (HasBytes .pre to-has-bytes)
+    goes-has-bytes is-e g-i is-h =
+        qed W (‵ (flft κ-store q-store) ∷ ‵ (ShrOf u8 κ-store b-store o-store γ-store store) ∷ ‵ (flft κ-ms q-ms) ∷ ‵ (ShrOf u8 κ-ms b-ms o-ms γ-ms ms) ∷ []) ∵ nothing ! $ move ! (3 ∷ 0 ∷ []) $ join ! $ move ! (1 ∷ 0 ∷ []) $ join ! $ nothing ! $ owned ! HE.the-row (Is HE.the-row) ((LL.makes HE.the-type HE′.the-plain) 𝓤 H A) h _ is-h $ fjoin ! $ move ! (3 ∷ 0 ∷ []) $ fjoin ! $ move ! (2 ∷ 0 ∷ []) $ fjoin ! $ owned ! usize (Is usize) (uint-makes 𝓤 H A W w64) i _ (refl, g-i) $ fjoin ! $ owned ! E.the-row (Is E.the-row) ((LL.makes E.the-type E′.the-plain) 𝓤 H A) e _ is-e $ fjoin ! $ move ! (1 ∷ 0 ∷ []) $ join ! $ nothing ! $ move ! (1 ∷ 0 ∷ []) $ done !
 
-    abbrev pub back-is-equal : Item 𝓤
-    back-is-equal = ‵ (flft κ-store q-store) ⊛ ‵ (flft κ-ms q-ms)
+    abbrev pub back-has-bytes : Item 𝓤
+    back-has-bytes = ‵ (flft κ-store q-store) ⊛ ‵ (flft κ-ms q-ms)
 
-    abbrev pub told-is-equal : Val → Type 0
-    told-is-equal w = w ≡ vbool (holdsHeard time store ms h i e)
+    abbrev pub told-has-bytes : Val → Type 0
+    told-has-bytes w = w ≡ vbool (hasBytes store ms h i e)
 
-    pub gives-is-equal : (w : Val) → ent 𝓤 (IsEqual .post to-is-equal w) (H .⇛ (guard 𝓤 (told-is-equal w) (mean 𝓤 H A back-is-equal)))
-    gives-is-equal w =
-        qed W (raw (IsEqual .post to-is-equal w) ∷ []) ∵ updating ! $ use1 W (later (some (λ (y : Bool). ((‵ (flft κ-store q-store) ⊛ ‵ (flft κ-ms q-ms) ⊛ ‵ ftrue) ⊛ ‵ (bool .own y (w ∷ []))) ⊛ raw (ensured 𝓤 H A is-equal.ended (is-equal.clauses 𝓤 H A at-mem run) (κ-store, (κ-ms, tt)) (e, (i, (ref u8 b-store o-store γ-store store, (time, (ref u8 b-ms o-ms γ-ms ms, (h, tt)))))) tt y)))) (id⊢ 𝓤 _) $ await ! tt $ pick ! (λ y. split ! $ move ! (1 ∷ []) $ use1 W (raw (fact 𝓤 (y ≡ holdsHeard time store ms h i e))) (exE 𝓤 _ (λ ws. snd∗ 𝓤 (sem 𝓤 H A (lasts is-equal.ended (κ-store, (κ-ms, tt)) (e, (i, (ref u8 b-store o-store γ-store store, (time, (ref u8 b-ms o-ms γ-ms ms, (h, tt)))))) ws)) (fact 𝓤 (y ≡ holdsHeard time store ms h i e)))) $ heard ! (y ≡ holdsHeard time store ms h i e) (λ same. split ! $ move ! (1 ∷ []) $ peeks ! bool (Is bool) (shows 𝓤 H A bool) y (w ∷ []) (λ is. drop ! $ split ! $ move ! (1 ∷ []) $ split ! $ move ! (1 ∷ []) $ drop ! $ at-once ! $ check ! (ap only is ∙ ap vbool same) $ keep ! (1 ∷ 0 ∷ []) $ done !)))
+    pub gives-has-bytes : (w : Val) → ent 𝓤 (HasBytes .post to-has-bytes w) (H .⇛ (guard 𝓤 (told-has-bytes w) (mean 𝓤 H A back-has-bytes)))
+    gives-has-bytes w =
+        qed W (raw (HasBytes .post to-has-bytes w) ∷ []) ∵ updating ! $ use1 W (later (some (λ (y : Bool). ((‵ (flft κ-store q-store) ⊛ ‵ (flft κ-ms q-ms) ⊛ ‵ ftrue) ⊛ ‵ (bool .own y (w ∷ []))) ⊛ raw (ensured 𝓤 H A has-bytes.ended (has-bytes.clauses 𝓤 H A at-mem run) (κ-store, (κ-ms, tt)) (e, (i, (ref u8 b-store o-store γ-store store, (ref u8 b-ms o-ms γ-ms ms, (h, tt))))) tt y)))) (id⊢ 𝓤 _) $ await ! tt $ pick ! (λ y. split ! $ move ! (1 ∷ []) $ use1 W (raw (fact 𝓤 (y ≡ hasBytes store ms h i e))) (exE 𝓤 _ (λ ws. snd∗ 𝓤 (sem 𝓤 H A (lasts has-bytes.ended (κ-store, (κ-ms, tt)) (e, (i, (ref u8 b-store o-store γ-store store, (ref u8 b-ms o-ms γ-ms ms, (h, tt))))) ws)) (fact 𝓤 (y ≡ hasBytes store ms h i e)))) $ heard ! (y ≡ hasBytes store ms h i e) (λ same. split ! $ move ! (1 ∷ []) $ peeks ! bool (Is bool) (shows 𝓤 H A bool) y (w ∷ []) (λ is. drop ! $ split ! $ move ! (1 ∷ []) $ split ! $ move ! (1 ∷ []) $ drop ! $ at-once ! $ check ! (ap only is ∙ ap vbool same) $ keep ! (1 ∷ 0 ∷ []) $ done !)))

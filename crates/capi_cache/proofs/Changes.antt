@@ -1,42 +1,31 @@
 -- What the covered steps of taking a record give, from what the code has tested. Assumes nothing.
-use mathlib.Core.Path.{_≡_, refl, sym, ap, _∙_}
-use mathlib.Core.List.{List, _++_}
+use mathlib.Core.Path.{_≡_, refl, sym, ap, ap₂, _∙_}
+use mathlib.Core.List.{List}
 use mathlib.Core.Bool.{Bool, true, false, _&&_}
 use Prim.Native.Nat.{ℕ, _+_, _-_, _*_, _<_, _≤_}
 use native.Mathlib.Omega.{arith}
-use lib.ListN.{length, take, drop, replicate, length-append}
-use lib.Seq.{sets, take-at}
+use lib.ListN.{replicate}
+use lib.Seq.{sets}
 use lib.Dec.{ltb}
 use borrow.Author.Tests.{lt-ltb, le-ltb, lt-leb, le-leb, eq-eqb, ne-eqb}
-use Rattle.wire.specs.names.Names.{nameAt}
-use Rattle.wire.specs.names.Answers.{expanded}
-use Rattle.wire.specs.declared.names.Expanded.{Expanded}
-use Rattle.wire.proofs.names.Use.{at-most-255}
 use Rattle.wire.specs.rdata.Rdata.{rdata}
-use Rattle.wire.specs.rdata.Answers.{fits}
-use Rattle.wire.specs.expansion.Opened.{openedAt, viewOf}
-use Rattle.wire.specs.declared.expansion.Opened.{Opened}
-use Rattle.wire.proofs.expansion.Views.{view-is}
-use Rattle.wire.specs.message.Message.{Record}
 use Rattle.wire.specs.message.Layout.{readOf}
-use Rattle.wire.specs.message.Readable.{wholeRead, recordShown}
 use Rattle.wire.specs.message.Refusals.{messageFrom}
 use Rattle.wire.specs.declared.message.Layout.{Layout}
 use Rattle.wire.specs.declared.message.MessageRead.{MessageRead}
 use Rattle.wire.specs.declared.message.MessageRead.the-variants as m
-use Rattle.wire.specs.declared.message.RecordAt.{RecordAt}
 use Rattle.wire.specs.declared.message.RecordRead.the-variants as r
 use Rattle.wire.specs.declared.message.Section.{Section}
-use Rattle.wire.proofs.message.Walk.{RecordMet, record-found}
 use Rattle.cache.specs.entries.Entries.{soon, refreshed}
-use Rattle.cache.specs.entries.Cache.{cachedAs, isStoreOf}
+use Rattle.cache.specs.entries.Cache.{cachedAs, isStoreOf, slotWith}
 use Rattle.cache.specs.declared.entries.Entry.{Entry}
 use Rattle.cache.specs.declared.records.Heard.{Heard}
 use Rattle.cache.specs.declared.records.Choice.{Choice}
-use Rattle.cache.specs.records.Heard.{heardAt, isTaken}
-use Rattle.cache.specs.records.Taking.{slotHeard, entryHeard, changed, keptIn, counting}
+use Rattle.cache.specs.records.Heard.{heardAt, isTaken, ownerIn, rdataIn}
+use Rattle.cache.specs.records.Taking.{entryHeard, changed, keptIn, counting}
 use Rattle.capi_cache.specs.declared.Cursor.{Cursor}
-use Rattle.capi_cache.specs.Cursors.{Lies, stillAt, beforeRead, beginOf, isMore, nextAt, sectionPast, pastOf}
+use Rattle.capi_cache.specs.hearing.Hearing.{heardIn}
+use Rattle.capi_cache.specs.Cursors.{stillAt, beforeRead, beginOf, isMore, nextAt, sectionPast, pastOf}
 
 -- ---- one entry
 module _ (now : ℕ) (h : Heard) (c : Choice) (e : Entry) where
@@ -89,13 +78,18 @@ module _ (c : Cursor) where
   unfolding isMore
   more-additionals l = sym (simp (le-ltb _ _ l))
 
-  pub next-answer : (p : List ℕ) → 0 < c .answers .count → (r : Heard) → r ≡ heardAt p (c .answers .at) → r ≡ heardAt p (nextAt c)
-  unfolding nextAt
-  next-answer p l r is = is ∙ sym (simp (lt-ltb _ _ l))
+  -- the next record, heard
+  module _ (p slot : List ℕ) (r : Heard) (last : List ℕ) (at : ℕ) (is : (r ≡ heardAt p at) × (last ≡ heardIn p at slot)) where
+    moved : at ≡ nextAt c → (r ≡ heardAt p (nextAt c)) × (last ≡ heardIn p (nextAt c) slot)
+    moved e = (is .0 ∙ ap (heardAt p) e, is .1 ∙ ap (λ (k : ℕ). heardIn p k slot) e)
 
-  pub next-additional : (p : List ℕ) → c .answers .count ≤ 0 → (r : Heard) → r ≡ heardAt p (c .additionals .at) → r ≡ heardAt p (nextAt c)
-  unfolding nextAt
-  next-additional p l r is = is ∙ sym (simp (le-ltb _ _ l))
+    pub next-answer : 0 < c .answers .count → at ≡ c .answers .at → (r ≡ heardAt p (nextAt c)) × (last ≡ heardIn p (nextAt c) slot)
+    unfolding nextAt
+    next-answer l e = moved (e ∙ sym (simp (lt-ltb _ _ l)))
+
+    pub next-additional : c .answers .count ≤ 0 → at ≡ c .additionals .at → (r ≡ heardAt p (nextAt c)) × (last ≡ heardIn p (nextAt c) slot)
+    unfolding nextAt
+    next-additional l e = moved (e ∙ sym (simp (le-ltb _ _ l)))
 
   module _ (h : Heard) (x : Choice) (t o : ℕ) (t-is : t ≡ counting 4 x (c .turned)) (o-is : o ≡ counting 5 x (c .passed)) (s : Section) where
     abbrev at-counts : ℕ → ℕ → Section → Section → Cursor
@@ -138,75 +132,25 @@ module _ (number n bytes port : ℕ) (p : List ℕ) where
           → _≡_ {A = Cursor} (record { answers = l .answers; additionals = l .additionals; turned = 0; passed = 0; refusal = 0 }) (beginOf number n bytes port p)
       a-response l e f = sym (simp (le-leb _ _ f)) ∙ before (m.Read l) e
 
--- ---- the bytes of a record that fills a slot
-module _ (p : List ℕ) (f : RecordAt) (whole : wholeRead p (f .owner) ≡ r.Found f) where
-  abbrev shown : Record
-  shown = recordShown p f
+-- ---- a record
+pub taken-whole : (h : Heard) → isTaken h ≡ true → h .whole ≡ true
+unfolding isTaken
+taken-whole h t = go (h .whole) refl (cachedAs (h .at .class) (h .at .rtype) (h .named)) t
+  where
+    go : (w : Bool) → h .whole ≡ w → (b : Bool) → (w && b) ≡ true → h .whole ≡ true
+    go true e b k = e
+    go false e b k = let z : _≡_ {A = ℕ} 0 1 = cc in absurd (omega arith)
 
-  met : RecordMet p (f .owner) f
-  met = record-found p (f .owner) (r.Found f) (sym whole) f refl
-
-  module _ (e : Expanded) (is : e ≡ expanded (nameAt p (f .owner))) where
-    bytes-are : e .bytes ≡ shown .owner ++ replicate (255 - length (shown .owner)) 0
-    bytes-are = ap (λ (y : Expanded). y .bytes) (is ∙ ap expanded (met .owner))
-
-    pub owner-is : take (f .span .len) (e .bytes) ≡ shown .owner
-    owner-is = ap (take (f .span .len)) bytes-are ∙ take-at (shown .owner) (replicate (255 - length (shown .owner)) 0) (f .span .len) (sym (met .span))
-
-    pub span-fits : f .span .len ≤ length (e .bytes)
-    span-fits = omega (arith, ap length bytes-are, length-append (shown .owner) (replicate (255 - length (shown .owner)) 0), met .span)
-
-    pub span-long : f .span .len ≡ length (take (f .span .len) (e .bytes))
-    span-long = met .span ∙ sym (ap length owner-is)
-
-    pub short : length (take (f .span .len) (e .bytes)) ≤ 255
-    short = omega (arith, at-most-255 p (f .owner) (shown .owner) (met .end) (met .owner), ap length owner-is)
-
-  pub content-is : (o : Opened) → o ≡ openedAt p f → (seen : List ℕ) → seen ≡ viewOf p (o .bytes) (o .len) f → seen ≡ shown .rdata
-  content-is o is seen s =
-      let viewed : rdata seen ≡ rdata (shown .rdata) =
-      ap rdata s ∙ sym (view-is p f (ap fits (met .content)) o is) ∙ met .content in
-      cc
-
--- rdata that holds no name lies in the packet as it is shown; that which holds one is what was opened
-module _ (p : List ℕ) (h : Heard) (lies : Lies p h) where
-  pub lying-is : h .named ≡ false → (seen : List ℕ) → seen ≡ take (h .at .rdlength) (drop (h .at .rdata) p) → seen ≡ recordShown p (h .at) .rdata
-  lying-is n seen s =
-      let o : Opened = openedAt p (h .at) in
-      content-is p (h .at) (lies .0) o refl seen (s ∙ sym (simp (sym (lies .1) ∙ n)))
-
-  pub opened-is : h .named ≡ true → (o : Opened) → o ≡ openedAt p (h .at) → (seen : List ℕ) → seen ≡ take (o .len) (o .bytes) → seen ≡ recordShown p (h .at) .rdata
-  opened-is n o is seen s = content-is p (h .at) (lies .0) o is seen (s ∙ sym (simp (sym (lies .1) ∙ n)))
-
--- the slot of a record, from what the code has laid over it
-module _ (p : List ℕ) (h : Heard) where
-  pub taken-whole : isTaken h ≡ true → h .whole ≡ true
-  unfolding isTaken
-  taken-whole t = go (h .whole) refl (cachedAs (h .at .class) (h .at .rtype) (h .named)) t
-    where
-      go : (w : Bool) → h .whole ≡ w → (b : Bool) → (w && b) ≡ true → h .whole ≡ true
-      go true e b k = e
-      go false e b k = let z : _≡_ {A = ℕ} 0 1 = cc in absurd (omega arith)
-
-  pub slot-none : isTaken h ≡ false → replicate 1024 0 ≡ slotHeard p h
-  unfolding slotHeard
-  slot-none n = sym (simp n)
-
-  pub slot-owner : isTaken h ≡ true → 768 < h .len → (owner : List ℕ) → owner ≡ recordShown p (h .at) .owner → (last : List ℕ) → last ≡ sets (replicate 1024 0) 0 owner → last ≡ slotHeard p h
-  unfolding slotHeard
-  slot-owner t l owner o last is = is ∙ ap (sets (replicate 1024 0) 0) o ∙ sym (simp (t, lt-ltb _ _ l))
-
-  pub slot-both : isTaken h ≡ true → h .len ≤ 768 → (owner : List ℕ) → owner ≡ recordShown p (h .at) .owner → (mid last : List ℕ) → mid ≡ sets (replicate 1024 0) 0 owner
-      → last ≡ sets mid 256 (recordShown p (h .at) .rdata) → last ≡ slotHeard p h
-  unfolding slotHeard
-  slot-both t l owner o mid last m is =
-      is ∙ ap (λ (k : List ℕ). sets k 256 (recordShown p (h .at) .rdata)) (m ∙ ap (sets (replicate 1024 0) 0) o) ∙ sym (simp (t, le-ltb _ _ l))
-
-module _ (slot : List ℕ) (c : Choice) (store : List ℕ) where
-  pub not-kept : (c .kind ≡ 3 → ⊥) → store ≡ keptIn slot c store
+module _ (slot : List ℕ) (h : Heard) (c : Choice) (store : List ℕ) where
+  pub not-kept : (c .kind ≡ 3 → ⊥) → store ≡ keptIn slot h c store
   unfolding keptIn
   not-kept k = sym (simp (ne-eqb _ _ k))
 
-  pub kept : c .kind ≡ 3 → (last : List ℕ) → last ≡ sets store (1024 * c .slot) slot → last ≡ keptIn slot c store
+  -- the owner and the rdata were laid over zeros
+  pub kept : c .kind ≡ 3 → (blank owner first d filled last : List ℕ) → blank ≡ replicate 1024 0 → owner ≡ ownerIn slot h → first ≡ sets blank 0 owner
+      → d ≡ rdataIn slot h → filled ≡ sets first 256 d → last ≡ sets store (1024 * c .slot) filled → last ≡ keptIn slot h c store
   unfolding keptIn
-  kept k last is = is ∙ sym (simp (eq-eqb _ _ k))
+  kept k blank owner first d filled last z o f r l is =
+      let whole : filled ≡ slotWith (ownerIn slot h) (rdataIn slot h) =
+      l ∙ ap₂ (λ (a b : List ℕ). sets a 256 b) (f ∙ ap₂ (λ (a b : List ℕ). sets a 0 b) z o) r in
+      is ∙ ap (sets store (1024 * c .slot)) whole ∙ sym (simp (eq-eqb _ _ k))

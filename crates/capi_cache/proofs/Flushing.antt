@@ -11,9 +11,12 @@ use Rattle.cache.specs.entries.Entries.{blank, isLive, isFree}
 use Rattle.cache.specs.entries.Tables.{slotFrom, each}
 use Rattle.cache.specs.declared.entries.Entry.{Entry}
 use Rattle.cache.specs.declared.records.Heard.{Heard}
-use Rattle.cache.specs.records.Heard.{isFlushing, isSought, holdsHeard, flushedHeard, firstSlot, isFilling, chosenOf}
-use Rattle.cache.specs.records.Taking.{flushedIn, equalIn, freeFrom, chosenIn}
-use Rattle.cache.proofs.records.Rules.{flushed-length, flushes-none}
+use Rattle.cache.specs.records.Heard.{isFlushing, isSought, mayHold, hasBytes, holdsHeard, flushedHeard, firstSlot, isFilling, chosenOf}
+use Rattle.cache.specs.records.Taking.{flushedIn, likelyFrom, equalIn, freeFrom, chosenIn}
+use Rattle.cache.proofs.records.Rules.{flushed-length, flushes-none, may-wider, may-bytes}
+use Rattle.capi_cache.specs.Types.{Passed}
+use Rattle.capi_cache.proofs.Types.{passed-equal}
+use Rattle.cache.proofs.records.Seeking.{not-before, steps-over, passes}
 use Rattle.capi_cache.proofs.Mixed.{mixed, set-mixed, all-mixed}
 
 pub first-within : (b : Bool) (n : ℕ) → firstSlot b n ≤ n
@@ -60,14 +63,33 @@ module _ (now : ℕ) (store slot : List ℕ) (h : Heard) (es : List Entry) where
       go true e = refl
       go false e = ap (λ (l : List Entry). mixed (length es) l es) (flushes-none now store slot h es e) ∙ all-mixed es es refl
 
-  -- what the searches give, and what is chosen by them
-  pub equal-is : slotFrom (holdsHeard now store slot h) (firstSlot (isSought h) (length es)) (drop (firstSlot (isSought h) (length es)) es) ≡ equalIn now store slot h es
+  -- what the searches give, and what is chosen by them: an entry that may not hold the record is stepped over
+  pub equal-from : (i : ℕ) → slotFrom (holdsHeard now store slot h) (likelyFrom now h es i) (drop (likelyFrom now h es i) es) ≡ slotFrom (holdsHeard now store slot h) i (drop i es)
+  unfolding likelyFrom
+  equal-from i = steps-over (holdsHeard now store slot h) (λ j e. mayHold now h e) (λ j e n. may-wider now store slot h j e n) es i
+
+  pub bytes-test : (i : ℕ) → mayHold now h (getD es i blank) ≡ true → (t : Bool) → hasBytes store slot h i (getD es i blank) ≡ t → holdsHeard now store slot h i (getD es i blank) ≡ t
+  bytes-test i k t e = sym (may-bytes now store slot h i (getD es i blank) k) ∙ e
+
+  pub equal-is : (near : ℕ) → Passed (h .at .rtype) es (firstSlot (isSought h) (length es)) near → slotFrom (holdsHeard now store slot h) (likelyFrom now h es near) (drop (likelyFrom now h es near) es) ≡ equalIn now store slot h es
   unfolding equalIn
-  equal-is = refl
+  equal-is near p = equal-from near ∙ passed-equal now store slot h es (firstSlot (isSought h) (length es)) near p
 
   pub chosen-is : chosenOf h (length es) (equalIn now store slot h es) (freeFrom now es (firstSlot (isFilling h (length es) (equalIn now store slot h es)) (length es))) ≡ chosenIn now store slot h es
   unfolding chosenIn
   chosen-is = refl
+
+pub likely-is : (now : ℕ) (h : Heard) (es : List Entry) (from : ℕ) → slotFrom (λ i e. mayHold now h e) from (drop from es) ≡ likelyFrom now h es from
+unfolding likelyFrom
+likely-is now h es from = refl
+
+pub likely-after : (now : ℕ) (h : Heard) (es : List Entry) (from : ℕ) → from ≤ likelyFrom now h es from
+unfolding likelyFrom
+likely-after now h es from = not-before (λ i e. mayHold now h e) from (drop from es)
+
+pub likely-may : (now : ℕ) (h : Heard) (es : List Entry) (from : ℕ) → likelyFrom now h es from < length es → mayHold now h (getD es (likelyFrom now h es from) blank) ≡ true
+unfolding likelyFrom
+likely-may now h es from l = passes (λ i e. mayHold now h e) es from l
 
 pub free-is : (now : ℕ) (es : List Entry) (from : ℕ) → slotFrom (isFree now) from (drop from es) ≡ freeFrom now es from
 unfolding freeFrom

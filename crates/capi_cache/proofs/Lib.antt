@@ -12,6 +12,7 @@ mod CallsFound
 mod CallsRules
 mod CallsTaking
 mod Changes
+mod Types
 mod Flushing
 mod Moving
 mod Taking

@@ -22,12 +22,14 @@ use Rattle.cache.specs.declared.entries.Entry.{Entry}
 use Rattle.cache.specs.declared.records.Heard.{Heard}
 use Rattle.cache.specs.declared.records.Choice.{Choice}
 use Rattle.cache.specs.records.Heard.{heardOf, heardAt}
-use Rattle.cache.specs.records.Taking.{slotHeard, flushedIn, chosenIn, changed, changedIn, keptIn, counting, takeHeard}
+use Rattle.cache.specs.records.Taking.{Shows, flushedIn, chosenIn, changed, changedIn, keptIn, counting, takeHeard}
 use Rattle.cache.proofs.lookup.Refusing.{size-least}
 use Rattle.cache.proofs.records.Rules.{flushed-length, changed-length, kept-length, chosen-within, chosen-fills, left-alone, not-whole, as-shown}
 use Rattle.capi_cache.specs.declared.Cursor.{Cursor}
 use Rattle.capi_cache.proofs.Changes.{taken-whole}
-use Rattle.capi_cache.specs.Cursors.{Fits, Filling, Lies, Keeping, isMore, nextAt, sectionPast, pastOf, recordsFrom, cacheAt}
+use Rattle.capi_cache.specs.hearing.Hearing.{heardIn}
+use Rattle.capi_cache.proofs.hearing.Shown.{heard-shows}
+use Rattle.capi_cache.specs.Cursors.{Fits, Filling, Keeping, isMore, nextAt, sectionPast, pastOf, recordsFrom, cacheAt}
 
 -- how many records are left at the most
 abbrev pub size : Cursor → ℕ
@@ -46,18 +48,18 @@ module _ (now : ℕ) (p : List ℕ) where
   past-broken s = refl
 
   -- one record of a section, before the rest
-  one : (s : Section) (a : RecordRead) → a ≡ wholeRead p (s .at) → 0 < s .count → (rest : List Record) (d : Cache)
-      → takeRecords now (listOf s ++ rest) d ≡ takeRecords now (listOf (sectionPast (heardOf p a) s) ++ rest) (takeHeard now (slotHeard p (heardOf p a)) (heardOf p a) d)
+  one : (s : Section) (a : RecordRead) → a ≡ wholeRead p (s .at) → 0 < s .count → (slot : List ℕ) → Shows p (heardOf p a) slot → (rest : List Record) (d : Cache)
+      → takeRecords now (listOf s ++ rest) d ≡ takeRecords now (listOf (sectionPast (heardOf p a) s) ++ rest) (takeHeard now slot (heardOf p a) d)
   unfolding takeRecords
-  one s (r.Found f) is lt rest d =
+  one s (r.Found f) is lt slot shows rest d =
       let met : RecordMet p (s .at) f = record-found p (s .at) (r.Found f) is f refl in
       ap (λ (l : List Record). takeRecords now (l ++ rest) d) (readable-item (recordAt p) (s .count) (s .at) (recordShown p f) (f .next) lt (met .here))
       ∙ ap (λ (t : Section). takeRecords now (listOf t ++ rest) (takeRecord now (recordShown p f) d)) (sym (past-found s f lt))
-      ∙ ap (takeRecords now (listOf (sectionPast (heardOf p (r.Found f)) s) ++ rest)) (sym (as-shown now p (s .at) f met d))
-  one s r.Malformed is lt rest d =
+      ∙ ap (takeRecords now (listOf (sectionPast (heardOf p (r.Found f)) s) ++ rest)) (sym (as-shown now p (s .at) f met slot shows d))
+  one s r.Malformed is lt slot shows rest d =
       ap (λ (l : List Record). takeRecords now (l ++ rest) d) (readable-broken (recordAt p) (s .count) (s .at) (record-broken p (s .at) r.Malformed is refl) ∙ sym (readable-none (recordAt p) 0 (s .at) (omega arith)))
       ∙ ap (λ (t : Section). takeRecords now (listOf t ++ rest) d) (sym (past-broken s))
-      ∙ ap (takeRecords now (listOf (sectionPast (heardOf p r.Malformed) s) ++ rest)) (sym (left-alone now (slotHeard p (heardOf p r.Malformed)) (heardOf p r.Malformed) d (not-whole (heardOf p r.Malformed) refl)))
+      ∙ ap (takeRecords now (listOf (sectionPast (heardOf p r.Malformed) s) ++ rest)) (sym (left-alone now slot (heardOf p r.Malformed) d (not-whole (heardOf p r.Malformed) refl)))
 
   less : (s : Section) (a : RecordRead) → 0 < s .count → sectionPast (heardOf p a) s .count < s .count
   less s (r.Found f) lt = let k = ap (λ (t : Section). t .count) (past-found s f lt) in omega (arith, k, lt)
@@ -95,26 +97,26 @@ module _ (now : ℕ) (p : List ℕ) where
             let k = in-additionals le in
             omega (arith, less (c .additionals) a (additionals-left le), ap (λ (s : Section). s .count) (k .1 .0), ap (λ (s : Section). s .count) (k .1 .1))
 
-    past-records : (d : Cache) → takeRecords now (recordsFrom p c) d ≡ takeRecords now (recordsFrom p c′) (takeHeard now (slotHeard p h) h d)
+    past-records : (slot : List ℕ) → Shows p h slot → (d : Cache) → takeRecords now (recordsFrom p c) d ≡ takeRecords now (recordsFrom p c′) (takeHeard now slot h d)
     unfolding recordsFrom
-    past-records d = go (ltb 0 (c .answers .count)) refl
+    past-records slot shows d = go (ltb 0 (c .answers .count)) refl
       where
-        go : (b : Bool) → ltb 0 (c .answers .count) ≡ b → takeRecords now (listOf (c .answers) ++ listOf (c .additionals)) d ≡ takeRecords now (listOf (c′ .answers) ++ listOf (c′ .additionals)) (takeHeard now (slotHeard p h) h d)
+        go : (b : Bool) → ltb 0 (c .answers .count) ≡ b → takeRecords now (listOf (c .answers) ++ listOf (c .additionals)) d ≡ takeRecords now (listOf (c′ .answers) ++ listOf (c′ .additionals)) (takeHeard now slot h d)
         go true e =
             let lt = ltb-true 0 (c .answers .count) e in
             let k = in-answers lt in
-            one (c .answers) a (is ∙ ap (wholeRead p) (k .0)) lt (listOf (c .additionals)) d
-            ∙ ap₂ (λ (s t : Section). takeRecords now (listOf s ++ listOf t) (takeHeard now (slotHeard p h) h d)) (sym (k .1 .0)) (sym (k .1 .1))
+            one (c .answers) a (is ∙ ap (wholeRead p) (k .0)) lt slot shows (listOf (c .additionals)) d
+            ∙ ap₂ (λ (s t : Section). takeRecords now (listOf s ++ listOf t) (takeHeard now slot h d)) (sym (k .1 .0)) (sym (k .1 .1))
         go false e =
             let le = ltb-false 0 (c .answers .count) e in
             let k = in-additionals le in
             let none : listOf (c .answers) ≡ [] = readable-none (recordAt p) (c .answers .count) (c .answers .at) le in
             ap (λ (l : List Record). takeRecords now (l ++ listOf (c .additionals)) d) none
             ∙ ap (λ (l : List Record). takeRecords now l d) (sym (append-nil (listOf (c .additionals))))
-            ∙ one (c .additionals) a (is ∙ ap (wholeRead p) (k .0)) (additionals-left le) [] d
-            ∙ ap (λ (l : List Record). takeRecords now l (takeHeard now (slotHeard p h) h d)) (append-nil (listOf (sectionPast h (c .additionals))))
-            ∙ ap (λ (l : List Record). takeRecords now (l ++ listOf (sectionPast h (c .additionals))) (takeHeard now (slotHeard p h) h d)) (sym none)
-            ∙ ap₂ (λ (s t : Section). takeRecords now (listOf s ++ listOf t) (takeHeard now (slotHeard p h) h d)) (sym (k .1 .0)) (sym (k .1 .1))
+            ∙ one (c .additionals) a (is ∙ ap (wholeRead p) (k .0)) (additionals-left le) slot shows [] d
+            ∙ ap (λ (l : List Record). takeRecords now l (takeHeard now slot h d)) (append-nil (listOf (sectionPast h (c .additionals))))
+            ∙ ap (λ (l : List Record). takeRecords now (l ++ listOf (sectionPast h (c .additionals))) (takeHeard now slot h d)) (sym none)
+            ∙ ap₂ (λ (s t : Section). takeRecords now (listOf s ++ listOf t) (takeHeard now slot h d)) (sym (k .1 .0)) (sym (k .1 .1))
 
 -- what a loop over the records keeps: the records that are left still make of the cache what all do, the lengths stay, and there is room to count
 pub record Going (now : ℕ) (p : List ℕ) (all : Cache) (n m : ℕ) (c : Cursor) (zs : List Entry) (cs : List ℕ) : Type 0 where
@@ -133,12 +135,12 @@ counts-one kind x n = go (eqb (x .kind) kind)
     go true = omega arith
     go false = omega arith
 
-module _ (now : ℕ) (p : List ℕ) (all : Cache) (n m : ℕ) (c : Cursor) (zs : List Entry) (cs : List ℕ) (g : Going now p all n m c zs cs) where
+module _ (now : ℕ) (p : List ℕ) (all : Cache) (n m : ℕ) (c : Cursor) (zs : List Entry) (cs : List ℕ) (g : Going now p all n m c zs cs) (ss : List ℕ) where
   abbrev h′ : Heard
   h′ = heardAt p (nextAt c)
 
   abbrev slot′ : List ℕ
-  slot′ = slotHeard p h′
+  slot′ = heardIn p (nextAt c) ss
 
   abbrev es′ : List Entry
   es′ = flushedIn now cs slot′ h′ zs
@@ -154,7 +156,7 @@ module _ (now : ℕ) (p : List ℕ) (all : Cache) (n m : ℕ) (c : Cursor) (zs :
   unfolding pastOf
   passed-is = refl
 
-  after-is : cacheAt (pastOf c h′ x′) (changedIn now h′ x′ es′) (keptIn slot′ x′ cs) ≡ takeHeard now slot′ h′ (cacheAt c zs cs)
+  after-is : cacheAt (pastOf c h′ x′) (changedIn now h′ x′ es′) (keptIn slot′ h′ x′ cs) ≡ takeHeard now slot′ h′ (cacheAt c zs cs)
   unfolding takeHeard pastOf
   after-is = refl
 
@@ -178,15 +180,15 @@ module _ (now : ℕ) (p : List ℕ) (all : Cache) (n m : ℕ) (c : Cursor) (zs :
     pub nearer : size (pastOf c h′ x′) < size c
     nearer = smaller
 
-    records-on : takeRecords now (recordsFrom p c) (cacheAt c zs cs) ≡ takeRecords now (recordsFrom p (pastOf c h′ x′)) (takeHeard now slot′ h′ (cacheAt c zs cs))
+    records-on : length ss ≡ 1024 → takeRecords now (recordsFrom p c) (cacheAt c zs cs) ≡ takeRecords now (recordsFrom p (pastOf c h′ x′)) (takeHeard now slot′ h′ (cacheAt c zs cs))
     unfolding heardAt
-    records-on = past-records now p c (wholeRead p (nextAt c)) refl more x′ (cacheAt c zs cs)
+    records-on size = past-records now p c (wholeRead p (nextAt c)) refl more x′ slot′ (heard-shows p (nextAt c) ss size) (cacheAt c zs cs)
 
-    pub goes-on : Going now p all n m (pastOf c h′ x′) (changedIn now h′ x′ es′) (keptIn slot′ x′ cs)
-    goes-on = record {
-      same = ap (takeRecords now (recordsFrom p (pastOf c h′ x′))) after-is ∙ sym records-on ∙ g .same;
+    pub goes-on : length ss ≡ 1024 → Going now p all n m (pastOf c h′ x′) (changedIn now h′ x′ es′) (keptIn slot′ h′ x′ cs)
+    goes-on size = record {
+      same = ap (takeRecords now (recordsFrom p (pastOf c h′ x′))) after-is ∙ sym (records-on size) ∙ g .same;
       entries = changed-length now h′ x′ es′ ∙ flushed-length now cs slot′ h′ zs ∙ g .entries;
-      store = kept-length slot′ x′ cs ∙ g .store;
+      store = kept-length slot′ h′ x′ cs ∙ g .store;
       away = omega (arith, turned-is, counts-one 4 x′ (c .turned), smaller, g .away);
       over = omega (arith, passed-is, counts-one 5 x′ (c .passed), smaller, g .over);
     }
@@ -194,7 +196,7 @@ module _ (now : ℕ) (p : List ℕ) (all : Cache) (n m : ℕ) (c : Cursor) (zs :
     pub room-to-count : (c .turned + 1 < 2 ^ 32) × (c .passed + 1 < 2 ^ 32)
     room-to-count = (omega (arith, smaller, g .away), omega (arith, smaller, g .over))
 
--- a record that is whole fits, and lies so
+-- a record that is whole fits
 pub heard-fits : (p : List ℕ) (at : ℕ) → Fits (heardAt p at)
 unfolding heardAt
 heard-fits p at = go (wholeRead p at) refl
@@ -205,16 +207,6 @@ heard-fits p at = go (wholeRead p at) refl
         omega (arith, at-most-255 p (f .owner) (recordShown p f .owner) (met .end) (met .owner), met .span)
     go r.Malformed is w = let z : _≡_ {A = ℕ} 0 1 = cc in absurd (omega arith)
 
-pub heard-lies : (p : List ℕ) (at : ℕ) → heardAt p at .whole ≡ true → Lies p (heardAt p at)
-unfolding heardAt
-heard-lies p at = go (wholeRead p at) refl
-  where
-    go : (a : RecordRead) → a ≡ wholeRead p at → heardOf p a .whole ≡ true → Lies p (heardOf p a)
-    go (r.Found f) is w =
-        let met : RecordMet p at f = record-found p at (r.Found f) is f refl in
-        (ap (wholeRead p) (met .place) ∙ sym is, refl)
-    go r.Malformed is w = let z : _≡_ {A = ℕ} 0 1 = cc in absurd (omega arith)
-
 module _ (now : ℕ) (store slot : List ℕ) (h : Heard) (es : List Entry) (n : ℕ) (len : length es ≡ n) (size-is : isSize n ≡ true) (bytes : length store ≡ 1024 * n) where
   pub some-entry : 0 < length es
   some-entry = let k = size-least n size-is in omega (arith, k, len)
@@ -223,7 +215,7 @@ module _ (now : ℕ) (store slot : List ℕ) (h : Heard) (es : List Entry) (n : 
   keeping k = let s = chosen-within now store slot h es some-entry in omega (arith, s, len, bytes)
 
 pub filling : (now : ℕ) (store slot : List ℕ) (h : Heard) (es : List Entry) → Fits h → Filling h (chosenIn now store slot h es)
-filling now store slot h es fits k = let f = chosen-fills now store slot h es k in (fits (taken-whole slot h (f .0)), f .1)
+filling now store slot h es fits k = let f = chosen-fills now store slot h es k in (fits (taken-whole h (f .0)), f .1)
 
 pub changed-is : (now : ℕ) (h : Heard) (c : Choice) (es : List Entry) → set es (c .slot) (changed now h c (getD es (c .slot) blank)) ≡ changedIn now h c es
 unfolding changedIn

@@ -8,14 +8,12 @@ use lib.ListN.{length}
 use lib.Dec.{ltb, eqb}
 use Rattle.wire.specs.message.Message.{Record, isResponse}
 use Rattle.wire.specs.message.Layout.{recordAt, readOf}
-use Rattle.wire.specs.message.Readable.{readable, wholeRead}
-use Rattle.wire.specs.rdata.Rdata.{formAt}
+use Rattle.wire.specs.message.Readable.{readable}
 use Rattle.wire.specs.message.Refusals.{messageFrom}
 use Rattle.wire.specs.declared.message.Layout.{Layout}
 use Rattle.wire.specs.declared.message.Section.{Section}
 use Rattle.wire.specs.declared.message.MessageRead.{MessageRead}
 use Rattle.wire.specs.declared.message.MessageRead.the-variants as m
-use Rattle.wire.specs.declared.message.RecordRead.the-variants.{Found}
 use Rattle.cache.specs.entries.Cache.{Cache, isSize, isStoreOf}
 use Rattle.cache.specs.declared.entries.Entry.{Entry}
 use Rattle.cache.specs.declared.records.Heard.{Heard}
@@ -29,10 +27,6 @@ Fits h = h .whole ≡ true → h .at .span .len ≤ 255
 
 abbrev pub Filling : Heard → Choice → Type 0
 Filling h c = c .kind ≡ 3 → (h .at .span .len ≤ 255) × (h .len ≤ 768)
-
--- a record lies so in the packet
-abbrev pub Lies : List ℕ → Heard → Type 0
-Lies p h = (wholeRead p (h .at .owner) ≡ Found (h .at)) × (h .named ≡ formAt p (h .at) .named)
 
 -- a store has the slot that is filled
 abbrev pub Keeping : Choice → ℕ → Type 0

@@ -1,12 +1,13 @@
 // The cache on a lent table (specification, 'The cache'): entries as a lent slice of structs of any length, worked on in place. Thin functions read and
 // replace one entry; the rules on an entry by value are those of the crate `cache`.
+pub mod hearing;
+
 ghost use mathlib.Core.Path.{_≡_};
-ghost use mathlib.Core.Bool.{true, not};
+ghost use mathlib.Core.Bool.{not};
 ghost use Prim.Native.Nat.{ℕ, _+_, _*_, _<_, _≤_, _^_};
 ghost use mathlib.Core.List.{List};
-ghost use lib.ListN.{length, set, getD};
-ghost use lib.Seq.{sets};
-ghost use Rattle.wire.specs.message.Readable.{recordShown};
+ghost use lib.Dec.{leb};
+ghost use lib.ListN.{length, set, getD, replicate};
 ghost use Rattle.cache.specs.entries.Entries.{blank, isLive, refreshed};
 ghost use Rattle.cache.specs.declared.entries.Entry.{Entry};
 ghost use Rattle.cache.specs.declared.records.Choice.{Choice};
@@ -14,10 +15,12 @@ ghost use Rattle.cache.specs.entries.Cache.{Cache, takeRecords, entriesRefusal,
 ghost use Rattle.cache.specs.lookup.Answers.{lookedOf};
 ghost use Rattle.cache.specs.Answers.{takenOf};
 ghost use Rattle.cache.specs.records.Heard.{heardAt};
-ghost use Rattle.cache.specs.records.Taking.{slotHeard, flushedIn, equalIn, freeFrom, chosenIn, entryHeard, changed, changedIn, keptIn, counting};
+ghost use Rattle.cache.specs.records.Taking.{flushedIn, likelyFrom, equalIn, freeFrom, chosenIn, entryHeard, changed, changedIn, keptIn, counting};
 ghost use Rattle.capi_cache.specs.Refusals.{greater, noMost, mostWith, ended};
 ghost use Rattle.capi_cache.specs.Numbers.{refusedLook, foundLook, nothingLook, refusedTake, countedTake, takenNumbers, lookedNumbers};
-ghost use Rattle.capi_cache.specs.Cursors.{Fits, Filling, Lies, Keeping, Taking, stillAt, beginOf, isMore, nextAt, sectionPast, pastOf, recordsFrom, cacheAt};
+ghost use Rattle.capi_cache.specs.Types.{typeAmong, Passed};
+ghost use Rattle.capi_cache.specs.hearing.Hearing.{heardIn};
+ghost use Rattle.capi_cache.specs.Cursors.{Fits, Filling, Keeping, Taking, stillAt, beginOf, isMore, nextAt, sectionPast, pastOf, recordsFrom, cacheAt};
 use cache::entries::Entry;
 use cache::records::Choice;
 use cache::records::Heard;
@@ -270,17 +273,82 @@ fn flush(table: &mut [Entry], store: &[u8], time: u64, slot: &[u8], h: Heard)
     }
 }
 
-// The lowest live equal entry, where rules 2 and 3 are for a record; the slot past the last where there is none.
+// Whether one of four entries is of a record's type.
+fn is_type_among(a: Entry, b: Entry, c: Entry, d: Entry, h: Heard) -> bool
+    ensures { λ r. ⌜ r ≡ typeAmong (h .at .rtype) a b c d ⌝ }
+{
+    let f = h.at;
+    if a.rtype == f.rtype {
+        return true;
+    }
+    if b.rtype == f.rtype {
+        return true;
+    }
+    if c.rtype == f.rtype {
+        return true;
+    }
+    d.rtype == f.rtype
+}
+
+// Whether the table has four entries from slot i on.
+fn has_four(n: usize, i: usize) -> bool
+    ensures { λ r. ⌜ r ≡ leb (i + 4) n ⌝ }
+{
+    if n < i {
+        return false;
+    }
+    4 <= n - i
+}
+
+// A slot from a slot on; no entry between is of a record's type. They are passed over four at a time.
+fn past_others(table: &[Entry], h: Heard, from: usize) -> usize
+    ensures { λ r. ⌜ Passed (h .at .rtype) (now (table .entry)) from r ⌝ }
+{
+    let n = entry_count(table);
+    let mut i = from;
+    while has_four(n, i) {
+        let a = entry_at(table, i);
+        let b = entry_at(table, i + 1);
+        let c = entry_at(table, i + 2);
+        let d = entry_at(table, i + 3);
+        if is_type_among(a, b, c, d, h) {
+            return i;
+        }
+        i += 4;
+    }
+    i
+}
+
+// The lowest entry that may hold a record, from a slot on; the slot past the last where there is none.
+fn likely_slot(table: &[Entry], time: u64, h: Heard, from: usize) -> usize
+    ensures { λ r. ⌜ r ≡ likelyFrom time h (now (table .entry)) from ⌝ }
+{
+    let n = entry_count(table);
+    let mut i = from;
+    while i < n {
+        if cache::records::may_hold(entry_at(table, i), time, h) {
+            return i;
+        }
+        i += 1;
+    }
+    i
+}
+
+// The lowest live equal entry, where rules 2 and 3 are for a record; the slot past the last where there is none. Only entries that may hold it are compared,
+// and of those before the first of its type nothing but the type is looked at.
 fn equal_slot(table: &[Entry], store: &[u8], time: u64, slot: &[u8], h: Heard) -> usize
     ensures { λ r. ⌜ r ≡ equalIn time (now (store .entry)) (now (slot .entry)) h (now (table .entry)) ⌝ }
 {
     let n = entry_count(table);
-    let mut i = cache::records::seek_from(h, n);
+    let first = cache::records::seek_from(h, n);
+    let near = past_others(table, h, first);
+    let mut i = likely_slot(table, time, h, near);
     while i < n {
-        if cache::records::is_equal(entry_at(table, i), i, store, time, slot, h) {
+        if cache::records::has_bytes(entry_at(table, i), i, store, slot, h) {
             return i;
         }
-        i += 1;
+        let next = likely_slot(table, time, h, i + 1);
+        i = next;
     }
     i
 }
@@ -392,51 +460,27 @@ fn take_record(table: &mut [Entry], store: &[u8], time: u64, slot: &[u8], h: Hea
     c
 }
 
-// Lays the rdata of a record, its name expanded, over the slot that it would fill.
-fn put_rdata(slot: &mut [u8], message: &[u8], h: Heard)
-    requires { ⌜ Lies (now message) h ⌝ }
-    ensures { λ _. ⌜ now (slot .exit) ≡ sets (now (slot .entry)) 256 (recordShown (now (message .entry)) (h .at) .rdata) ⌝ }
+// A slot of zeros.
+fn blank_slot() -> [u8; 1024]
+    ensures { λ r. ⌜ r ≡ replicate 1024 0 ⌝ }
 {
-    let f = h.at;
-    if !h.named {
-        wire::buffer::put(slot, 256, wire::rdata::part(message, f.rdata, f.rdlength));
-        return;
-    }
-    let opened = wire::expansion::open(message, f);
-    let bytes = opened.bytes;
-    wire::buffer::put(slot, 256, wire::rdata::part(&bytes, 0, opened.len));
+    [0u8; 1024]
 }
 
-// The slot that a record would fill: its owner and its rdata, names expanded once for the whole table, and zeros in the bytes that they leave.
-fn slot_heard(message: &[u8], h: Heard) -> [u8; 1024]
-    requires { ⌜ (h .whole ≡ true → Lies (now message) h) ⌝ }
-    ensures { λ r. ⌜ r ≡ slotHeard (now (message .entry)) h ⌝ }
-{
-    let mut slot = [0u8; 1024];
-    if !cache::records::is_taken(h) {
-        return slot;
-    }
-    let f = h.at;
-    let span = f.span.len;
-    let expanded = wire::names::expand(message, f.owner);
-    let name = expanded.bytes;
-    wire::buffer::put(&mut slot, 0, &name[..span]);
-    if (cache::entries::MOST_RDATA as usize) < h.len {
-        return slot;
-    }
-    put_rdata(&mut slot, message, h);
-    slot
-}
-
-// The bytes of a record that fills a slot.
-fn keep(store: &mut [u8], slot: &[u8], c: Choice)
+// The bytes of a record that fills a slot: those that `slot` shows, and zeros in the bytes that they leave.
+fn keep(store: &mut [u8], slot: &[u8], h: Heard, c: Choice)
     requires { ⌜ Keeping c (length (now store)) ⌝ }
-    ensures { λ _. ⌜ now (store .exit) ≡ keptIn (now (slot .entry)) c (now (store .entry)) ⌝ }
+    ensures { λ _. ⌜ now (store .exit) ≡ keptIn (now (slot .entry)) h c (now (store .entry)) ⌝ }
 {
     if c.kind != cache::records::FILL {
         return;
     }
-    wire::buffer::put(store, 1024 * c.slot, slot);
+    let f = h.at;
+    let span = f.span;
+    let mut filled = blank_slot();
+    wire::buffer::put(&mut filled, 0, wire::rdata::part(slot, 0, span.len));
+    wire::buffer::put(&mut filled, 256, wire::rdata::part(slot, 256, h.len));
+    wire::buffer::put(store, 1024 * c.slot, &filled);
 }
 
 // What is left of a message's sections, and the counts so far; or the number of a refusal, and nothing is left.
@@ -508,16 +552,18 @@ fn is_more(c: Cursor) -> bool
     0 < additionals.count
 }
 
-// The next record.
-fn hear_next(message: &[u8], c: Cursor) -> Heard
-    ensures { λ r. ⌜ r ≡ heardAt (now (message .entry)) (nextAt c) ⌝ }
+// The next record; its owner and its rdata are laid over `slot`.
+fn hear_next(slot: &mut [u8], message: &[u8], c: Cursor) -> Heard
+    requires { ⌜ length (now slot) ≡ 1024 ⌝ }
+    ensures { λ r. ⌜ (r ≡ heardAt (now (message .entry)) (nextAt c))
+        × (now (slot .exit) ≡ heardIn (now (message .entry)) (nextAt c) (now (slot .entry))) ⌝ }
 {
     let answers = c.answers;
     let additionals = c.additionals;
     if 0 < answers.count {
-        return cache::records::hear(message, answers.at);
+        return hearing::hear(slot, message, answers.at);
     }
-    cache::records::hear(message, additionals.at)
+    hearing::hear(slot, message, additionals.at)
 }
 
 // A section after its next record; nothing is left of one whose record is not whole.
@@ -599,12 +645,12 @@ fn take_records(
         let c : Cache = takeRecords time (recordsFrom (now (message .entry)) first) was in
         (r ≡ countedTake (c .turned) (c .passed)) × ((now (table .exit) ≡ c .entries) × (now (store .exit) ≡ c .store))) ⌝ }
 {
+    let mut slot = blank_slot();
     let mut c = first;
     while is_more(c) {
-        let h = hear_next(message, c);
-        let slot = slot_heard(message, h);
+        let h = hear_next(&mut slot, message, c);
         let x = take_record(table, store, time, &slot, h);
-        keep(store, &slot, x);
+        keep(store, &slot, h, x);
         let next = past(c, h, x);
         c = next;
     }

@@ -2,14 +2,17 @@
 use mathlib.Core.Path.{_≡_, refl, sym, ap, _∙_}
 use mathlib.Core.List.{List, []}
 use mathlib.Core.Bool.{Bool, true, false, not, and-false}
-use Prim.Native.Nat.{ℕ, _+_, _*_, _/_, _<_, _≤_}
+use Prim.Native.Nat.{ℕ, _+_, _-_, _*_, _/_, _<_, _≤_}
+use native.Mathlib.Nat.{add-sub-cancel-left}
 use native.Mathlib.Omega.{arith}
 use lib.ListN.{length, take, drop, drop-of-length-le}
+use lib.Seq.{take-take, drop-drop}
 use lib.Dec.{ltb}
 use borrow.Author.Tests.{lt-ltb, le-ltb, le-leb, lt-leb, eq-eqb, ne-eqb}
 use Rattle.wire.specs.case_folding.Fold.{sameName}
 use Rattle.wire.specs.rdata.Answers.{startIn}
 use Rattle.wire.specs.expansion.Equal.{sameBytes}
+use Rattle.wire.proofs.rdata.Forms.{drop-take}
 use Rattle.cache.specs.entries.Entries.{slotOf, isLive, isFree, isOf, liveOf, matches, holds, until, lesser, soon, flushed, tooLong}
 use Rattle.cache.specs.declared.entries.Entry.{Entry}
 
@@ -84,3 +87,13 @@ match-before now store name rtype from i e h = simp (lt-leb _ _ h)
 pub match-from : (now : ℕ) (store name : List ℕ) (rtype from i : ℕ) (e : Entry) → from ≤ i → matches now store name rtype from i e ≡ liveOf now store name rtype i e
 unfolding matches
 match-from now store name rtype from i e h = simp (le-leb _ _ h)
+
+-- the rdata in a slot that the store has
+pub rdata-here : (store : List ℕ) (i len : ℕ) → i < length store / 1024 → len ≤ 768
+    → take (1024 * i + 256 + len - (1024 * i + 256)) (drop (1024 * i + 256) store) ≡ take len (drop 256 (slotOf store i))
+rdata-here store i len h l =
+    ap (λ (k : ℕ). take k (drop (1024 * i + 256) store)) (add-sub-cancel-left (1024 * i + 256) len)
+    ∙ sym (ap (take len) (drop-take 256 1024 (drop (1024 * i) store)) ∙ take-take len 768 (drop 256 (drop (1024 * i) store)) l ∙ ap (take len) (drop-drop 256 (1024 * i) store))
+
+pub rdata-far : (store : List ℕ) (i len : ℕ) (own : List ℕ) → own ≡ slotOf store i → (part : List ℕ) → part ≡ take len (drop 256 own) → part ≡ take len (drop 256 (slotOf store i))
+rdata-far store i len own e part k = k ∙ ap (λ (l : List ℕ). take len (drop 256 l)) e

@@ -7,7 +7,7 @@ use native.Mathlib.Omega.{arith}
 use lib.ListN.{length, getD, set, drop, length-set}
 use lib.Seq.{sets, length-sets}
 use lib.Dec.{ltb, leb, eqb}
-use borrow.Author.Tests.{lt-ltb, le-ltb, le-leb, ltb-true, ltb-false, eqb-true}
+use borrow.Author.Tests.{lt-ltb, le-ltb, le-leb, ltb-true, ltb-false, eqb-true, eqb-false}
 use Rattle.wire.specs.rdata.Rdata.{formAt}
 use Rattle.wire.specs.rdata.Answers.{fits}
 use Rattle.wire.proofs.expansion.Views.{within}
@@ -19,17 +19,18 @@ use Rattle.wire.specs.declared.message.RecordRead.the-variants as r
 use Rattle.wire.proofs.message.Walk.{RecordMet}
 use Rattle.cache.specs.entries.Entries.{blank, isFree, isOld, soon, flushed}
 use Rattle.cache.specs.entries.Tables.{lowest, slotFrom, each}
-use Rattle.cache.specs.entries.Cache.{Cache, withEntries, cachedAs, isCached, rule1, goodbye, taken, renewed, equalSlot, freeSlot, slotFor, rule23, afterRule1, takeRecord}
+use Rattle.cache.specs.entries.Cache.{Cache, withEntries, cachedAs, isCached, rule1, goodbye, taken, renewed, equalSlot, freeSlot, slotWith, slotFor, rule23, afterRule1, takeRecord}
 use Rattle.cache.specs.declared.entries.Entry.{Entry}
 use Rattle.cache.specs.declared.entries.Slot.{Slot}
 use Rattle.cache.specs.declared.entries.Slot.the-variants.{At, Nowhere}
 use Rattle.cache.specs.declared.records.Heard.{Heard}
 use Rattle.cache.specs.declared.records.Choice.{Choice}
-use Rattle.cache.specs.records.Heard.{heardOf, isTaken, isFlushing, isSought, holdsHeard, liveHeard, flushedHeard, firstSlot, isFilling, change, chosenAmong, chosenOf}
-use Rattle.cache.specs.records.Taking.{slotHeard, flushedIn, equalIn, freeFrom, chosenIn, entryHeard, changed, changedIn, keptIn, counting, changedCache, takeHeard}
+use Rattle.cache.specs.records.Heard.{heardOf, isTaken, isFlushing, isSought, ownerIn, rdataIn, mayHold, hasBytes, holdsHeard, liveHeard, flushedHeard, firstSlot, isFilling, change, chosenAmong, chosenOf}
+use Rattle.cache.specs.records.Taking.{Shows, flushedIn, equalIn, freeFrom, chosenIn, entryHeard, changed, changedIn, keptIn, counting, changedCache, takeHeard}
 use Rattle.cache.proofs.entries.Searches.{found-at}
 use Rattle.cache.proofs.entries.Shape.{length-each}
 use Rattle.cache.proofs.records.Whole.{slot-fits, live-shown, holds-shown}
+use Rattle.cache.proofs.records.Tests.{alike-type, may-not, holds-may, holds-bytes}
 use Rattle.cache.proofs.records.Seeking.{numbered, numbered-all}
 
 -- tests and rules that agree on every entry agree on a table
@@ -62,12 +63,15 @@ pub changed-length : (now : ℕ) (h : Heard) (c : Choice) (es : List Entry) → 
 unfolding changedIn
 changed-length now h c es = length-set es (c .slot) (changed now h c (getD es (c .slot) blank))
 
-pub kept-length : (slot : List ℕ) (c : Choice) (store : List ℕ) → length (keptIn slot c store) ≡ length store
+pub kept-length : (slot : List ℕ) (h : Heard) (c : Choice) (store : List ℕ) → length (keptIn slot h c store) ≡ length store
 unfolding keptIn
-kept-length slot c store = go (eqb (c .kind) 3)
+kept-length slot h c store = go (eqb (c .kind) 3)
   where
-    go : (b : Bool) → length (cond b (sets store (1024 * c .slot) slot) store) ≡ length store
-    go true = length-sets store (1024 * c .slot) slot
+    bytes : List ℕ
+    bytes = slotWith (ownerIn slot h) (rdataIn slot h)
+
+    go : (b : Bool) → length (cond b (sets store (1024 * c .slot) bytes) store) ≡ length store
+    go true = length-sets store (1024 * c .slot) bytes
     go false = refl
 
 -- rule 1 that is not for a record leaves every entry, and begins past the last
@@ -110,6 +114,16 @@ module _ (now : ℕ) (store slot : List ℕ) (h : Heard) (es : List Entry) where
   pub chosen-fills : chosenIn now store slot h es .kind ≡ 3 → (isTaken h ≡ true) × (h .len ≤ 768)
   unfolding chosenIn
   chosen-fills k = fills h (length es) _ _ k
+
+-- ---- an entry that may not hold a record does not, and one that may does where its bytes are the record's
+pub may-wider : (now : ℕ) (store slot : List ℕ) (h : Heard) (i : ℕ) (e : Entry) → mayHold now h e ≡ false → holdsHeard now store slot h i e ≡ false
+may-wider now store slot h i e n = sym (holds-may now store slot h i e n)
+
+pub type-wider : (now : ℕ) (h : Heard) (e : Entry) → eqb (e .rtype) (h .at .rtype) ≡ false → mayHold now h e ≡ false
+type-wider now h e n = sym (may-not now h e (sym (alike-type now h e (eqb-false _ _ n))))
+
+pub may-bytes : (now : ℕ) (store slot : List ℕ) (h : Heard) (i : ℕ) (e : Entry) → mayHold now h e ≡ true → hasBytes store slot h i e ≡ holdsHeard now store slot h i e
+may-bytes now store slot h i e k = holds-bytes now store slot h i e k
 
 -- ---- a record that is left
 not-flushing : (h : Heard) → isTaken h ≡ false → isFlushing h ≡ false
@@ -196,18 +210,18 @@ module _ (now : ℕ) (store slot : List ℕ) (h : Heard) (es : List Entry) (t : 
   unfolding chosenIn chosenOf
   chosen-slot = simp (t, l) (by-number (equalIn now store slot h es) equal (λ i is. found-at (holdsHeard now store slot h) es i is .0) equal-number (eqb (h .at .ttl) 0) refl)
 
-module _ (now : ℕ) (p : List ℕ) (at : ℕ) (f : RecordAt) (met : RecordMet p at f) where
+module _ (now : ℕ) (p : List ℕ) (at : ℕ) (f : RecordAt) (met : RecordMet p at f) (slot : List ℕ) (shows : Shows p (heardOf p (r.Found f)) slot) where
   abbrev h : Heard
   h = heardOf p (r.Found f)
 
   abbrev x : Record
   x = recordShown p f
 
-  -- the slot that it would fill
-  abbrev slot : List ℕ
-  slot = slotHeard p h
+  -- the bytes that it would fill a slot with
+  abbrev bytes : List ℕ
+  bytes = slotWith (ownerIn slot h) (rdataIn slot h)
 
-  fills-slot : slot ≡ slotFor x → (c : Cache) (i : ℕ) → changedCache now slot h (change 3 i) c ≡ taken now x c (At i)
+  fills-slot : bytes ≡ slotFor x → (c : Cache) (i : ℕ) → changedCache now slot h (change 3 i) c ≡ taken now x c (At i)
   unfolding changedIn changed keptIn counting
   fills-slot is c i =
       ap₂ (λ (n : ℕ) (l : List ℕ). record { entries = set (c .entries) i (record { rtype = f .rtype; owner = n; rdata = h .len; received = now; expiry = entryHeard now h .expiry; ttl = f .ttl }); store = sets (c .store) (1024 * i) l; turned = c .turned; passed = c .passed }) (met .span) is
@@ -228,11 +242,11 @@ module _ (now : ℕ) (p : List ℕ) (at : ℕ) (f : RecordAt) (met : RecordMet p
   unfolding changedIn changed keptIn counting
   refreshes c i = refl
 
-  by-free : slot ≡ slotFor x → (c : Cache) (s : Slot) → changedCache now slot h (chosenFree s) c ≡ taken now x c s
+  by-free : bytes ≡ slotFor x → (c : Cache) (s : Slot) → changedCache now slot h (chosenFree s) c ≡ taken now x c s
   by-free is c (At i) = fills-slot is c i
   by-free is c Nowhere = turns-away c
 
-  by-slot : slot ≡ slotFor x → (c : Cache) (ends : Bool) (a : Slot) → changedCache now slot h (chosenSlot ends a (freeSlot now c)) c ≡ cond ends (goodbye now c a) (renewed now x c a)
+  by-slot : bytes ≡ slotFor x → (c : Cache) (ends : Bool) (a : Slot) → changedCache now slot h (chosenSlot ends a (freeSlot now c)) c ≡ cond ends (goodbye now c a) (renewed now x c a)
   by-slot is c true (At i) = expires c i
   by-slot is c false (At i) = refreshes c i
   by-slot is c true Nowhere = same-cache now slot h c
@@ -240,7 +254,7 @@ module _ (now : ℕ) (p : List ℕ) (at : ℕ) (f : RecordAt) (met : RecordMet p
 
   equal-is : isTaken h ≡ true → h .len ≤ 768 → (c : Cache) → lowest (holdsHeard now (c .store) slot h) 0 (c .entries) ≡ equalSlot now x c
   unfolding equalSlot
-  equal-is t l c = same-lowest _ _ (λ i e. holds-shown p at f met t l (c .store) now i e) 0 (c .entries)
+  equal-is t l c = same-lowest _ _ (λ i e. holds-shown p at f met slot shows t l (c .store) now i e) 0 (c .entries)
 
   free-is : (c : Cache) → lowest (isFree now) 0 (c .entries) ≡ freeSlot now c
   unfolding freeSlot
@@ -258,7 +272,7 @@ module _ (now : ℕ) (p : List ℕ) (at : ℕ) (f : RecordAt) (met : RecordMet p
           let le : h .len ≤ 768 = ltb-false 768 (h .len) l in
           ap (λ (y : Choice). changedCache now slot h y c) (chosen-slot now (c .store) slot h (c .entries) t l)
           ∙ ap₂ (λ (a b : Slot). changedCache now slot h (chosenSlot (eqb (f .ttl) 0) a b) c) (equal-is t le c) (free-is c)
-          ∙ by-slot (slot-fits p at f met t le) c (eqb (f .ttl) 0) (equalSlot now x c)
+          ∙ by-slot (slot-fits p at f met slot shows t le) c (eqb (f .ttl) 0) (equalSlot now x c)
 
   -- the form of an NSEC that was read says of which kind it is; that of another type is not asked
   kind-is : cachedAs (f .class) (f .rtype) (formAt p f .named) ≡ isCached x
@@ -281,7 +295,7 @@ module _ (now : ℕ) (p : List ℕ) (at : ℕ) (f : RecordAt) (met : RecordMet p
   unfolding flushedHeard flushed isFlushing
   flush-is store t i e top =
       ap₂ (λ (a b : Bool). cond ((a && b) && (liveHeard now store slot h i e && isOld now e)) (soon now e) e) top t
-      ∙ ap (λ (b : Bool). cond (b && isOld now e) (soon now e) e) (live-shown p at f met t store now i e)
+      ∙ ap (λ (b : Bool). cond (b && isOld now e) (soon now e) e) (live-shown p at f met slot shows t store now i e)
 
   all-flushed : (c : Cache) → isTaken h ≡ true → topBit (f .class) ≡ true → flushedIn now (c .store) slot h (c .entries) ≡ each (flushed now (c .store) (x .owner) (x .rtype)) 0 (c .entries)
   unfolding flushedIn

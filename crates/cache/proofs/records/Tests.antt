@@ -6,14 +6,14 @@ use Prim.Native.Nat.{ℕ, _+_, _%_, _<_, _≤_}
 use native.Mathlib.Omega.{arith}
 use lib.ListN.{take, drop}
 use lib.Dec.{leb, eqb}
-use borrow.Author.Tests.{lt-ltb, le-ltb, le-leb, lt-leb, eq-eqb, ne-eqb}
+use borrow.Author.Tests.{lt-ltb, le-ltb, le-leb, lt-leb, eq-eqb, ne-eqb, eqb-false}
 use Rattle.wire.specs.case_folding.Fold.{sameName}
 use Rattle.wire.specs.expansion.Equal.{sameBytes}
 use Rattle.cache.specs.entries.Entries.{slotOf, ownerHeld, rdataHeld, isLive, soon}
 use Rattle.cache.specs.entries.Cache.{cachedAs}
 use Rattle.cache.specs.declared.entries.Entry.{Entry}
 use Rattle.cache.specs.declared.records.Heard.{Heard}
-use Rattle.cache.specs.records.Heard.{isTaken, isFlushing, isSought, ownerIn, rdataIn, isAlike, isOfHeard, liveHeard, holdsHeard, flushedHeard, firstSlot, isFilling, change, chosenOf}
+use Rattle.cache.specs.records.Heard.{isTaken, isFlushing, isSought, ownerIn, rdataIn, isAlike, mayHold, hasBytes, isOfHeard, liveHeard, holdsHeard, flushedHeard, firstSlot, isFilling, change, chosenOf}
 
 module _ (h : Heard) where
   pub taken-not : h .whole ≡ false → false ≡ isTaken h
@@ -103,6 +103,15 @@ pub begins-not : (b : Bool) (n : ℕ) (t : Bool) → t ≡ b → t ≡ false →
 begins-not b n t is k = ap (λ (x : Bool). firstSlot x n) (sym k ∙ is)
 
 module _ (now : ℕ) (h : Heard) (e : Entry) where
+  -- it may hold a record that it is alike to, of as many bytes
+  pub may-not : isAlike now h e ≡ false → false ≡ mayHold now h e
+  unfolding mayHold
+  may-not n = sym (simp n)
+
+  pub may-is : isAlike now h e ≡ true → eqb (e .rdata) (h .len) ≡ mayHold now h e
+  unfolding mayHold
+  may-is l = sym (simp l)
+
   pub alike-type : (e .rtype ≡ h .at .rtype → ⊥) → false ≡ isAlike now h e
   unfolding isAlike
   alike-type n = sym (simp (ne-eqb _ _ n) (and-false (isLive now e)))
@@ -119,6 +128,19 @@ module _ (now : ℕ) (h : Heard) (e : Entry) where
 -- the owner in a slot, and in that of the record, as the code has read them
 pub is-owned : (store slot : List ℕ) (i len span : ℕ) (r : Bool) (own part given : List ℕ) → own ≡ slotOf store i → part ≡ take len own → given ≡ take span slot → r ≡ sameName part given → r ≡ sameName (take len (slotOf store i)) (take span slot)
 is-owned store slot i len span r own part given s q g is = is ∙ ap₂ sameName (q ∙ ap (take len) s) g
+
+-- the bytes of an entry against a record's, as the code has read its rdata: in the entry's slot, and in that of the record
+module _ (store slot : List ℕ) (h : Heard) (i : ℕ) (e : Entry) (part given : List ℕ) (q : part ≡ rdataHeld store i e) (g : given ≡ rdataIn slot h) where
+  bytes-are : sameBytes (rdataHeld store i e) (rdataIn slot h) ≡ sameBytes part given
+  bytes-are = ap₂ sameBytes (sym q) (sym g)
+
+  pub bytes-other : sameBytes part given ≡ false → false ≡ hasBytes store slot h i e
+  unfolding hasBytes
+  bytes-other k = sym (simp (bytes-are ∙ k))
+
+  pub bytes-owner : sameBytes part given ≡ true → (r : Bool) → r ≡ sameName (take (e .owner) (slotOf store i)) (take (h .at .span .len) slot) → r ≡ hasBytes store slot h i e
+  unfolding hasBytes
+  bytes-owner k r is = is ∙ sym (simp (bytes-are ∙ k))
 
 module _ (now : ℕ) (store slot : List ℕ) (h : Heard) (i : ℕ) (e : Entry) where
   pub live-not : isAlike now h e ≡ false → false ≡ liveHeard now store slot h i e
@@ -149,23 +171,31 @@ module _ (now : ℕ) (store slot : List ℕ) (h : Heard) (i : ℕ) (e : Entry) w
   unfolding holdsHeard
   holds-not n = sym (simp n)
 
-  -- rdata as the code has read it: in the entry's slot, and in that of the record
-  module _ (own part given : List ℕ) (s : own ≡ slotOf store i) (q : part ≡ take (e .rdata) (drop 256 own)) (g : given ≡ rdataIn slot h) where
-    bytes-are : sameBytes (rdataHeld store i e) (rdataIn slot h) ≡ sameBytes part given
-    bytes-are = ap₂ sameBytes (sym (q ∙ ap (λ (b : List ℕ). take (e .rdata) (drop 256 b)) s)) (sym g)
+  -- what may not hold it does not
+  pub holds-may : mayHold now h e ≡ false → false ≡ holdsHeard now store slot h i e
+  unfolding mayHold
+  holds-may n = go (isAlike now h e) refl (eqb (e .rdata) (h .len)) refl n
+    where
+      go : (a : Bool) → isAlike now h e ≡ a → (b : Bool) → eqb (e .rdata) (h .len) ≡ b → (a && b) ≡ false → false ≡ holdsHeard now store slot h i e
+      go false p b q k = holds-not (sym (live-not p))
+      go true p false q k = holds-length (eqb-false _ _ q)
+      go true p true q k = let z : _≡_ {A = ℕ} 0 1 = cc in absurd (omega arith)
 
-    pub holds-other : sameBytes part given ≡ false → false ≡ holdsHeard now store slot h i e
-    unfolding holdsHeard
-    holds-other k = sym (go (liveHeard now store slot h i e) (eqb (e .rdata) (h .len)) _ (bytes-are ∙ k))
-      where
-        go : (a b c : Bool) → c ≡ false → (a && (b && c)) ≡ false
-        go true true c k = k
-        go true false c k = refl
-        go false b c k = refl
+  -- what may hold it and has its bytes holds it
+  pub holds-bytes : mayHold now h e ≡ true → hasBytes store slot h i e ≡ holdsHeard now store slot h i e
+  unfolding hasBytes holdsHeard liveHeard isOfHeard mayHold isAlike
+  holds-bytes k = go (isLive now e) (eqb (e .rtype) (h .at .rtype)) (eqb (e .owner) (h .at .span .len)) (eqb (e .rdata) (h .len)) (sameBytes (rdataHeld store i e) (rdataIn slot h)) (sameName (ownerHeld store i e) (ownerIn slot h)) k
+    where
+      swap : (a b : Bool) → (a && b) ≡ (b && a)
+      swap true b = sym (and-true b)
+      swap false b = sym (and-false b)
 
-    pub holds-owner : e .rdata ≡ h .len → sameBytes part given ≡ true → (r : Bool) → r ≡ liveHeard now store slot h i e → r ≡ holdsHeard now store slot h i e
-    unfolding holdsHeard
-    holds-owner l k r is = is ∙ sym (simp (eq-eqb _ _ l, bytes-are ∙ k) (and-true (liveHeard now store slot h i e)))
+      go : (a b c d x y : Bool) → ((a && (b && c)) && d) ≡ true → (x && y) ≡ ((a && (b && (c && y))) && (d && x))
+      go true true true true x y q = swap x y
+      go true true true false x y q = let z : _≡_ {A = ℕ} 0 1 = cc in absurd (omega arith)
+      go true true false d x y q = let z : _≡_ {A = ℕ} 0 1 = cc in absurd (omega arith)
+      go true false c d x y q = let z : _≡_ {A = ℕ} 0 1 = cc in absurd (omega arith)
+      go false b c d x y q = let z : _≡_ {A = ℕ} 0 1 = cc in absurd (omega arith)
 
   pub flush-young : now ≤ e .received + 1000 → e ≡ flushedHeard now store slot h i e
   unfolding flushedHeard

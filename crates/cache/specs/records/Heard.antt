@@ -1,18 +1,16 @@
 -- One record of a message against the entries (specification, 'The cache'), as the code finds it: its owner and rdata lie in the slot that it would fill. Of a
 -- record that is whole these are the rules of `entries` on what it shows (proofs/records). Assumes nothing: these are definitions.
 use Prim.Native.Nat.{ℕ}
-use mathlib.Core.Path.{_≡_}
 use mathlib.Core.List.{List}
 use mathlib.Core.Bool.{Bool, true, false, cond, not, _&&_}
 use lib.ListN.{length, take, drop}
 use lib.Dec.{ltb, leb, eqb}
 use Rattle.wire.specs.case_folding.Fold.{sameName}
 use Rattle.wire.specs.rdata.Rdata.{rdataAt, formAt}
-use Rattle.wire.specs.rdata.Answers.{fits, dataOf}
+use Rattle.wire.specs.rdata.Answers.{dataOf}
 use Rattle.wire.specs.expansion.Equal.{sameBytes}
 use Rattle.wire.specs.message.Message.{topBit}
 use Rattle.wire.specs.message.Readable.{wholeRead}
-use Rattle.wire.specs.declared.rdata.Form.{Form}
 use Rattle.wire.specs.declared.message.RecordAt.{RecordAt}
 use Rattle.wire.specs.declared.message.RecordRead.{RecordRead}
 use Rattle.wire.specs.declared.message.RecordRead.the-variants as r
@@ -32,10 +30,6 @@ heardOf p r.Malformed = record { whole = false; at = blankRecord; len = 0; named
 
 unfoldable pub heardAt : List ℕ → ℕ → Heard
 heardAt p at = heardOf p (wholeRead p at)
-
--- rdata as its type asks, of a form that holds a name
-abbrev pub Named : List ℕ → RecordAt → Form → Type 0
-Named p f form = (fits (rdataAt p f) ≡ true) × ((form ≡ formAt p f) × (form .named ≡ true))
 
 -- the rules are for it; rule 1 is, with the top class bit; rules 2 and 3 are, where its rdata fits a slot
 unfoldable pub isTaken : Heard → Bool
@@ -68,6 +62,14 @@ holdsHeard now store slot h i e = liveHeard now store slot h i e && (eqb (e .rda
 -- the entry is live, and agrees in its type and in the length of its owner
 unfoldable pub isAlike : ℕ → Heard → Entry → Bool
 isAlike now h e = isLive now e && (eqb (e .rtype) (h .at .rtype) && eqb (e .owner) (h .at .span .len))
+
+-- its rdata is as long too
+unfoldable pub mayHold : ℕ → Heard → Entry → Bool
+mayHold now h e = isAlike now h e && eqb (e .rdata) (h .len)
+
+-- its bytes are the record's
+unfoldable pub hasBytes : List ℕ → List ℕ → Heard → ℕ → Entry → Bool
+hasBytes store slot h i e = sameBytes (rdataHeld store i e) (rdataIn slot h) && sameName (ownerHeld store i e) (ownerIn slot h)
 
 -- rule 1 on the entry in slot i
 unfoldable pub flushedHeard : ℕ → List ℕ → List ℕ → Heard → ℕ → Entry → Entry
