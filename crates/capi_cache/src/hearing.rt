@@ -1,5 +1,5 @@
 // A record of a message, heard into the bytes of a slot: its owner and its rdata, names expanded, are written where a table's slot has them, so that they are
-// compared with an entry as bytes. Each name is followed once.
+// compared with an entry as bytes. A name is followed once, but for one of more than two runs of labels, and for those of an NSEC, whose form is told first.
 ghost use mathlib.Core.Path.{_≡_};
 ghost use mathlib.Core.Bool.{true};
 ghost use Prim.Native.Nat.{_+_, _≤_};
