@@ -16,7 +16,8 @@ pub struct Opened {
     pub bytes: [u8; 289],
 }
 
-// Whether two lists of bytes are the same. The lengths are compared before any byte is, and bytes one by one from the first eight on that are not the same.
+// Whether two lists of bytes are the same. The lengths are compared before any byte is; those that differ in eight bytes are not the same, and what is left of
+// fewer than eight is compared one by one.
 pub fn same_bytes(a: &[u8], b: &[u8]) -> bool
     ensures { λ r. ⌜ r ≡ sameBytes (now (a .entry)) (now (b .entry)) ⌝ }
 {
