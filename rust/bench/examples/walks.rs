@@ -21,15 +21,6 @@ fn least(mut call: impl FnMut()) -> f64 {
     least
 }
 
-/// A cache whose entries are all live and agree with the records of `chains::knowing` in type and lengths.
-fn full_of_alike(entries: usize) -> Caches {
-    let mut caches = Caches::empty(entries);
-    for number in 0..entries {
-        assert_eq!(caches.proved.take(&chains::alike(number)), (0, 0));
-    }
-    caches
-}
-
 fn main() {
     println!("| bytes | message | read | receive: query | receive: response | take |");
     println!("|---|---|--:|--:|--:|--:|");
@@ -58,7 +49,7 @@ fn main() {
         for entries in [64, 512] {
             let mut response = chains::knowing(size);
             response[2] |= RESPONSE;
-            let mut caches = full_of_alike(entries);
+            let mut caches = Caches::full_of_alike(entries);
             let taken = least(|| {
                 caches.proved.take(&response);
             });

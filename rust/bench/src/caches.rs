@@ -2,6 +2,7 @@
 
 use kurgashel::{Cache, PORT};
 
+use crate::chains;
 use crate::ordinary_cache::OrdinaryCache;
 use crate::ordinary_table::OrdinaryTable;
 use crate::packets;
@@ -77,6 +78,15 @@ impl Caches {
         assert_eq!(caches.take(message), (0, 0), "all have room");
         let another = packets::host_address(entries as u16);
         assert_eq!(caches.take(&another), (1, 0), "and fill it");
+        caches
+    }
+
+    /// Caches of which the proved one's entries are all live and agree with the records of `chains::knowing` in type and lengths.
+    pub fn full_of_alike(entries: usize) -> Caches {
+        let mut caches = Caches::empty(entries);
+        for number in 0..entries {
+            assert_eq!(caches.proved.take(&chains::alike(number)), (0, 0));
+        }
         caches
     }
 

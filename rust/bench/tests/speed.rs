@@ -6,7 +6,11 @@ use std::sync::{Mutex, PoisonError};
 
 use bench::caches::Caches;
 use bench::packets::{self, MOST_MESSAGE};
-use bench::{captured, peers, timing};
+use bench::responders::{self, Calls};
+use bench::{captured, chains, peers, timing};
+
+/// The QR bit, in the third byte of a message.
+const RESPONSE: u8 = 0x80;
 
 /// Only one of these tests is timed at once.
 static ALONE: Mutex<()> = Mutex::new(());
@@ -73,4 +77,40 @@ fn taking_grows_with_the_table() {
         || _ = black_box(many.proved.take(&message)),
     );
     assert!(b <= 24.0 * a, "{a:.0} ns among 64, {b:.0} ns among 512");
+}
+
+/// A record's names are followed once and not for each entry, however long the way to them: with eight times the entries of its type and lengths, taking records
+/// behind chains takes at most four times as long.
+#[test]
+fn chains_are_not_followed_for_each_entry() {
+    let _alone = ALONE.lock().unwrap_or_else(PoisonError::into_inner);
+    let mut response = chains::knowing(MOST_MESSAGE);
+    response[2] |= RESPONSE;
+    let (mut few, mut many) = (Caches::full_of_alike(64), Caches::full_of_alike(512));
+    let [a, b] = timing::least(
+        || _ = black_box(few.proved.take(&response)),
+        || _ = black_box(many.proved.take(&response)),
+    );
+    assert!(b <= 4.0 * a, "{a:.0} ns among 64, {b:.0} ns among 512");
+}
+
+/// Where the chains of a long message end is noted before it is walked: receiving one takes at most 200 times as long as reading it. Rdata under an own name is
+/// compared without notes, and left out here.
+#[test]
+fn chains_are_noted_for_a_responder() {
+    let _alone = ALONE.lock().unwrap_or_else(PoisonError::into_inner);
+    for (name, query) in chains::all(MOST_MESSAGE) {
+        if name.ends_with("under an own name") {
+            continue;
+        }
+        let mut responder = responders::proved("booth");
+        let [read, receive] = timing::least(
+            || _ = black_box(bench::refusal(black_box(&query))),
+            || _ = black_box(responder.receive(1000, black_box(&query))),
+        );
+        assert!(
+            receive <= 200.0 * read,
+            "{name}: {read:.0} ns to read, {receive:.0} ns to receive"
+        );
+    }
 }
