@@ -1,4 +1,4 @@
--- `capi_cache::past_others` meets its contract: a walk of its MIR, by hand. The table is lent as `&`, and the loop is left by a `return`. At i the search from i on gives what the whole one does (`Seeking` of the crate `cache`). The variant is n - i. Assumes nothing.
+-- `capi_cache::past_others` meets its contract: a walk of its MIR, by hand. The table is lent as `&`, and the loop is left by a `return`. At i the entries before it were passed over (`Passed`). The variant is n - i. Assumes nothing.
 use mathlib.Core.Path.{_≡_, refl, sym, ap, subst, _∙_}
 use mathlib.Core.Bool.{Bool, true, false}
 use Prim.Native.Nat.{ℕ, _+_, _-_, _<_, _≤_, _^_}
