@@ -8,7 +8,7 @@ use crate::Browser;
 use cache::entries::Entry;
 
 // A known answer: its slot, the bytes of its target, and the TTL that is shown.
-#[derive(Drop)]
+#[derive(Clone, Copy)]
 pub struct Known {
     pub slot: usize,
     pub len: u32,
@@ -19,7 +19,7 @@ pub struct Known {
 pub const MOST_KNOWN: usize = 121;
 
 // The first known answers from a slot on: the first `n`.
-#[derive(Drop)]
+#[derive(Clone, Copy)]
 pub struct Plan {
     pub known: [Known; 121],
     pub n: usize,

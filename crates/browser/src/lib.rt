@@ -1,5 +1,7 @@
 // A continuous querier for one service name (RFC 6762, 5.2, 7.1, 7.2): start, tick on the lent cache, and the list of what is there. A browser is a state by
 // value that keeps what happened and no far deadline; receiving is the cache's.
+#![tactic(auto)]
+
 pub mod known_answers;
 pub mod list;
 pub mod query;
@@ -19,7 +21,7 @@ use own::records::Service;
 // A browser: the service label, the protocol and the domain as in a set-up; the two start draws; when the last query of the series was sent, or, before the
 // first, the start, and how many of the series were sent, counted up to 13; when the last query of either kind was sent; the slot from which on a truncated
 // query still owes known answers; and the time of the last call. Times are in milliseconds.
-#[derive(Drop)]
+#[derive(Clone, Copy)]
 pub struct Browser {
     pub service: Service,
     pub protocol: [u8; 4],
@@ -34,21 +36,21 @@ pub struct Browser {
 }
 
 // What a call answers: the number of its refusal, that it sends nothing, or the length of the packet that it wrote.
-#[derive(Drop)]
+#[derive(Clone, Copy)]
 pub enum Answer {
     Refused(u8),
     Quiet,
     Sent(usize),
 }
 
-#[derive(Drop)]
+#[derive(Clone, Copy)]
 pub struct Started {
     pub answer: Answer,
     pub browser: Browser,
 }
 
 // A tick also says whether more is due at that time.
-#[derive(Drop)]
+#[derive(Clone, Copy)]
 pub struct Ticked {
     pub answer: Answer,
     pub more: bool,
@@ -56,7 +58,7 @@ pub struct Ticked {
 }
 
 // When the next step is due; or the number of a refusal, and 0.
-#[derive(Drop)]
+#[derive(Clone, Copy)]
 pub struct NextDue {
     pub refusal: u8,
     pub at: u64,

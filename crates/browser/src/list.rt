@@ -7,7 +7,7 @@ use crate::Browser;
 use cache::entries::{Entry, Slot};
 
 // The number of a refusal, or 0; and the lowest listed slot, if there is one.
-#[derive(Drop)]
+#[derive(Clone, Copy)]
 pub struct Listed {
     pub refusal: u8,
     pub slot: Slot,

@@ -15,7 +15,7 @@ use writer::{Placed, Spot};
 pub const MOST_PACKET: usize = 1452;
 
 // What is composed: where it ends, and how many known answers are in it.
-#[derive(Drop)]
+#[derive(Clone, Copy)]
 pub struct Draft {
     pub end: usize,
     pub answers: usize,
@@ -62,7 +62,7 @@ fn open(b: Browser, asks: bool, out: &mut [u8], places: &mut [usize]) -> Spot
 }
 
 // A packet under construction after a known answer: where it ends, and whether the answer was put.
-#[derive(Drop)]
+#[derive(Clone, Copy)]
 struct Step {
     spot: Spot,
     put: bool,

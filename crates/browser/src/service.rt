@@ -9,7 +9,7 @@ use crate::Browser;
 use own::records::{MOST_SERVICE, Service};
 
 // A service name: the first `len` of the bytes, zeros after them. The longest has a service label of 16 bytes.
-#[derive(Drop)]
+#[derive(Clone, Copy)]
 pub struct ServiceName {
     pub bytes: [u8; 29],
     pub len: usize,

@@ -7,7 +7,7 @@ ghost use Rattle.cache.specs.entries.Entries.{is_live, slot_of, is_of, live_of, 
 // "type, lengths, received, expiry", and "the TTL as received"; the times are in milliseconds, the TTL in seconds. The length of rdata has four bytes and the
 // TTL eight, so that the entry has no padding and its values are all its bytes. No rule reads the TTL: any number may stand in a table that is lent.
 #[repr(C)]
-#[derive(Drop)]
+#[derive(Clone, Copy)]
 pub struct Entry {
     pub rtype: u16,
     pub owner: u16,
@@ -18,7 +18,7 @@ pub struct Entry {
 }
 
 // A slot of the table, or that there is none.
-#[derive(Drop)]
+#[derive(Clone, Copy)]
 pub enum Slot {
     At(usize),
     Nowhere,

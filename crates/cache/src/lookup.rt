@@ -12,7 +12,7 @@ pub const MOST_ENTRIES: usize = 512;
 pub const SLOT: usize = 1024;
 
 // What a lookup found: a slot, and of the name how many labels it has and how long the first is; the same holds of the owner in the slot.
-#[derive(Drop)]
+#[derive(Clone, Copy)]
 pub struct Met {
     pub slot: usize,
     pub labels: usize,
@@ -20,7 +20,7 @@ pub struct Met {
 }
 
 // What a lookup answers. A refusal carries the specification's number.
-#[derive(Drop)]
+#[derive(Clone, Copy)]
 pub enum Looked {
     Refused(u8),
     Found(Met),

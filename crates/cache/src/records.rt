@@ -11,7 +11,7 @@ use crate::entries::Entry;
 
 // A record of a message as it lies; whether it is whole, how many bytes its rdata has, names expanded, and whether it holds a name, which of an NSEC says
 // that it is of the restricted kind.
-#[derive(Drop)]
+#[derive(Clone, Copy)]
 pub struct Heard {
     pub whole: bool,
     pub at: wire::message::RecordAt,
@@ -20,7 +20,7 @@ pub struct Heard {
 }
 
 // What becomes of a record: a kind of change, and the slot that it changes.
-#[derive(Drop)]
+#[derive(Clone, Copy)]
 pub struct Choice {
     pub kind: u8,
     pub slot: usize,

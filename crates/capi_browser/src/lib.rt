@@ -1,5 +1,7 @@
 // The browser for C and Rust: start, tick, the list and the next due time, on a state by value and a lent cache, with the answers in numbers.
 // c/include/kurgashel.h declares these functions.
+#![tactic(auto)]
+
 ghost use Rattle.std.specs.Prelude.{◌≡◌, ℕ, List, length};
 ghost use Rattle.cache.specs.declared.entries.Entry.{Entry};
 ghost use Rattle.writer.specs.own_packets.Own.{laid_over};
@@ -15,7 +17,7 @@ use own::records::Service;
 // A browser's state in numbers: its labels, the length of the service label, and what `browser::Browser` keeps; `owed` is 0 for nothing, and else the slot
 // from which on known answers are owed, plus 1.
 #[repr(C)]
-#[derive(Drop)]
+#[derive(Clone, Copy)]
 pub struct BrowserNumbers {
     pub service: [u8; 16],
     pub protocol: [u8; 4],
@@ -32,7 +34,7 @@ pub struct BrowserNumbers {
 
 // What a start answers: the specification's refusal number, or 0, and the browser.
 #[repr(C)]
-#[derive(Drop)]
+#[derive(Clone, Copy)]
 pub struct StartedNumbers {
     pub refusal: u8,
     pub browser: BrowserNumbers,
@@ -40,7 +42,7 @@ pub struct StartedNumbers {
 
 // What a tick answers: a refusal or 0; whether more is due; the length of the packet that goes to all, or 0; and the browser then.
 #[repr(C)]
-#[derive(Drop)]
+#[derive(Clone, Copy)]
 pub struct TickedNumbers {
     pub refusal: u8,
     pub more: bool,
@@ -50,7 +52,7 @@ pub struct TickedNumbers {
 
 // A refusal or 0; whether a slot is listed, and which.
 #[repr(C)]
-#[derive(Drop)]
+#[derive(Clone, Copy)]
 pub struct ListedNumbers {
     pub refusal: u8,
     pub found: bool,
@@ -59,7 +61,7 @@ pub struct ListedNumbers {
 
 // A refusal or 0; and when the next step is due.
 #[repr(C)]
-#[derive(Drop)]
+#[derive(Clone, Copy)]
 pub struct DueNumbers {
     pub refusal: u8,
     pub time: u64,

@@ -1,5 +1,7 @@
 // The cache on a lent table (specification, 'The cache'): entries as a lent slice of structs of any length, worked on in place. Thin functions read and
 // replace one entry; the rules on an entry by value are those of the crate `cache`.
+#![tactic(auto)]
+
 pub mod hearing;
 
 ghost use Rattle.std.specs.Prelude.{◌≡◌, not, ℕ, ◌+◌, ◌*◌, ◌<◌, ◌≤◌, ◌^◌, List, leb, length, set, get_or, replicate};
@@ -23,7 +25,7 @@ use wire::message::Section;
 
 // What taking a message answers in numbers, for callers in other languages.
 #[repr(C)]
-#[derive(Drop)]
+#[derive(Clone, Copy)]
 pub struct TakenNumbers {
     pub refusal: u8,
     pub turned: u32,
@@ -33,7 +35,7 @@ pub struct TakenNumbers {
 // What a lookup answers in numbers; with a slot that was found come those of the name, and of the owner there: how many labels it has, and how long the
 // first is.
 #[repr(C)]
-#[derive(Drop)]
+#[derive(Clone, Copy)]
 pub struct LookedNumbers {
     pub refusal: u8,
     pub found: bool,
@@ -91,7 +93,7 @@ fn put_entry(table: &mut [Entry], i: usize, e: Entry)
 }
 
 // The latest time of receipt and the greatest lengths of some entries. No entry is tested by a branch of its own.
-#[derive(Drop)]
+#[derive(Clone, Copy)]
 struct Most {
     received: u64,
     rdata: u32,
@@ -482,7 +484,7 @@ fn keep(store: &mut [u8], slot: &[u8], h: Heard, c: Choice)
 }
 
 // What is left of a message's sections, and the counts so far; or the number of a refusal, and nothing is left.
-#[derive(Drop)]
+#[derive(Clone, Copy)]
 struct Cursor {
     answers: Section,
     additionals: Section,

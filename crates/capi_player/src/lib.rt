@@ -1,5 +1,7 @@
 // The player for C and Rust: the event at an offset of a trace, played to a responder whose state the caller lends as bytes (`capi_responder::codec`), with
 // what it came to in numbers. c/include/kurgashel.h declares the function.
+#![tactic(auto)]
+
 ghost use Rattle.std.specs.Prelude.{◌≡◌};
 ghost use Rattle.capi_player.specs.Laid.{data_laid, Lays};
 ghost use Rattle.capi_player.specs.Played.{is_taken, no_state, turn_numbers, Plays};
@@ -13,7 +15,7 @@ use responder::State;
 // the refusal number of that call, or 0; whether the responder agrees with what was recorded; the offset behind the event, or that of the refusal; and of the
 // claim the last time, its number and its state.
 #[repr(C)]
-#[derive(Drop)]
+#[derive(Clone, Copy)]
 pub struct PlayedTurn {
     pub refusal: u8,
     pub turn: u8,

@@ -1,5 +1,7 @@
 // The proxy for C and Rust, on byte slices, with the answers in numbers. A crate of its own, so that a program that is no proxy links nothing of it.
 // c/include/kurgashel.h declares the functions. The two domains are lent at every call: nothing is kept.
+#![tactic(auto)]
+
 ghost use Rattle.std.specs.Prelude.{◌≡◌};
 ghost use Rattle.wire.specs.message.Message.{record_of, ttl_of};
 ghost use Rattle.wire.specs.message.Layout.{record_at};
@@ -16,7 +18,7 @@ use proxy::records::{Fields, Passed, Passing};
 // What becomes of a question: the specification's refusal number, or 0; whether it is answered negatively at once; and where it is asked on the link the
 // length of its name there and the bytes, zeros after them.
 #[repr(C)]
-#[derive(Drop)]
+#[derive(Clone, Copy)]
 pub struct QuestionNumbers {
     pub refusal: u8,
     pub negative: bool,
@@ -27,7 +29,7 @@ pub struct QuestionNumbers {
 // What becomes of a record: the specification's refusal number, or 0; whether it is passed on, or left out; its type, class and TTL, the lengths of its owner
 // and of its rdata; whether the rdata holds a name, and then stands here, or is passed on as it lies; and the bytes, zeros after them.
 #[repr(C)]
-#[derive(Drop)]
+#[derive(Clone, Copy)]
 pub struct RecordNumbers {
     pub refusal: u8,
     pub passed: bool,

@@ -1,6 +1,8 @@
 // The packet reader for C and Rust. It stands on the reader alone, so that a device that only reads links nothing else. A message is read once,
 // then walked (crate `capi_reader_walk`); `capi_reader_refusal` answers a message's refusal alone. The source port is not known here: the caller tests it.
 // c/include/kurgashel.h declares these functions.
+#![tactic(auto)]
+
 ghost use Rattle.std.specs.Prelude.{◌≡◌, length};
 ghost use Rattle.wire.specs.message.Layout.{message_at, read_of};
 ghost use Rattle.wire.specs.names.Names.{name_at};
@@ -10,7 +12,7 @@ ghost use Rattle.capi_reader.specs.Reader.{end_of, length_of, name_of, span_with
 // A name: its uncompressed length, 0 where it is malformed, how many labels it has and how long the first is, 0 and 0 of the root, and its bytes, with zeros
 // behind them.
 #[repr(C)]
-#[derive(Drop)]
+#[derive(Clone, Copy)]
 pub struct Name {
     pub length: usize,
     pub labels: usize,
@@ -21,7 +23,7 @@ pub struct Name {
 // A name that was written into a buffer: where it ends in the message, its uncompressed length, how many labels it has and how long the first is. All are 0
 // where it is malformed or longer than the buffer.
 #[repr(C)]
-#[derive(Drop)]
+#[derive(Clone, Copy)]
 pub struct NameSpan {
     pub end: usize,
     pub length: usize,
@@ -31,7 +33,7 @@ pub struct NameSpan {
 
 // Where the parts of a message lie: the refusal, and where it is 0 the ID, the flags, each section's offset and count, and the offset past the last record.
 #[repr(C)]
-#[derive(Drop)]
+#[derive(Clone, Copy)]
 pub struct Sections {
     pub refusal: u8,
     pub id: u16,

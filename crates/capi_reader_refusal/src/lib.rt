@@ -1,5 +1,7 @@
 // The refusal of a message, for C and Rust, where the places of its parts are not asked for. It stands alone, so that the compiler puts the reading of a
 // message into it and keeps no place: a short message is then read in half the time. c/include/kurgashel.h declares it.
+#![tactic(auto)]
+
 ghost use Rattle.std.specs.Prelude.{◌≡◌};
 ghost use Rattle.wire.specs.message.Layout.{message_at, read_of, refusal_of};
 

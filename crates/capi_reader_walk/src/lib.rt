@@ -1,6 +1,8 @@
 // A message that was read (crate `capi_reader`) is walked, from C and Rust: each section from its offset on, by as many questions or records as it has; and
 // the rdata of a record is read, as the part of the message where it lies. These functions are apart from the reading of a whole message, so that the compiler
 // puts the reading of a record into its loop: a short message is then read in half the time. c/include/kurgashel.h declares them.
+#![tactic(auto)]
+
 ghost use Rattle.std.specs.Prelude.{◌≡◌};
 ghost use Rattle.wire.specs.message.Layout.{question_read, record_read};
 ghost use Rattle.wire.specs.nsec.Nsec.{names};
@@ -11,7 +13,7 @@ ghost use Rattle.capi_reader_walk.specs.Parts.{address_of, address_at, srv_of, s
 // A question: whether one is there, where its name starts, how long that is uncompressed, how many labels it has and how long the first is; its type and
 // class, and the offset past it.
 #[repr(C)]
-#[derive(Drop)]
+#[derive(Clone, Copy)]
 pub struct Question {
     pub found: bool,
     pub rtype: u16,
@@ -26,7 +28,7 @@ pub struct Question {
 // A record: whether one is there, where its owner starts, how long that is uncompressed, how many labels it has and how long the first is; its type, class
 // and TTL, where its rdata starts and how long it is, and the offset past it.
 #[repr(C)]
-#[derive(Drop)]
+#[derive(Clone, Copy)]
 pub struct Record {
     pub found: bool,
     pub rtype: u16,
@@ -43,7 +45,7 @@ pub struct Record {
 
 // A record without its owner: whether one is there, its type, class and TTL, where its rdata starts and how long it is, and the offset past it.
 #[repr(C)]
-#[derive(Drop)]
+#[derive(Clone, Copy)]
 pub struct Fields {
     pub found: bool,
     pub rtype: u16,
@@ -56,7 +58,7 @@ pub struct Fields {
 
 // The address of an A or AAAA record: 4 or 16 bytes, 0 where there is none, and zeros behind them.
 #[repr(C)]
-#[derive(Drop)]
+#[derive(Clone, Copy)]
 pub struct Address {
     pub length: usize,
     pub bytes: [u8; 16],
@@ -65,7 +67,7 @@ pub struct Address {
 // An SRV: whether one is there, its priority, weight and port, and where its target starts, how long that is uncompressed, how many labels it has and how
 // long the first is.
 #[repr(C)]
-#[derive(Drop)]
+#[derive(Clone, Copy)]
 pub struct Srv {
     pub found: bool,
     pub priority: u16,
@@ -80,7 +82,7 @@ pub struct Srv {
 // An NSEC of the restricted kind: whether one is there; where its next name starts, how long that is uncompressed, how many labels it has and how long the
 // first is; and where its window block starts and how long it is.
 #[repr(C)]
-#[derive(Drop)]
+#[derive(Clone, Copy)]
 pub struct Nsec {
     pub found: bool,
     pub next: usize,
@@ -93,7 +95,7 @@ pub struct Nsec {
 
 // A string of a TXT: the refusal, whether one is there, where its text starts and how long that is, and where the next string starts.
 #[repr(C)]
-#[derive(Drop)]
+#[derive(Clone, Copy)]
 pub struct Text {
     pub refusal: u8,
     pub found: bool,

@@ -1,5 +1,7 @@
 // The responder for C and Rust: start, packet received and tick on a state that the caller lends as bytes (modules `layout` and `codec`), with the answer
 // in numbers. What a state says is in `state`. c/include/kurgashel.h declares these functions.
+#![tactic(auto)]
+
 pub mod changes;
 pub mod codec;
 pub mod encoder;
@@ -21,7 +23,7 @@ use responder::Answer;
 // A call's answer: the specification's refusal number, or 0; whether more is due, after a tick; the length of the packet that goes to all, or 0; and the
 // length of the one that goes to where the message came from that it answers, or 0.
 #[repr(C)]
-#[derive(Drop)]
+#[derive(Clone, Copy)]
 pub struct Called {
     pub refusal: u8,
     pub more: bool,

@@ -7,7 +7,7 @@ use claims::When;
 
 // Whether a step is due at all, and when.
 #[repr(C)]
-#[derive(Drop)]
+#[derive(Clone, Copy)]
 pub struct NextStep {
     pub due: bool,
     pub time: u64,

@@ -1,5 +1,7 @@
 // Traces for C and Rust, on byte slices, with answers in numbers: reading a trace event by event, testing it as a whole, and writing it event by event.
 // c/include/kurgashel.h declares the functions.
+#![tactic(auto)]
+
 ghost use Rattle.std.specs.Prelude.{◌≡◌, length};
 ghost use Rattle.std.proofs.lemmas.List.Edits.{sets};
 ghost use Rattle.trace.specs.reading.Reading.{step_at};
@@ -13,7 +15,7 @@ use trace::writing::Written;
 // An event of a trace: 12 or 0; the kind of its record, 0 at the trace's end or where it is refused; the offset behind it, or that of the refusal; the time; of
 // a packet the halves of its source address, its port and draws; of an update the port; the claim and its state; and how many bytes it brings.
 #[repr(C)]
-#[derive(Drop)]
+#[derive(Clone, Copy)]
 pub struct TraceEvent {
     pub refusal: u8,
     pub kind: u8,
@@ -31,14 +33,14 @@ pub struct TraceEvent {
 
 // Whether a trace is read, or an event is written: the specification's refusal number, or 0; and the offset of the refusal, or that behind the event.
 #[repr(C)]
-#[derive(Drop)]
+#[derive(Clone, Copy)]
 pub struct TraceAnswer {
     pub refusal: u8,
     pub at: usize,
 }
 
 // An event by its numbers, or a kind that there is not.
-#[derive(Drop)]
+#[derive(Clone, Copy)]
 pub enum Told {
     Event(Event),
     Unknown,

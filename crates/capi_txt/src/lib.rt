@@ -1,5 +1,7 @@
 // The TXT lookup for C and Rust, on byte slices, with the answer in numbers. A crate of its own, so that a program that only looks TXT pairs up links
 // nothing else. c/include/kurgashel.h declares the function.
+#![tactic(auto)]
+
 ghost use Rattle.std.specs.Prelude.{◌≡◌};
 ghost use Rattle.txt.specs.Lookup.{lookup_of};
 ghost use Rattle.capi_txt.specs.Numbers.{buffer_number, pair_of};
@@ -9,7 +11,7 @@ use txt::{Answer, Buffer};
 // What a key says: the specification's refusal number, or 0; 0 absent, 1 present without value, 2 empty value, 3 the value itself; and the part shown, by its
 // buffer (0 received, 1 factory), its place there and its length: the empty part at the received TXT's start where no value is shown.
 #[repr(C)]
-#[derive(Drop)]
+#[derive(Clone, Copy)]
 pub struct Pair {
     pub refusal: u8,
     pub answer: u8,

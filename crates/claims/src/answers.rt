@@ -19,7 +19,7 @@ const DEFENCE_GAP: u64 = 250;
 const QUARTER_OF_A_SECOND: u64 = 250;
 
 // What a message says to one claim: it is a probe for its name, that probe's records are later than its own, it has a record that conflicts.
-#[derive(Drop)]
+#[derive(Clone, Copy)]
 pub struct Heard {
     pub probe: bool,
     pub later: bool,
@@ -29,7 +29,7 @@ pub struct Heard {
 // What a message says to the responder: it is a response; more known answers follow it (the TC bit); a question asks for the record, and one without the
 // unicast bit does (a QM question); an Answer record is the record, with at least half its TTL; and what it says to each claim. Of a query the conflicts do not
 // count, and of a response only they do.
-#[derive(Drop)]
+#[derive(Clone, Copy)]
 pub struct Facts {
     pub response: bool,
     pub truncated: bool,
@@ -41,7 +41,7 @@ pub struct Facts {
 }
 
 // What comes with a packet: when and whence it came, and the draws for a PTR reply and for a hold.
-#[derive(Drop)]
+#[derive(Clone, Copy)]
 pub struct Coming {
     pub now: u64,
     pub from: Address,
@@ -50,7 +50,7 @@ pub struct Coming {
 }
 
 // What a query asks for and knows, and how long ago a record of each claim has to have been multicast.
-#[derive(Drop)]
+#[derive(Clone, Copy)]
 pub struct Asks {
     pub asked: Set,
     pub known: Set,
@@ -59,7 +59,7 @@ pub struct Asks {
 }
 
 // A packet received: the progress after it, and the records that go out at once, to all and to its sender alone.
-#[derive(Drop)]
+#[derive(Clone, Copy)]
 pub struct Received {
     pub progress: Progress,
     pub answers: Set,

@@ -13,21 +13,21 @@ use crate::{ClaimState, Progress, When};
 pub const UPDATE_GAP: u64 = 6000;
 
 // What an update changes: the port of SRV, or TXT.
-#[derive(Drop)]
+#[derive(Clone, Copy)]
 pub enum Change {
     Port,
     Txt,
 }
 
 // A stop: the progress after it, and the records that go out with TTL 0.
-#[derive(Drop)]
+#[derive(Clone, Copy)]
 pub struct Stopped {
     pub progress: Progress,
     pub goodbye: Set,
 }
 
 // An update: the progress after it, and the record that is announced, if any.
-#[derive(Drop)]
+#[derive(Clone, Copy)]
 pub struct Updated {
     pub progress: Progress,
     pub announced: Set,

@@ -8,7 +8,7 @@ use crate::When;
 use crate::records::{RECORDS, Set};
 
 // An address of 16 bytes, as two numbers, the first eight bytes in `high`; an IPv4 address is ::ffff:a.b.c.d.
-#[derive(Drop)]
+#[derive(Clone, Copy)]
 pub struct Address {
     pub high: u64,
     pub low: u64,
@@ -16,7 +16,7 @@ pub struct Address {
 
 // A held query: whom it came from, when it is answered, and of each own record whether it is asked for and whether the asker knows it. One that is never due
 // is none: its place is free.
-#[derive(Drop)]
+#[derive(Clone, Copy)]
 pub struct Hold {
     pub from: Address,
     pub due: When,
@@ -25,7 +25,7 @@ pub struct Hold {
 }
 
 // The places of held queries; of two that are taken, the query of the lower came first.
-#[derive(Drop)]
+#[derive(Clone, Copy)]
 pub enum Place {
     First,
     Second,
@@ -34,7 +34,7 @@ pub enum Place {
 }
 
 // The held queries, by their places.
-#[derive(Drop)]
+#[derive(Clone, Copy)]
 pub struct Holds {
     pub first: Hold,
     pub second: Hold,

@@ -1,6 +1,8 @@
 // The life of the two claims on numbers alone (specification, 'A claim's life'): start, and the claim after a conflict or a probe. The claims and the own
 // records are in `records`, a tick in `steps`, what a message received does in `answers`, a stop and an update in `changes`, and the refusals that are tests on
 // times and draws in `refusal_tests`.
+#![tactic(auto)]
+
 pub mod answers;
 pub mod changes;
 pub mod due;
@@ -23,7 +25,7 @@ const END_OF_TIME: u64 = 18446744073709551615;
 pub const MULTICAST_GAP: u64 = 1000;
 
 // Never, or at a time.
-#[derive(Drop)]
+#[derive(Clone, Copy)]
 pub enum When {
     Never,
     At(u64),
@@ -31,7 +33,7 @@ pub enum When {
 
 // The state of a claim, each case with the time at which its next step is due: `Probing1` has sent one probe, `Announced` holds the name and has its second
 // announcement to come.
-#[derive(Drop)]
+#[derive(Clone, Copy)]
 pub enum ClaimState {
     Waiting(u64),
     Probing1(u64),
@@ -44,20 +46,20 @@ pub enum ClaimState {
 }
 
 // When a record was last multicast.
-#[derive(Drop)]
+#[derive(Clone, Copy)]
 pub struct Multicast {
     pub last: When,
 }
 
 // The last multicast of each own record, by its index.
-#[derive(Drop)]
+#[derive(Clone, Copy)]
 pub struct Multicasts {
     pub of: [Multicast; RECORDS],
 }
 
 // All that changes in a responder but for its data: the states of its claims, the last multicasts, when the PTR reply that a query asked for is due, the held
 // queries, the time of the last update, the start draw, and the time of the last call.
-#[derive(Drop)]
+#[derive(Clone, Copy)]
 pub struct Progress {
     pub instance: ClaimState,
     pub host: ClaimState,

@@ -6,14 +6,14 @@ ghost use Rattle.claims.specs.records.Own.{first_of, second_of, has, each};
 ghost use Rattle.claims.specs.records.Sets.{no_record, only, any_of, at_once, with_data, records_of};
 
 // The two claims: to the instance's name and to the host's.
-#[derive(Drop)]
+#[derive(Clone, Copy)]
 pub enum Claim {
     Instance,
     Host,
 }
 
 // The own records, in the specification's order; the last two say which types the names of the claims have (NSEC, RFC 6762, section 6.1).
-#[derive(Drop)]
+#[derive(Clone, Copy)]
 pub enum Own {
     Ptr,
     Srv,
@@ -38,7 +38,7 @@ const SHARED: u16 = 1;
 const UNIQUE: u16 = 0x8001;
 
 // A set of own records: whether it has each of them.
-#[derive(Drop)]
+#[derive(Clone, Copy)]
 pub struct Set {
     pub ptr: bool,
     pub srv: bool,

@@ -16,7 +16,7 @@ const PROBE_GAP: u64 = 250;
 pub const ANNOUNCEMENT_GAP: u64 = 1000;
 
 // The steps of a tick: of each claim, of the PTR reply, and of each held query.
-#[derive(Drop)]
+#[derive(Clone, Copy)]
 pub enum Step {
     OfClaim(Claim),
     PtrReply,
@@ -27,7 +27,7 @@ pub enum Step {
 pub const STEPS: usize = 7;
 
 // What a call sends: at most one packet.
-#[derive(Drop)]
+#[derive(Clone, Copy)]
 pub enum Output {
     Nothing,
     Probe(Claim),
@@ -35,7 +35,7 @@ pub enum Output {
 }
 
 // What a claim's step does, with the claim after it: nothing, a probe, the first announcement, the second.
-#[derive(Drop)]
+#[derive(Clone, Copy)]
 pub enum Action {
     Idle,
     Probe(ClaimState),
@@ -44,14 +44,14 @@ pub enum Action {
 }
 
 // A step taken: the progress after it, and what it sends.
-#[derive(Drop)]
+#[derive(Clone, Copy)]
 pub struct Turn {
     pub progress: Progress,
     pub output: Output,
 }
 
 // A tick: the progress after it, what it sends, and whether more is due.
-#[derive(Drop)]
+#[derive(Clone, Copy)]
 pub struct Ticked {
     pub progress: Progress,
     pub output: Output,

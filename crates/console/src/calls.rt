@@ -9,7 +9,7 @@ use responder::State;
 
 // What the console holds between calls, beside the out buffers and the cache's byte store: a responder, the table of the cache with its sizes, a browser, and
 // the domains of the proxy.
-#[derive(Drop)]
+#[derive(Clone, Copy)]
 pub struct Held {
     state: State,
     table: Table,

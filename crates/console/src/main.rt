@@ -1,5 +1,7 @@
 // The console: one line a call, one line an answer. This file reads the lines of standard input; `calls` has each answered at once.
 // A thin layer over the libraries: no rule of the specification is here.
+#![tactic(auto)]
+
 mod calls;
 
 ghost use Rattle.std.specs.Prelude.{◌≡◌, ◌+◌, ◌≤◌, length};

@@ -1,5 +1,7 @@
 // The console's calls on the browser: `browse`, `ask` and `list`. The browser goes by value in numbers, the table of the cache by value and its store lent,
 // and the out buffer is lent. What the browser and the out buffer are after a line is promised; what is written no contract can say.
+#![tactic(auto)]
+
 mod asking;
 mod browsing;
 mod lending;

@@ -1,5 +1,7 @@
 // The console's calls on the proxy: `proxy`, `question`, `answer` and `cached`. The two domains go by value: what they are after a line is promised. What is
 // written no contract can say.
+#![tactic(auto)]
+
 mod mapping;
 mod setup;
 
@@ -9,14 +11,14 @@ ghost use Rattle.console_proxy.specs.Lines.{is_proxy_call, no_domains, domains_a
 use console_table::Table;
 
 // A domain: its length, and its bytes, zeros after them.
-#[derive(Drop)]
+#[derive(Clone, Copy)]
 pub struct Domain {
     pub len: usize,
     pub bytes: [u8; 255],
 }
 
 // The two domains of the proxy: that of rich text, and that of letters, digits and hyphens.
-#[derive(Drop)]
+#[derive(Clone, Copy)]
 pub struct Domains {
     pub rich: Domain,
     pub ldh: Domain,

@@ -1,6 +1,8 @@
 // The console's calls on the responder: `start`, `recv`, `tick`, `stop`, `update`, `claims`, `holds`, `out` and `unicast`. The responder's state goes by
 // value, the out buffers are lent: one for what goes to all, one for what goes to the asker. What they are after a line is promised; what is written no
 // contract can say.
+#![tactic(auto)]
+
 mod changing;
 pub mod sending;
 pub mod setup;

@@ -1,5 +1,7 @@
 // The table of the console's cache: 513 entries by value, one more than the cache takes. The first of them are lent to the exported cache, with the first
 // bytes of a byte store.
+#![tactic(auto)]
+
 ghost use Rattle.std.specs.Prelude.{◌≡◌, ℕ, ◌≤◌, List, take, get_or};
 ghost use Rattle.cache.specs.entries.Entries.{blank};
 ghost use Rattle.cache.specs.entries.Cache.{take_in};
@@ -14,7 +16,7 @@ use capi_cache::{LookedNumbers, TakenNumbers};
 pub const MOST_ENTRIES: usize = 513;
 
 // A table: its first entries, as many as it is said to have, and how many bytes its store has.
-#[derive(Drop)]
+#[derive(Clone, Copy)]
 pub struct Table {
     pub entries: [Entry; 513],
     pub count: usize,
@@ -22,14 +24,14 @@ pub struct Table {
 }
 
 // What taking a message into the first entries answers, and all entries then.
-#[derive(Drop)]
+#[derive(Clone, Copy)]
 pub struct FirstTaken {
     pub numbers: TakenNumbers,
     pub entries: [Entry; 513],
 }
 
 // What taking a message answers, and the table then.
-#[derive(Drop)]
+#[derive(Clone, Copy)]
 pub struct AfterTake {
     pub numbers: TakenNumbers,
     pub table: Table,

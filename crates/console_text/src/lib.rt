@@ -1,4 +1,6 @@
 // The words, numbers and bytes of a line.
+#![tactic(auto)]
+
 pub mod fields;
 pub mod hex;
 pub mod lines;

@@ -5,7 +5,7 @@ ghost use Rattle.console_text.specs.lines.Fields.{fields_of};
 ghost use Rattle.console_text.specs.lines.Numbers.{number_of};
 
 // What a field is as a number.
-#[derive(Drop)]
+#[derive(Clone, Copy)]
 pub enum Decimal {
     Value(u64),
     Malformed,

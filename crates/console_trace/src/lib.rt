@@ -1,5 +1,7 @@
 // The console's calls on traces, which hold nothing: `trace`, the events of a trace, and `record`, the trace of events.
 // What is written no contract can say: the functions that answer are proved safe and ending.
+#![tactic(auto)]
+
 mod recording;
 mod showing;
 mod telling;

@@ -5,7 +5,7 @@ use console_text::fields::{are_bytes, is_number, number};
 use trace::reading::Event;
 
 // An event with the index of the field behind it, and that of the field with the bytes that it brings, 0 where it brings none.
-#[derive(Drop)]
+#[derive(Clone, Copy)]
 pub struct Told {
     pub event: Event,
     pub next: usize,
@@ -13,7 +13,7 @@ pub struct Told {
 }
 
 // What stands in a line from a field on.
-#[derive(Drop)]
+#[derive(Clone, Copy)]
 pub enum Telling {
     Event(Told),
     Malformed,

@@ -1,6 +1,8 @@
 // The functions that demand 3 is about. Each calls the responder's own, or, in `exported`, the exported one, and does nothing else; its contract cites
 // `responder`, the record of the theorem (crates/uniqueness/specs/Responder.antt): what a caller sees of the call is the record's answer. Were a call to
 // promise another definition than the record has, this crate would not be proved.
+#![tactic(auto)]
+
 pub mod changes;
 pub mod exported;
 

@@ -1,6 +1,8 @@
 // Reads a message into facts (specification, 'A claim's life' and 'Which answers go out'): which own records are asked for and which are known, whether it
 // is a probe and whose records are later, and whether it conflicts. A section of any layout is walked as far as it is well formed; of a layout that
 // `wire::message::read_message` gave that is the message that was read.
+#![tactic(auto)]
+
 mod chains;
 pub mod probe;
 pub mod tiebreak;
@@ -28,7 +30,7 @@ use claims::records::{Claim, Own, RECORDS, Set};
 use own::records::Setup;
 
 // The own records that QM questions ask for, and those that QU questions do, which want the answer by unicast.
-#[derive(Drop)]
+#[derive(Clone, Copy)]
 pub struct AskedFor {
     pub qm: Set,
     pub qu: Set,

@@ -14,7 +14,7 @@ ghost use Rattle.facts.specs.tiebreak.Lists.{tie_record, list_in, own_record, ow
 ghost use Rattle.facts.specs.tiebreak.Counts.{count_one, count_met, count_all, none_counted, placed, beyond};
 
 // How one list stands to another. the specification's numbers are -1, 0 and 1.
-#[derive(Drop)]
+#[derive(Clone, Copy)]
 pub enum Verdict {
     Earlier,
     Same,
@@ -22,7 +22,7 @@ pub enum Verdict {
 }
 
 // Of the records of a list: how many there are, how many stand earlier than an own record, and how many equal it.
-#[derive(Drop)]
+#[derive(Clone, Copy)]
 struct Counts {
     all: u16,
     earlier: u16,
@@ -256,7 +256,7 @@ fn against_two(
 }
 
 // The types of a claim's own records, and whether there is a second one.
-#[derive(Drop)]
+#[derive(Clone, Copy)]
 pub struct OwnTypes {
     pub first: u16,
     pub second: u16,

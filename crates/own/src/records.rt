@@ -16,28 +16,28 @@ pub const MOST_SERVICE: usize = 16;
 pub const MOST_TXT: usize = 400;
 
 // An instance or host label: the first `len` of the bytes.
-#[derive(Drop)]
+#[derive(Clone, Copy)]
 pub struct Label {
     pub bytes: [u8; 63],
     pub len: usize,
 }
 
 // A service label, its "_" with it: the first `len` of the bytes.
-#[derive(Drop)]
+#[derive(Clone, Copy)]
 pub struct Service {
     pub bytes: [u8; 16],
     pub len: usize,
 }
 
 // TXT strings: the first `len` of the bytes.
-#[derive(Drop)]
+#[derive(Clone, Copy)]
 pub struct Strings {
     pub bytes: [u8; 400],
     pub len: usize,
 }
 
 // What a responder is set up with: five labels and the data of its records. Bytes past a length, and `aaaa` without `hasaaaa`, say nothing.
-#[derive(Drop)]
+#[derive(Clone, Copy)]
 pub struct Setup {
     pub instance: Label,
     pub service: Service,
@@ -55,7 +55,7 @@ pub struct Setup {
 pub const MOST_OWN: usize = 400;
 
 // An own name or own rdata: the first `len` of the bytes, zeros after them.
-#[derive(Drop)]
+#[derive(Clone, Copy)]
 pub struct OwnBytes {
     pub bytes: [u8; 400],
     pub len: usize,

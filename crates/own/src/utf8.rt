@@ -4,7 +4,7 @@ ghost use Rattle.std.specs.Prelude.{◌≡◌, ◌&&◌, ◌+◌, ◌<◌, ◌�
 ghost use Rattle.own.specs.utf8.Utf8.{owing, within, shown_from, all_plain, is_shown};
 
 // What a character still owes: so many continuation bytes, of which the next lies between the two bounds. Where it owes none, a character starts.
-#[derive(Drop)]
+#[derive(Clone, Copy)]
 pub struct Next {
     pub owed: u8,
     pub low: u8,

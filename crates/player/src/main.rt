@@ -1,6 +1,8 @@
 // The program `player`: a trace, played to a responder. Standard input is one line with the fields of the console's `start` behind that word, and then the
 // bytes of the trace. It prints a line for each record of a claim's state and nothing else; a refusal or `bad line` goes to standard error. A thin layer
 // over the libraries: no rule of the specification is here.
+#![tactic(auto)]
+
 ghost use Rattle.std.specs.Prelude.{◌≤◌, length};
 
 use console_calls::output::{finish, first, word};

@@ -1,5 +1,7 @@
 // A trace, played to a responder: each call that it records is made on, refused ones too, and each claim's state that it records is compared with that of the
 // responder. Every call is made with out buffers of 1,452 bytes; what is sent is not looked at.
+#![tactic(auto)]
+
 ghost use Rattle.std.specs.Prelude.{◌≡◌, true, ◌<◌};
 ghost use Rattle.own.specs.changes.Changes.{new_port, new_txt};
 ghost use Rattle.trace.specs.reading.Events.{data_at, occurrence};
@@ -19,7 +21,7 @@ const ROOM: usize = writer::own_packets::LEAST_OUT;
 
 // What was recorded of a claim: the last time, the claim by its number, 0 for the instance's and 1 for the host's, its state by its number, and whether the
 // responder agrees.
-#[derive(Drop)]
+#[derive(Clone, Copy)]
 pub struct Line {
     pub last: u64,
     pub claim: u64,
@@ -29,7 +31,7 @@ pub struct Line {
 
 // What playing from an offset came to: the trace's end, its refusal with the offset, a call that was made, or a line; the latter two with the offset behind
 // them.
-#[derive(Drop)]
+#[derive(Clone, Copy)]
 pub enum Turn {
     End,
     Refused(usize),
@@ -38,7 +40,7 @@ pub enum Turn {
 }
 
 // It; the refusal number of the call, 0 where it was taken or none was made; and the responder's state after it.
-#[derive(Drop)]
+#[derive(Clone, Copy)]
 pub struct Played {
     pub turn: Turn,
     pub refusal: u8,
@@ -46,7 +48,7 @@ pub struct Played {
 }
 
 // What a call gave: its refusal number, or 0, and the responder's state after it.
-#[derive(Drop)]
+#[derive(Clone, Copy)]
 pub struct Made {
     pub refusal: u8,
     pub state: State,

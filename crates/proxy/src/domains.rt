@@ -8,7 +8,7 @@ ghost use Rattle.proxy.specs.domains.Domains.{domains, are_domains, setup_refusa
 pub const MOST_NAME: usize = 255;
 
 // A name under another domain: whether it fits a name, its length, and its bytes, zeros after them; nothing of one that does not fit.
-#[derive(Drop)]
+#[derive(Clone, Copy)]
 pub struct Moved {
     pub fits: bool,
     pub len: usize,

@@ -15,7 +15,7 @@ pub const DS: u16 = 43;
 
 // What becomes of a question: it is asked on the link, by a name of so many bytes; it is answered negatively at once; or it is refused, with the
 // specification's number.
-#[derive(Drop)]
+#[derive(Clone, Copy)]
 pub enum Asked {
     Name(usize),
     Negative,
@@ -23,7 +23,7 @@ pub enum Asked {
 }
 
 // What becomes of a question, and the bytes of the name that is asked for, zeros after them; zeros alone where none is.
-#[derive(Drop)]
+#[derive(Clone, Copy)]
 pub struct Question {
     pub asked: Asked,
     pub name: [u8; 255],

@@ -16,7 +16,7 @@ use cache::entries::Entry;
 pub const MOST_TTL: u32 = 10;
 
 // A record that is passed on: the length of its owner, its type, its class without the top bit, its TTL, and the length of its rdata.
-#[derive(Drop)]
+#[derive(Clone, Copy)]
 pub struct Fields {
     pub owner: usize,
     pub rtype: u16,
@@ -26,7 +26,7 @@ pub struct Fields {
 }
 
 // What becomes of a record: it is passed on, left out, or refused, with the specification's number.
-#[derive(Drop)]
+#[derive(Clone, Copy)]
 pub enum Passing {
     Record(Fields),
     Left,
@@ -35,7 +35,7 @@ pub enum Passing {
 
 // What becomes of a record; the bytes of its owner, and those of its rdata where it holds a name (PTR, SRV), zeros after them. Other rdata is passed on as
 // it lies, and is not copied: then, and where no record is passed on, there are zeros alone.
-#[derive(Drop)]
+#[derive(Clone, Copy)]
 pub struct Passed {
     pub passing: Passing,
     pub owner: [u8; 255],
@@ -43,7 +43,7 @@ pub struct Passed {
 }
 
 // Rdata that holds a name, the name mapped: whether that fits, the length of all, and the bytes, zeros after them.
-#[derive(Drop)]
+#[derive(Clone, Copy)]
 pub struct Content {
     pub fits: bool,
     pub len: usize,

@@ -11,13 +11,13 @@ use claims::steps::Output;
 use own::records::Setup;
 use writer::own_packets::LEAST_OUT;
 
-#[derive(Drop)]
+#[derive(Clone, Copy)]
 pub struct Stopped {
     pub answer: Answer,
     pub state: State,
 }
 
-#[derive(Drop)]
+#[derive(Clone, Copy)]
 pub struct Updated {
     pub answer: Answer,
     pub state: State,

@@ -1,6 +1,8 @@
 // The responder (specification, 'Refusal numbers', 'A claim's life', 'Which answers go out'): start, packet received and tick, each on a state by value; stops
 // and updates are in `changes`.
 // A call tests its refusals in the specification's order, has the parts below read, judge and write, and answers with the state after it.
+#![tactic(auto)]
+
 pub mod address;
 pub mod changes;
 
@@ -23,7 +25,7 @@ use wire::message::{Layout, MDNS_PORT, MessageRead, QuestionRead};
 use writer::own_packets::{LEAST_OUT, Written};
 
 // A responder: what it was set up with, and all that changes in it.
-#[derive(Drop)]
+#[derive(Clone, Copy)]
 pub struct State {
     pub setup: Setup,
     pub progress: Progress,
@@ -31,7 +33,7 @@ pub struct State {
 
 // What a call answers: the number of its refusal, that it sends nothing, or the lengths of the packets that it wrote: of the one to all on the link, of the
 // one to where the message came from that it answers, or of both.
-#[derive(Drop)]
+#[derive(Clone, Copy)]
 pub enum Answer {
     Refused(u8),
     Quiet,
@@ -40,20 +42,20 @@ pub enum Answer {
     Both(usize, usize),
 }
 
-#[derive(Drop)]
+#[derive(Clone, Copy)]
 pub struct Started {
     pub answer: Answer,
     pub state: State,
 }
 
-#[derive(Drop)]
+#[derive(Clone, Copy)]
 pub struct Received {
     pub answer: Answer,
     pub state: State,
 }
 
 // A tick also says whether more is due.
-#[derive(Drop)]
+#[derive(Clone, Copy)]
 pub struct Ticked {
     pub answer: Answer,
     pub more: bool,

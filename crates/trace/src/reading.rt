@@ -11,7 +11,7 @@ use crate::records::Record;
 use claims::holds::Address;
 
 // An event with its numbers: the calls that were made on a responder, and a claim's state as it then was. The bytes of a packet and of TXT stand beside it.
-#[derive(Drop)]
+#[derive(Clone, Copy)]
 pub enum Event {
     Tick(u64),
     Packet {
@@ -38,7 +38,7 @@ pub enum Event {
 pub const USUAL_HOLD: u64 = 400;
 
 // An event in a trace: the offset of its first piece and how many bytes its pieces carry, and the offset behind it.
-#[derive(Drop)]
+#[derive(Clone, Copy)]
 pub struct Entry {
     pub event: Event,
     pub first: usize,
@@ -47,7 +47,7 @@ pub struct Entry {
 }
 
 // What stands at an offset: the trace's end, an event, or the offset of the refusal.
-#[derive(Drop)]
+#[derive(Clone, Copy)]
 pub enum Step {
     End,
     Found(Entry),
@@ -55,14 +55,14 @@ pub enum Step {
 }
 
 // Where pieces end, or the offset of the first that cannot stand.
-#[derive(Drop)]
+#[derive(Clone, Copy)]
 pub enum Pieces {
     End(usize),
     Refused(usize),
 }
 
 // Whether a trace as a whole is read, or the offset of its refusal.
-#[derive(Drop)]
+#[derive(Clone, Copy)]
 pub enum Checked {
     Read,
     Refused(usize),

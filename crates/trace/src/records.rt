@@ -6,7 +6,7 @@ ghost use Rattle.trace.specs.records.Records.{kind_of, size_of, claim_of, fields
 use claims::holds::Address;
 
 // The kinds of records.
-#[derive(Drop)]
+#[derive(Clone, Copy)]
 pub enum Kind {
     Tick,
     Packet,
@@ -40,7 +40,7 @@ pub const PORT_SIZE: usize = 11;
 pub const TXT_SIZE: usize = 11;
 
 // A record by itself, with its numbers; the bytes of a piece stay where they are.
-#[derive(Drop)]
+#[derive(Clone, Copy)]
 pub enum Record {
     Tick(u64),
     Packet {

@@ -14,14 +14,14 @@ use crate::{reading, records};
 use claims::holds::Address;
 
 // The size of an event in a trace, or how far behind its start the record lies that a value does not fit.
-#[derive(Drop)]
+#[derive(Clone, Copy)]
 pub enum Size {
     Bytes(usize),
     Unfit(usize),
 }
 
 // What writing answers: the offset behind the event, refusal 12 with its offset, or refusal 3.
-#[derive(Drop)]
+#[derive(Clone, Copy)]
 pub enum Written {
     End(usize),
     Unfit(usize),

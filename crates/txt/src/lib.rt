@@ -1,5 +1,7 @@
 // TXT pairs (specification, 'TXT pairs', refusals 6 and 9; RFC 6763, 6): what a key says in the TXT that was received and, when it is absent there, in
 // the factory TXT; and the value, shown as a part of whichever buffer held it. Nothing is written and nothing is copied.
+#![tactic(auto)]
+
 ghost use Rattle.std.specs.Prelude.{◌≡◌, true, ◌-◌, ◌≤◌, length, take, drop};
 ghost use Rattle.wire.specs.rdata.Rdata.{strings_fill};
 ghost use Rattle.wire.specs.rdata.Answers.{start_in};
@@ -7,14 +9,14 @@ ghost use Rattle.txt.specs.Txt.{key_of, has_key};
 ghost use Rattle.txt.specs.Lookup.{bad_byte, bad_key, refusal_of, given_by, in_txt, lookup_of, number_of, part_of, shown_of, holder, bytes_of, stands_from};
 
 // Which of the two TXTs.
-#[derive(Drop)]
+#[derive(Clone, Copy)]
 pub enum Buffer {
     Received,
     Factory,
 }
 
 // Where a value lies: the buffer that holds it, its place there and its length.
-#[derive(Drop)]
+#[derive(Clone, Copy)]
 pub struct Held {
     pub buffer: Buffer,
     pub at: usize,
@@ -22,7 +24,7 @@ pub struct Held {
 }
 
 // What a lookup answers: refused with its number, absent, present without value, empty value, or the value itself.
-#[derive(Drop)]
+#[derive(Clone, Copy)]
 pub enum Answer {
     Refused(u8),
     Absent,
@@ -32,7 +34,7 @@ pub enum Answer {
 }
 
 // What a lookup gives: the answer, and the part that it shows.
-#[derive(Drop)]
+#[derive(Clone, Copy)]
 pub struct Shown<'a> {
     pub answer: Answer,
     pub part: &'a [u8],

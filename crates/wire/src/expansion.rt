@@ -9,7 +9,7 @@ ghost use Rattle.wire.specs.expansion.Opened.{opened_name, opened_at, view_of, v
 use crate::message::RecordAt;
 
 // Rdata with its name expanded: a name of 255 bytes at the most and 34 others (6 before it in an SRV, a window block behind it in an NSEC), zeros after them.
-#[derive(Drop)]
+#[derive(Clone, Copy)]
 pub struct Opened {
     pub len: usize,
     pub bytes: [u8; 289],

@@ -1,4 +1,6 @@
 // The packet reader (specification, 'Reading a message'): numbers, names, rdata, and a message with its questions and records.
+#![tactic(auto)]
+
 pub mod buffer;
 pub mod bytes;
 pub mod case_folding;

@@ -24,7 +24,7 @@ pub const MDNS_PORT: u16 = 5353;
 const RESPONSE: u16 = 32768;
 
 // A question as it lies: where its name starts and the span of that, its type and class, and the offset past it.
-#[derive(Drop)]
+#[derive(Clone, Copy)]
 pub struct QuestionAt {
     pub name: usize,
     pub span: Span,
@@ -33,7 +33,7 @@ pub struct QuestionAt {
     pub next: usize,
 }
 
-#[derive(Drop)]
+#[derive(Clone, Copy)]
 pub enum QuestionRead {
     Found(QuestionAt),
     Malformed,
@@ -41,7 +41,7 @@ pub enum QuestionRead {
 
 // A record as it lies: where its owner starts and the span of that; its type; its class as on the wire; its TTL as it counts; where its rdata starts and
 // how long it is; and the offset past it.
-#[derive(Drop)]
+#[derive(Clone, Copy)]
 pub struct RecordAt {
     pub owner: usize,
     pub span: Span,
@@ -53,21 +53,21 @@ pub struct RecordAt {
     pub next: usize,
 }
 
-#[derive(Drop)]
+#[derive(Clone, Copy)]
 pub enum RecordRead {
     Found(RecordAt),
     Malformed,
 }
 
 // A section: where it starts, and how many questions or records it has.
-#[derive(Drop)]
+#[derive(Clone, Copy)]
 pub struct Section {
     pub at: usize,
     pub count: u16,
 }
 
 // A message as it lies: the header's ID and flags, the four sections, and the offset past the last record.
-#[derive(Drop)]
+#[derive(Clone, Copy)]
 pub struct Layout {
     pub id: u16,
     pub flags: u16,
@@ -79,14 +79,14 @@ pub struct Layout {
 }
 
 // What reading a whole message finds. A refusal carries the specification's number: 4, 5 or 6.
-#[derive(Drop)]
+#[derive(Clone, Copy)]
 pub enum MessageRead {
     Read(Layout),
     Refused(u8),
 }
 
 // Where a section ends.
-#[derive(Drop)]
+#[derive(Clone, Copy)]
 pub enum Place {
     At(usize),
     Malformed,

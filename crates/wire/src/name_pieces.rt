@@ -7,7 +7,7 @@ ghost use Rattle.wire.specs.name_pieces.Pieces.{piece_at};
 pub const MOST_NAME: usize = 255;
 
 // What stands at one place of a name: the zero byte, a label of so many bytes, a pointer to an offset, or what no name has there.
-#[derive(Drop)]
+#[derive(Clone, Copy)]
 pub enum Piece {
     Root,
     Label(usize),

@@ -8,7 +8,7 @@ ghost use Rattle.wire.specs.names.Answers.{Wrote, is_pointer, Chased, or_later, 
 use crate::name_pieces::Piece;
 
 // Where a name ends in place, its uncompressed length, how many labels it has, and the length of the first: 0 and 0 of the root.
-#[derive(Drop)]
+#[derive(Clone, Copy)]
 pub struct Span {
     pub end: usize,
     pub len: usize,
@@ -17,28 +17,28 @@ pub struct Span {
 }
 
 // What reading a name finds.
-#[derive(Drop)]
+#[derive(Clone, Copy)]
 pub enum Name {
     Found(Span),
     Malformed,
 }
 
 // A name with its uncompressed bytes, zeros after them.
-#[derive(Drop)]
+#[derive(Clone, Copy)]
 pub struct Expanded {
     pub name: Name,
     pub bytes: [u8; 255],
 }
 
 // Where a name that was copied ends in place, and its uncompressed length.
-#[derive(Drop)]
+#[derive(Clone, Copy)]
 struct Reach {
     end: usize,
     len: usize,
 }
 
 // What copying a name finds.
-#[derive(Drop)]
+#[derive(Clone, Copy)]
 enum Copied {
     Found(Reach),
     Malformed,

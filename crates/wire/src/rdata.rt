@@ -23,7 +23,7 @@ pub const SRV: u16 = 33;
 pub const NSEC: u16 = 47;
 
 // The form of rdata: whether it holds a name, and how many bytes stand before it and behind it.
-#[derive(Drop)]
+#[derive(Clone, Copy)]
 pub struct Form {
     pub named: bool,
     pub before: usize,
@@ -31,7 +31,7 @@ pub struct Form {
 }
 
 // A string of a TXT as it lies: where its text starts, how long that is, and where the next string starts.
-#[derive(Drop)]
+#[derive(Clone, Copy)]
 pub struct StringAt {
     pub text: usize,
     pub len: usize,
@@ -39,7 +39,7 @@ pub struct StringAt {
 }
 
 // What stands at a place of a TXT: a string, the end of the TXT, or a string that runs past it.
-#[derive(Drop)]
+#[derive(Clone, Copy)]
 pub enum StringRead {
     Found(StringAt),
     End,
@@ -47,7 +47,7 @@ pub enum StringRead {
 }
 
 // An SRV as it lies: its numbers, and where in the packet its target starts and the span of that.
-#[derive(Drop)]
+#[derive(Clone, Copy)]
 pub struct SrvAt {
     pub priority: u16,
     pub weight: u16,
@@ -56,7 +56,7 @@ pub struct SrvAt {
     pub span: Span,
 }
 
-#[derive(Drop)]
+#[derive(Clone, Copy)]
 pub enum SrvRead {
     Found(SrvAt),
     Malformed,

@@ -11,7 +11,7 @@ use crate::names::{Name, Span};
 
 // A name that was read: its span, and two runs of labels in the message. The first that is not empty has `front` bytes from `from` on, the last one has
 // `rest` bytes from `start` on, the zero byte with them. Whether the two are the whole name is told: whether no other is between them.
-#[derive(Drop)]
+#[derive(Clone, Copy)]
 struct Runs {
     span: Span,
     from: usize,
@@ -21,7 +21,7 @@ struct Runs {
     whole: bool,
 }
 
-#[derive(Drop)]
+#[derive(Clone, Copy)]
 enum RunsRead {
     Found(Runs),
     Malformed,

@@ -4,14 +4,14 @@ ghost use Rattle.std.specs.Prelude.{◌≡◌};
 ghost use Rattle.writer.specs.compression.Compression.{stands_at, place_of, cut_of};
 
 // Where a name stands earlier in the packet.
-#[derive(Drop)]
+#[derive(Clone, Copy)]
 pub enum Place {
     At(usize),
     Nowhere,
 }
 
 // How a name is cut: how many of its bytes are written as they are, and where the rest of it stands; the zero byte follows where it stands nowhere.
-#[derive(Drop)]
+#[derive(Clone, Copy)]
 pub struct Cut {
     pub kept: usize,
     pub place: Place,

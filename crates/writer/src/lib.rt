@@ -1,5 +1,7 @@
 // The general writer (specification, 'Writing a packet': "Every name, SRV and PTR rdata too, is cut at its longest suffix of whole labels that stands
 // earlier"): puts a question or a record of any names behind the packet in a lent buffer, or answers that there is no room for it or that no message has it.
+#![tactic(auto)]
+
 pub mod compression;
 pub mod own_packets;
 
@@ -21,14 +23,14 @@ use wire::rdata::Form;
 pub const MOST_POINTED: usize = 16384;
 
 // Where what was written ends, and how many places of labels are noted.
-#[derive(Drop)]
+#[derive(Clone, Copy)]
 pub struct Spot {
     pub end: usize,
     pub count: usize,
 }
 
 // What is left of a lent buffer of `len` bytes, of which `at` are written, and of its table of `slots` places, of which `count` are noted.
-#[derive(Drop)]
+#[derive(Clone, Copy)]
 pub struct Room {
     pub at: usize,
     pub len: usize,
@@ -37,7 +39,7 @@ pub struct Room {
 }
 
 // Whether a question or a record was put into the packet: there is no room for it, or it is none that a reader takes.
-#[derive(Drop)]
+#[derive(Clone, Copy)]
 pub enum Placed {
     Done(Spot),
     Full,

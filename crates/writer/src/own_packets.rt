@@ -35,7 +35,7 @@ const PROBE_CLASS: u16 = 0x8001;
 const PLAIN_TTL: u32 = 10;
 
 // Which TTL records are written with: each its own, or one for all.
-#[derive(Drop)]
+#[derive(Clone, Copy)]
 pub enum TtlRule {
     Each,
     Fixed(u32),
@@ -43,7 +43,7 @@ pub enum TtlRule {
 
 // How a packet of own records is written: its header, whether a question stands in front and of which type and class, the section of the records
 // (Authority, else Answers), their TTLs, whether those that are not shared have the class's top bit, and whether the target of the SRV is written whole.
-#[derive(Drop)]
+#[derive(Clone, Copy)]
 pub struct Style {
     pub id: u16,
     pub flags: u16,
@@ -57,14 +57,14 @@ pub struct Style {
 }
 
 // Own records to write, in this order: those of the first `n` indices.
-#[derive(Drop)]
+#[derive(Clone, Copy)]
 pub struct Picked {
     pub order: [usize; RECORDS],
     pub n: usize,
 }
 
 // What became of a packet. A refusal carries the specification's number: 3 or 7.
-#[derive(Drop)]
+#[derive(Clone, Copy)]
 pub enum Written {
     Sent(usize),
     Nothing,
