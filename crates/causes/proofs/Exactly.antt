@@ -3,7 +3,7 @@
 use Prim.Native.Nat.{ℕ, ◌+◌, ◌≤◌}
 use mathlib.Core.Path.{◌≡◌, refl, sym, ap, subst, ◌∙◌}
 use mathlib.Core.Logic.{◌≢◌, ◌⊎◌, inl, inr}
-use mathlib.Core.Bool.{Bool, true, false, cond, not, ◌&&◌, ◌||◌, and-true, and-false, or_false}
+use mathlib.Core.Bool.{Bool, true, false, cond, not, ◌&&◌, ◌||◌, and-true, and-false, or-false}
 use mathlib.Core.List.{List, [], ◌∷◌, ◌++◌, map}
 use native.Mathlib.Omega.{arith}
 use lib.Dec.{eqb, ltb}
@@ -89,9 +89,9 @@ some_same f g e (x ∷ xs) = rw (e x, some_same f g e xs)
 pub one_of_all : (f : Own → Bool) (o : Own) → some (λ p. f p && eqb (index_of p) (index_of o)) all ≡ f o
 unfolding some
 one_of_all f =
-    by-record (λ o. some (λ p. f p && eqb (index_of p) (index_of o)) all ≡ f o) (simp (and-false, and-true, or_false)) (simp (and-false, and-true, or_false))
-    (simp (and-false, and-true, or_false)) (simp (and-false, and-true, or_false)) (simp (and-false, and-true, or_false))
-    (simp (and-false, and-true, or_false)) (simp (and-false, and-true, or_false))
+    by-record (λ o. some (λ p. f p && eqb (index_of p) (index_of o)) all ≡ f o) (simp (and-false, and-true, or-false)) (simp (and-false, and-true, or-false))
+    (simp (and-false, and-true, or-false)) (simp (and-false, and-true, or-false)) (simp (and-false, and-true, or-false))
+    (simp (and-false, and-true, or-false)) (simp (and-false, and-true, or-false))
 
 -- ---- the packet
 

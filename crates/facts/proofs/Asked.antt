@@ -1,7 +1,7 @@
 -- The own records that are asked for by questions of a kind, a question after the other; and that the two kinds together ask for what is asked for. Assumes nothing.
 use mathlib.Core.Path.{◌≡◌, refl, sym, ap, ◌∙◌}
 use mathlib.Core.List.{List, [], ◌∷◌}
-use mathlib.Core.Bool.{Bool, true, false, cond, not, ◌&&◌, ◌||◌, or_assoc, or_false}
+use mathlib.Core.Bool.{Bool, true, false, cond, not, ◌&&◌, ◌||◌, or_assoc, or-false}
 use Prim.Native.Nat.{ℕ, ◌-◌, ◌<◌, ◌≤◌}
 use Rattle.wire.specs.Lists.{some}
 use Rattle.wire.specs.message.Message.{Question, Message}
@@ -38,7 +38,7 @@ module _ (before : Set) (o : Own) (v : Bool) (is : v ≡ has o before) where
 module _ (kind : Question → Bool) (p : List ℕ) (s : Setup) (all : Set) (n at : ℕ) (before : Set)
     (inv : all ≡ asked_in kind s before (readable (question_at p) n at)) where
   none_more : before ≡ each (λ o. has o before || false)
-  none_more = λ i. each (λ o. sym (or_false (has o before)) i)
+  none_more = λ i. each (λ o. sym (or-false (has o before)) i)
 
   pub asked-done : n ≤ 0 → before ≡ all
   unfolding some
@@ -61,7 +61,7 @@ module _ (kind : Question → Bool) (p : List ℕ) (s : Setup) (all : Set) (n at
 
       here : (k : Bool) (o : Own) → has o (cond k (asked_with s shown before) before) ≡ (has o before || (k && asks_own s o shown))
       here true o = has-each (λ q. has q before || asks_own s q shown) o
-      here false o = sym (or_false (has o before))
+      here false o = sym (or-false (has o before))
 
       step : (o : Own) (rest : Bool) → (has o before || ((kind shown && asks_own s o shown) || rest)) ≡ (has o d || rest)
       step o rest =

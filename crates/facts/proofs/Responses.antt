@@ -1,7 +1,7 @@
 -- The conflicts of a message with the own records of a claim. Assumes nothing.
 use mathlib.Core.Path.{◌≡◌, refl, sym, ap, ◌∙◌}
 use mathlib.Core.List.{List, [], ◌∷◌, ◌++◌}
-use mathlib.Core.Bool.{Bool, true, false, ◌||◌, ◌&&◌, or_assoc, or_false}
+use mathlib.Core.Bool.{Bool, true, false, ◌||◌, ◌&&◌, or_assoc, or-false}
 use Prim.Native.Nat.{ℕ}
 use Rattle.wire.specs.Lists.{some}
 use Rattle.wire.specs.message.Message.{Message, all_records}
@@ -55,5 +55,5 @@ module _ (s : Setup) (c : Claim) (m : Message) (o : Own) (first : o ≡ first_of
     where
       so : w ≡ in_conflict s c m
       so =
-          k ∙ ap (λ (r : Own). conflicted s r m) second ∙ sym (or_false (conflicted s (second_of c) m))
+          k ∙ ap (λ (r : Own). conflicted s r m) second ∙ sym (or-false (conflicted s (second_of c) m))
           ∙ sym (ap (λ (b : Bool). b || (conflicted s (second_of c) m || false)) (ap (λ (r : Own). conflicted s r m) (sym first) ∙ sym e ∙ f))

@@ -1,7 +1,7 @@
 -- The tests on a question or a record, one after the other. Assumes nothing.
 use mathlib.Core.Path.{◌≡◌, refl, sym, ap, ◌∙◌}
 use mathlib.Core.List.{List}
-use mathlib.Core.Bool.{Bool, true, false, cond, not, ◌&&◌, ◌||◌, and-false, and-true, or_false}
+use mathlib.Core.Bool.{Bool, true, false, cond, not, ◌&&◌, ◌||◌, and-false, and-true, or-false}
 use Prim.Native.Nat.{ℕ, ◌*◌, ◌<◌, ◌≤◌}
 use borrow.Author.Tests.{eq-eqb, ne_eqb, le-leb, lt-leb}
 use Rattle.wire.specs.case_folding.Fold.{same_name}
@@ -90,7 +90,7 @@ module _ (s : Setup) (o : Own) (rtype : ℕ) (carries : Bool) (e : carries ≡ c
       pub second_asked : (r x : Own) → r ≡ first_of claim → x ≡ second_of claim → (a b : Bool) → a ≡ (has_record s r && takes_in rtype (own_type r)) → a ≡ false
           → b ≡ (has_record s x && takes_in rtype (own_type x)) → not b ≡ type_asks s o rtype
       second_asked r x er ex a b ha f hb =
-          ap not (sym (or_false b)) ∙ sym (ap (λ (x : Bool). not (x || (b || false))) f) ∙ is-absent a b (first-is r er a ha) (second_is x ex b hb)
+          ap not (sym (or-false b)) ∙ sym (ap (λ (x : Bool). not (x || (b || false))) f) ∙ is-absent a b (first-is r er a ha) (second_is x ex b hb)
 
 module _ (name : List ℕ) (rtype : ℕ) (own : List ℕ) (r : Record) where
   pub conflicts-type : (r.rtype ≡ rtype → ⊥) → false ≡ conflicts name rtype own r

@@ -2,7 +2,7 @@
 use Prim.Native.Nat.{ℕ, ◌-◌}
 use mathlib.Core.Path.{◌≡◌, refl, sym, ap, ◌∙◌}
 use mathlib.Core.Logic.{◌⊎◌, inl, inr}
-use mathlib.Core.Bool.{Bool, true, false, cond, not, ◌&&◌, ◌||◌, or_false}
+use mathlib.Core.Bool.{Bool, true, false, cond, not, ◌&&◌, ◌||◌, or-false}
 use native.Mathlib.Omega.{arith}
 use borrow.Author.Tests.{le-ltb}
 use Rattle.wire.specs.message.Message.{Message, is_response}
@@ -71,8 +71,8 @@ module _ (s : State) (time : ℕ) (m : Message) where
       where
         go : (k : Claim)
             → (has o f.known || recently (sent_of o s.progress.sent) time (gap_for k (unicast_asks s.progress f time))) ≡ is_known s.setup o m
-        go Instance = rw (no_gap (sent_of o s.progress.sent)) (or_false (has o f.known) ∙ known_is o)
-        go Host = rw (no_gap (sent_of o s.progress.sent)) (or_false (has o f.known) ∙ known_is o)
+        go Instance = rw (no_gap (sent_of o s.progress.sent)) (or-false (has o f.known) ∙ known_is o)
+        go Host = rw (no_gap (sent_of o s.progress.sent)) (or-false (has o f.known) ∙ known_is o)
 
   -- nothing is due for a response
   module _ (response : is_response m.flags ≡ true) where

@@ -1,6 +1,6 @@
 -- A query is due exactly where the time of the next one has come; none is right after one was sent. Assumes nothing.
 use mathlib.Core.Path.{◌≡◌, refl, sym, ap, ap₂, ◌∙◌}
-use mathlib.Core.Bool.{Bool, true, false, cond, not, ◌&&◌, ◌||◌, and-false, or_false}
+use mathlib.Core.Bool.{Bool, true, false, cond, not, ◌&&◌, ◌||◌, and-false, or-false}
 use mathlib.Core.List.{List, [], ◌∷◌}
 use Prim.Native.Nat.{ℕ, suc, ◌+◌, ◌*◌, ◌≤◌, ◌<◌}
 use native.Mathlib.Omega.{arith}
@@ -57,14 +57,14 @@ by_one b now e t part live = go (ltb b.query (threshold b e part)) refl (leb (th
 
     go : (s : Bool) → ltb b.query (threshold b e part) ≡ s → (c : Bool) → leb (threshold b e part) now ≡ c
         → leb (sooner_by b now e t part) now ≡ (leb t now || (leb (threshold b e part) now && ltb b.query (threshold b e part)))
-    go false s c k = rw (s, and-false) (sym (or_false (leb t now)))
+    go false s c k = rw (s, and-false) (sym (or-false (leb t now)))
     go true s true k =
         let early : greater (threshold b e part) now ≡ now = greater-early (threshold b e part) now (leb-true (threshold b e part) now k) in
         rw (s, early, lt-ltb now e.expiry live, k) (lesser-now t now ∙ sym (or_true (leb t now)))
     go true s false k =
         let far : now < threshold b e part = leb-false (threshold b e part) now k in
         let late : greater (threshold b e part) now ≡ threshold b e part = greater-late (threshold b e part) now far in
-        rw (s, late, k) (inner (ltb (threshold b e part) e.expiry) ∙ sym (or_false (leb t now)))
+        rw (s, late, k) (inner (ltb (threshold b e part) e.expiry) ∙ sym (or-false (leb t now)))
       where
         inner : (x : Bool) → leb (cond x (lesser t (threshold b e part)) t) now ≡ leb t now
         inner true = lesser-late t (threshold b e part) now (leb-false (threshold b e part) now k)
@@ -99,11 +99,11 @@ module _ (now : ℕ) (store : List ℕ) (b : Browser) where
           ∙ ap (λ (x : Bool). x || is_reached b now e 900) (by_one b now e (sooner_by b now e t 800) 850 l
           ∙ ap (λ (x : Bool). x || is_reached b now e 850) (by_one b now e t 800 l)))
           ∙ four (leb t now) (is_reached b now e 800) (is_reached b now e 850) (is_reached b now e 900) (is_reached b now e 950)
-      go false k = sym (or_false (leb t now))
+      go false k = sym (or-false (leb t now))
 
   by_all : (i : ℕ) (es : List Entry) (t : ℕ) → leb (soonest now store b i es t) now ≡ (leb t now || any_from (is_stale now store b) i es)
   unfolding soonest any_from
-  by_all i [] t = sym (or_false (leb t now))
+  by_all i [] t = sym (or-false (leb t now))
   by_all i (e ∷ es) t =
       by_all (suc i) es (sooner now store b i e t) ∙ ap (λ (c : Bool). c || any_from (is_stale now store b) (suc i) es) (by-entry i e t)
       ∙ grouped (leb t now) (is_stale now store b i e) (any_from (is_stale now store b) (suc i) es)

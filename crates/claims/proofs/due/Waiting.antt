@@ -1,7 +1,7 @@
 -- What the next due time promises a caller that waits for it: a step is due at a time exactly where that is not before the next due time, and a tick
 -- with none due sends nothing and changes nothing but the time of the last call. Assumes nothing.
 use mathlib.Core.Path.{◌≡◌, refl, sym, ap, ◌∙◌}
-use mathlib.Core.Bool.{Bool, true, false, cond, ◌||◌, or_assoc, or_false}
+use mathlib.Core.Bool.{Bool, true, false, cond, ◌||◌, or_assoc, or-false}
 use mathlib.Core.List.{List, [], ◌∷◌}
 use Prim.Native.Nat.{ℕ, ◌≤◌, ◌<◌}
 use native.Mathlib.Omega.{arith}
@@ -51,7 +51,7 @@ some-come :
     (progress : Progress) (now : ℕ) (first : When) (ss : List Step)
     → due_by (earliest_of progress first ss) now ≡ (due_by first now || some_of (λ s. due_by (step_due s progress) now) ss)
 unfolding earliest_of some_of
-some-come progress now first [] = sym (or_false (due_by first now))
+some-come progress now first [] = sym (or-false (due_by first now))
 some-come progress now first (s ∷ ss) =
     some-come progress now (earliest first (step_due s progress)) ss
     ∙ ap (λ (b : Bool). b || some_of (λ i. due_by (step_due i progress) now) ss) (either first (step_due s progress) now)

@@ -3,7 +3,7 @@
 use Prim.Native.Nat.{ℕ, ◌≤◌}
 use mathlib.Core.Path.{◌≡◌, refl, sym, ap, ◌∙◌}
 use mathlib.Core.List.{List, [], ◌∷◌, ◌++◌, map}
-use mathlib.Core.Bool.{Bool, true, false, cond, not, ◌&&◌, ◌||◌, or_assoc, or_false}
+use mathlib.Core.Bool.{Bool, true, false, cond, not, ◌&&◌, ◌||◌, or_assoc, or-false}
 use native.Mathlib.Omega.{arith}
 use lib.Dec.{eqb}
 use lib.ListN.{length}
@@ -218,7 +218,7 @@ once_last new (h ∷ hs) n o =
     let a = (neither (same_address h.from new.from) (of_address new.from hs)).0 n in
     let b = (both (not (of_address h.from hs)) (once_per_address hs)).0 o in
     let s : same_address new.from h.from ≡ false = same_sym new.from h.from ∙ a.0 in
-    rw (some-append (λ g. same_address g.from h.from) hs (new ∷ []), s, or_false (of_address h.from hs), b.0)
+    rw (some-append (λ g. same_address g.from h.from) hs (new ∷ []), s, or-false (of_address h.from hs), b.0)
     (once_last new hs a.1 b.1)
 
 once_without : (h : Hold) (xs ys : List Hold) → once_per_address (xs ++ (h ∷ ys)) ≡ true → once_per_address (xs ++ ys) ≡ true

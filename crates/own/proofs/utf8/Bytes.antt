@@ -1,7 +1,7 @@
 -- What a screen can show, byte by byte. Assumes nothing.
 use mathlib.Core.Path.{◌≡◌, refl, sym, ap, ◌∙◌}
 use mathlib.Core.List.{List, [], ◌∷◌}
-use mathlib.Core.Bool.{Bool, true, false, ◌&&◌, and-false, and-true, or_true}
+use mathlib.Core.Bool.{Bool, true, false, ◌&&◌, and-false, and-true, or-true}
 use Prim.Native.Nat.{ℕ, ◌+◌, ◌-◌, ◌<◌, ◌≤◌}
 use native.Mathlib.Numerals.{add-one}
 use native.Mathlib.Omega.{arith}
@@ -42,7 +42,7 @@ module _ (b : ℕ) (v : Bool) (is : v ≡ within 0x20 0x7E b) where
 
 pub starts-led : (b : ℕ) → 0xC2 ≤ b → b ≤ 0xF4 → starts b ≡ true
 unfolding starts
-starts-led b h k = simp (between 0xC2 0xF4 b h k) (or_true (within 0x20 0x7E b))
+starts-led b h k = simp (between 0xC2 0xF4 b h k) (or-true (within 0x20 0x7E b))
 
 -- what follows it, by the table
 module _ (b : ℕ) where
