@@ -1,0 +1,14 @@
+use Rattle.claims.specs.records.Own.{records, record_at, has, each}
+use Rattle.claims.proofs.records.Filled.{filled, none_filled, next_filled, set-filled}
+use Prim.Native.Nat.{◌≤◌, ◌-◌}
+use mathlib.Core.Path.{◌≡◌}
+use mathlib.Core.Bool.{false, ◌&&◌}
+use native.Mathlib.Omega.{arith}
+use Rattle.claims.specs.answers.Answers.{is_wanted, wanted_of}
+use Rattle.claims.proofs.answers.wanted.Given as goal
+
+abbrev pub invariant-loop-i : goal.invariant-loop-i
+invariant-loop-i l = (l.i ≤ records) × (l.flags ≡ filled false (is_wanted l.progress l.q l.now l.aaaa) l.i)
+
+abbrev pub decreases-loop-i : goal.decreases-loop-i
+decreases-loop-i l = records - l.i

@@ -1,0 +1,6 @@
+use Rattle.claims.specs.changes.Changes.{stop_of}
+use Rattle.claims.proofs.changes.stop.Goals as goal
+
+pub returns : goal.returns
+unfolding stop_of
+returns c = simp c.goodbye.ensures

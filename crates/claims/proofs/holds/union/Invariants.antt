@@ -1,0 +1,14 @@
+use Rattle.claims.specs.records.Own.{records, has}
+use Rattle.claims.proofs.records.Filled.{filled, none_filled, next_filled, set-filled}
+use Prim.Native.Nat.{◌≤◌, ◌-◌}
+use mathlib.Core.Path.{◌≡◌}
+use mathlib.Core.Bool.{false, ◌||◌}
+use native.Mathlib.Omega.{arith}
+use Rattle.claims.specs.holds.Holds.{union}
+use Rattle.claims.proofs.holds.union.Given as goal
+
+abbrev pub invariant-loop-i : goal.invariant-loop-i
+invariant-loop-i l = (l.i ≤ records) × (l.flags ≡ filled false (λ o. has o l.a || has o l.b) l.i)
+
+abbrev pub decreases-loop-i : goal.decreases-loop-i
+decreases-loop-i l = records - l.i

@@ -1,0 +1,16 @@
+use Prim.Native.Nat.{◌≤◌, ◌-◌}
+use mathlib.Core.Path.{refl}
+use native.Mathlib.Omega.{arith}
+use lib.ListN.{length}
+use Rattle.claims.specs.Time.{due_by}
+use Rattle.claims.specs.steps.Steps.{steps, step_at, step_due, more_due}
+use Rattle.claims.specs.declared.records.Claim.TheVariants.{Instance}
+use Rattle.claims.specs.declared.steps.Step.TheVariants.{OfClaim}
+use Rattle.claims.proofs.records.Searched.{Some, some-found, some_next, some-ends}
+use Rattle.claims.proofs.steps.more_due.Given as goal
+
+abbrev pub invariant-loop-i : goal.invariant-loop-i
+invariant-loop-i l = (l.i ≤ length steps) × Some (λ s. due_by (step_due s l.progress) l.now) steps l.i
+
+abbrev pub decreases-loop-i : goal.decreases-loop-i
+decreases-loop-i l = length steps - l.i

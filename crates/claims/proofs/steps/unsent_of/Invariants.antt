@@ -1,0 +1,15 @@
+use Rattle.claims.specs.records.Own.{records, record_at, has, each}
+use Rattle.claims.proofs.records.Filled.{filled, none_filled, next_filled, set-filled}
+use Prim.Native.Nat.{◌≤◌, ◌-◌}
+use mathlib.Core.Path.{◌≡◌}
+use mathlib.Core.Bool.{false, ◌&&◌}
+use native.Mathlib.Omega.{arith}
+use Rattle.claims.specs.Time.{sent_of}
+use Rattle.claims.specs.steps.Steps.{unsent, unsent_of}
+use Rattle.claims.proofs.steps.unsent_of.Given as goal
+
+abbrev pub invariant-loop-i : goal.invariant-loop-i
+invariant-loop-i l = (l.i ≤ records) × (l.flags ≡ filled false (λ o. unsent (has o l.set) (sent_of o l.sent) l.now) l.i)
+
+abbrev pub decreases-loop-i : goal.decreases-loop-i
+decreases-loop-i l = records - l.i

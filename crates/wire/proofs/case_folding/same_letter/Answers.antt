@@ -1,0 +1,11 @@
+use borrow.Author.Tests.{eq-eqb}
+use mathlib.Core.Path.{◌≡◌, sym, ap, ap₂}
+use lib.Dec.{eqb}
+use Rattle.wire.specs.case_folding.Fold.{lower}
+use Rattle.wire.proofs.case_folding.same_letter.Goals as goal
+
+pub returns-then-x-y : goal.returns-then-x-y
+returns-then-x-y c = sym (eq-eqb _ _ (ap lower c.if-x-y.true))
+
+pub returns : goal.returns
+returns c = ap₂ eqb c.lowered.ensures c.lowered-2.ensures

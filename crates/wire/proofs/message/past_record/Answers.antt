@@ -1,0 +1,11 @@
+use Rattle.wire.proofs.message.Fields.{past_record_bad, past_record_fits, past_record_unfit}
+use Rattle.wire.proofs.message.past_record.Goals as goal
+
+pub returns-then-rdata_fits : goal.returns-then-rdata_fits
+returns-then-rdata_fits c = past_record_fits _ _ _ _ c.record_at.ensures c.in-Found.is _ c.rdata_fits.ensures c.if-rdata_fits.true
+
+pub returns-else-rdata_fits : goal.returns-else-rdata_fits
+returns-else-rdata_fits c = past_record_unfit _ _ _ _ c.record_at.ensures c.in-Found.is _ c.rdata_fits.ensures c.if-rdata_fits.false
+
+pub returns-in-Malformed : goal.returns-in-Malformed
+returns-in-Malformed c = past_record_bad _ _ _ c.record_at.ensures c.in-Malformed.is

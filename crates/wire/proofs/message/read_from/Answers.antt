@@ -1,0 +1,15 @@
+use Rattle.wire.proofs.message.Refused.{short_from, long_from, elsewhere_from, read_from_lem, told}
+use Rattle.wire.proofs.message.read_from.Goals as goal
+
+pub returns-then-p-lt-LEAST_MESSAGE : goal.returns-then-p-lt-LEAST_MESSAGE
+returns-then-p-lt-LEAST_MESSAGE c = short_from _ _ c.if-p-lt-LEAST_MESSAGE.true
+
+pub returns-then-p-gt-MOST_MESSAGE : goal.returns-then-p-gt-MOST_MESSAGE
+returns-then-p-gt-MOST_MESSAGE c = long_from _ _ c.if-p-gt-MOST_MESSAGE.true
+
+pub returns-then-port_refused : goal.returns-then-port_refused
+returns-then-port_refused c = let port = c.before in
+    elsewhere_from _ _ port.before.before.if1.false port.before.if2.false (told port.port-refused.ensures c.if-port_refused.true)
+
+pub returns : goal.returns
+returns c = read_from_lem _ _ (told c.port_refused.ensures c.if-port_refused.false) _ c.read_message.ensures.answer

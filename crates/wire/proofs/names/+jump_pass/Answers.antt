@@ -1,0 +1,45 @@
+use mathlib.Core.Path.{◌≡◌, sym, ◌∙◌}
+use native.Mathlib.Omega.{arith}
+use Rattle.wire.proofs.name_pieces.Pieces.{is-root, label-in, label-room, pointer_in, pointer_back}
+use Rattle.wire.proofs.names.Walked.{seen_root, seen_root_after, seen_label, seen_pointer, seen_bad, passed_first, passed_later, passed_chain}
+use Prim.Native.Nat.{ℕ, ◌+◌, ◌*◌, ◌-◌, ◌<◌}
+use Rattle.wire.proofs.names.+jump_pass.Goals as goal
+
+pub jump-returns-then-end-eq0 : goal.jump-returns-then-end-eq0
+jump-returns-then-end-eq0 t c = c.pass.ensures ∙ passed_first _ _ _ _ _ _ _ c.if-end-eq0.true ∙ passed_chain _ _ _ _ _ _ _ _ c.chase-run.ensures.chain
+
+pub jump-returns : goal.jump-returns
+jump-returns t c = c.pass-2.ensures ∙ passed_later _ _ _ _ _ _ _ c.if-end-eq0.false ∙ passed_chain _ _ _ _ _ _ _ _ c.chase-run.ensures.chain
+
+pub pass-overflow_add-result : goal.pass-overflow_add-result
+pass-overflow_add-result t c = omega (arith, is-root _ _ _ _ (sym c.piece_at.ensures ∙ c.in-Root.is))
+
+pub pass-returns-then-end-eq0 : goal.pass-returns-then-end-eq0
+pass-returns-then-end-eq0 t c = seen_root _ _ _ _ _ _ _ _ c.piece_at.ensures c.in-Root.is c.if-end-eq0.true
+
+pub pass-overflow_add-at : goal.pass-overflow_add-at
+pass-overflow_add-at t c = omega (arith, label-in _ _ _ _ _ (sym c.piece_at.ensures ∙ c.in-Label.is))
+
+pub pass-overflow_add-at-in-Label : goal.pass-overflow_add-at-in-Label
+pass-overflow_add-at-in-Label t c = omega (arith, label-in _ _ _ _ _ (sym c.piece_at.ensures ∙ c.in-Label.is))
+
+pub pass-overflow_add-used-in-Label : goal.pass-overflow_add-used-in-Label
+pass-overflow_add-used-in-Label t c = omega (arith, label-room _ _ _ _ _ (sym c.piece_at.ensures ∙ c.in-Label.is))
+
+pub pass-pass-requires : goal.pass-pass-requires
+pass-pass-requires t c = let room = label-room _ _ _ _ _ (sym c.piece_at.ensures ∙ c.in-Label.is) in (omega (arith, room), (room, omega arith))
+
+pub pass-jump-requires : goal.pass-jump-requires
+pass-jump-requires t c = (omega (arith, pointer_back _ _ _ _ _ (sym c.piece_at.ensures ∙ c.in-Pointer.is)), (omega arith, (omega arith, pointer_in _ _ _ _ _ (sym c.piece_at.ensures ∙ c.in-Pointer.is))))
+
+pub pass-returns-else-end-eq0 : goal.pass-returns-else-end-eq0
+pass-returns-else-end-eq0 t c = seen_root_after _ _ _ _ _ _ _ _ c.piece_at.ensures c.in-Root.is c.if-end-eq0.false
+
+pub pass-returns-in-Label : goal.pass-returns-in-Label
+pass-returns-in-Label t c = c.pass.ensures ∙ sym (seen_label _ _ _ _ _ _ _ _ c.piece_at.ensures _ c.in-Label.is _ c.or_later-one.ensures)
+
+pub pass-returns-in-Pointer : goal.pass-returns-in-Pointer
+pass-returns-in-Pointer t c = c.jump.ensures ∙ sym (seen_pointer _ _ _ _ _ _ _ _ c.piece_at.ensures _ c.in-Pointer.is)
+
+pub pass-returns-in-Bad : goal.pass-returns-in-Bad
+pass-returns-in-Bad t c = seen_bad _ _ _ _ _ _ _ _ c.piece_at.ensures c.in-Bad.is

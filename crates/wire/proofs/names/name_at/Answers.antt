@@ -1,0 +1,59 @@
+use mathlib.Core.Path.{◌≡◌, sym, ◌∙◌}
+use mathlib.Core.Logic.{⊎_elim}
+use Prim.Native.Nat.{◌<◌, ◌≤◌, ◌+◌, ◌-◌}
+use native.Mathlib.Omega.{arith}
+use Rattle.wire.specs.names.Names.{name_at, from_run}
+use Rattle.wire.specs.names.Answers.{found_of, seen_of}
+use Rattle.wire.proofs.name_pieces.Pieces.{is-root, label-in, label-room, pointer_in, pointer_back}
+use Rattle.wire.proofs.names.Walked.{seen_start, seen_root, seen_root_after, seen_label, seen_pointer, seen_bad, passed_first, passed_later}
+use Rattle.wire.proofs.names.name_at.Goals as goal
+
+pub loop-n-init : goal.loop-n-init
+loop-n-init c = (omega arith, omega arith, seen_start _ _)
+
+pub overflow_add-result : goal.overflow_add-result
+overflow_add-result c = omega (arith, is-root _ _ _ _ (sym c.piece_at.ensures ∙ c.in-Root.is))
+
+pub returns-then-end-eq0 : goal.returns-then-end-eq0
+returns-then-end-eq0 c = sym (c.loop-n.invariant.2 ∙ sym (seen_root _ _ _ _ _ _ _ _ c.piece_at.ensures c.in-Root.is c.if-end-eq0.true))
+
+pub returns-in-Root : goal.returns-in-Root
+returns-in-Root c = sym (c.loop-n.invariant.2 ∙ sym (seen_root_after _ _ _ _ _ _ _ _ c.piece_at.ensures c.in-Root.is c.if-end-eq0.false))
+
+pub overflow_add-here : goal.overflow_add-here
+overflow_add-here c = omega (arith, label-in _ _ _ _ _ (sym c.piece_at.ensures ∙ c.in-Label.is))
+
+pub overflow_add-here-in-Label : goal.overflow_add-here-in-Label
+overflow_add-here-in-Label c = omega (arith, label-in _ _ _ _ _ (sym c.piece_at.ensures ∙ c.in-Label.is))
+
+pub overflow_add-used-in-Label : goal.overflow_add-used-in-Label
+overflow_add-used-in-Label c = omega (arith, label-room _ _ _ _ _ (sym c.piece_at.ensures ∙ c.in-Label.is))
+
+pub loop-n-smaller-in-Label : goal.loop-n-smaller-in-Label
+loop-n-smaller-in-Label c = omega (arith, label-room _ _ _ _ _ (sym c.piece_at.ensures ∙ c.in-Label.is))
+
+pub loop-n-preserved-in-Label : goal.loop-n-preserved-in-Label
+loop-n-preserved-in-Label c = (
+  label-room _ _ _ _ _ (sym c.piece_at.ensures ∙ c.in-Label.is),
+  omega arith,
+  c.loop-n.invariant.2
+      ∙ seen_label _ _ _ _ _ _ _ _ c.piece_at.ensures _ c.in-Label.is _ c.or_later-first.ensures,
+)
+
+pub overflow_add-end : goal.overflow_add-end
+overflow_add-end c = omega (arith, pointer_in _ _ _ _ _ (sym c.piece_at.ensures ∙ c.in-Pointer.is))
+
+pub loop-n-smaller-then-end-eq0-2 : goal.loop-n-smaller-then-end-eq0-2
+loop-n-smaller-then-end-eq0-2 c = omega (arith, pointer_back _ _ _ _ _ (sym c.piece_at.ensures ∙ c.in-Pointer.is))
+
+pub loop-n-preserved-then-end-eq0-2 : goal.loop-n-preserved-then-end-eq0-2
+loop-n-preserved-then-end-eq0-2 c = (omega arith, omega arith, c.loop-n.invariant.2 ∙ seen_pointer _ _ _ _ _ _ _ _ c.piece_at.ensures _ c.in-Pointer.is ∙ sym (passed_first _ _ _ _ _ _ _ c.if-end-eq0-2.true))
+
+pub loop-n-smaller : goal.loop-n-smaller
+loop-n-smaller c = omega (arith, pointer_back _ _ _ _ _ (sym c.piece_at.ensures ∙ c.in-Pointer.is))
+
+pub loop-n-preserved : goal.loop-n-preserved
+loop-n-preserved c = (omega arith, omega arith, c.loop-n.invariant.2 ∙ seen_pointer _ _ _ _ _ _ _ _ c.piece_at.ensures _ c.in-Pointer.is ∙ sym (passed_later _ _ _ _ _ _ _ c.if-end-eq0-2.false))
+
+pub returns-in-Bad : goal.returns-in-Bad
+returns-in-Bad c = sym (c.loop-n.invariant.2 ∙ sym (seen_bad _ _ _ _ _ _ _ _ c.piece_at.ensures c.in-Bad.is))

@@ -1,0 +1,14 @@
+use native.Mathlib.Omega.{arith}
+use mathlib.Core.Path.{◌≡◌, refl, sym, ap, ◌∙◌}
+use Prim.Native.Nat.{ℕ, ◌≤◌, ◌-◌}
+use lib.ListN.{length, drop}
+use Rattle.wire.specs.rdata.Rdata.{strings_fill}
+use Rattle.wire.proofs.rdata.Strings.{string_fits, string_over, strings-end}
+use Rattle.wire.proofs.rdata.Parts.{found_there, ends_there, cut-there}
+use Rattle.wire.proofs.rdata.strings_fill.Given as goal
+
+abbrev pub invariant-loop-s : goal.invariant-loop-s
+invariant-loop-s l = (l.at ≤ length l.d) × (strings_fill 0 l.d ≡ strings_fill 0 (drop l.at l.d))
+
+abbrev pub decreases-loop-s : goal.decreases-loop-s
+decreases-loop-s l = length l.d - l.at
