@@ -1,3 +1,4 @@
+use Rattle.std.proofs.Common.{rules}
 use native.Mathlib.Omega.{arith}
 use mathlib.Core.Path.{◌≡◌, refl, sym, ap, ◌∙◌}
 use mathlib.Core.List.{List}
@@ -14,7 +15,7 @@ pub returns-then-eight : goal.returns-then-eight
 returns-then-eight c = let x = c.eight.ensures in
     let y = c.eight-in-loop-i.ensures in
     let i = c.loop-i.i in
-    (omega arith, (c.loop-i.invariant.2, λ l e. c.if-eight.true (x.0 ∙ ap (λ (s : List ℕ). eight_at s i) e ∙ sym y.0)))
+    record { within = omega arith; same = c.loop-i.invariant.2; next = λ l e. c.if-eight.true (x.0 ∙ ap (λ (s : List ℕ). eight_at s i) e ∙ sym y.0) }
 
 pub loop-i-preserved : goal.loop-i-preserved
 loop-i-preserved c = let x = c.eight.ensures in
@@ -25,4 +26,4 @@ loop-i-preserved c = let x = c.eight.ensures in
     )
 
 pub returns : goal.returns
-returns c = (omega arith, (c.loop-i.invariant.2, λ l e. omega (arith, l)))
+returns c = record { within = omega arith; same = c.loop-i.invariant.2; next = λ l e. omega (arith, l) }

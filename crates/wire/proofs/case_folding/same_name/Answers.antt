@@ -12,7 +12,7 @@ pub returns-then-a-b : goal.returns-then-a-b
 returns-then-a-b c = sym (same_lengths _ _ c.if-a-b.true)
 
 pub loop-i-init : goal.loop-i-init
-loop-i-init c = (c.same_front-i.ensures.within, same_front c.same_front-i.result _ _ c.same_front-i.ensures.same.0)
+loop-i-init c = (c.same_front-i.ensures.within, same_front c.same_front-i.result _ _ c.same_front-i.ensures.same)
 
 pub returns-then-not-same_letter : goal.returns-then-not-same_letter
 returns-then-not-same_letter c = turn_differ _ _ _ (omega arith) (omega arith) c.loop-i.invariant.1 (sym c.same_letter.ensures ∙ c.if-not-same_letter.true)

@@ -7,7 +7,7 @@ use Rattle.wire.proofs.long_message.Notes.{Rest, rest_start, rest_label, rest_po
 use Rattle.wire.proofs.long_message.note.Goals as goal
 
 pub loop-n-init : goal.loop-n-init
-loop-n-init c = (omega arith, omega arith, c.requires.len_nonzero.1.1, rest_start _ _ _ c.requires.len_nonzero.0 c.requires.len_nonzero.1.0)
+loop-n-init c = (omega arith, omega arith, c.requires.noted, rest_start _ _ _ c.requires.len_nonzero c.requires.len_value)
 
 pub returns-in-Root : goal.returns-in-Root
 returns-in-Root c = c.loop-n.invariant.2

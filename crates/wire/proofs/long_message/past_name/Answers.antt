@@ -16,16 +16,13 @@ pub overflow_add-result : goal.overflow_add-result
 overflow_add-result c = omega (arith, is-root _ _ _ _ (sym c.piece_at.ensures ∙ c.in-Root.is))
 
 pub returns-then-end-eq0 : goal.returns-then-end-eq0
-returns-then-end-eq0 c = (past_found _ _ _ (c.loop-noted.invariant.3 ∙ reached_root _ _ _ _ _ _ c.piece_at.ensures c.in-Root.is c.if-end-eq0.true), c.loop-noted.invariant.2)
+returns-then-end-eq0 c = record { answer = past_found _ _ _ (c.loop-noted.invariant.3 ∙ reached_root _ _ _ _ _ _ c.piece_at.ensures c.in-Root.is c.if-end-eq0.true); notes = c.loop-noted.invariant.2 }
 
 pub note-requires : goal.note-requires
-note-requires c = (omega arith, (omega arith, (long_found _ _ _ (c.loop-noted.invariant.3 ∙ reached_root_after _ _ _ _ _ _ c.piece_at.ensures c.in-Root.is c.if-end-eq0.false), c.loop-noted.invariant.2)))
+note-requires c = record { p_len_bound = omega arith; len_nonzero = omega arith; len_value = long_found _ _ _ (c.loop-noted.invariant.3 ∙ reached_root_after _ _ _ _ _ _ c.piece_at.ensures c.in-Root.is c.if-end-eq0.false); noted = c.loop-noted.invariant.2 }
 
 pub returns-in-Root : goal.returns-in-Root
-returns-in-Root c = (
-  past_found _ _ _ (c.loop-noted.invariant.3 ∙ reached_root_after _ _ _ _ _ _ c.piece_at.ensures c.in-Root.is c.if-end-eq0.false),
-  c.note.ensures,
-)
+returns-in-Root c = record { answer = past_found _ _ _ (c.loop-noted.invariant.3 ∙ reached_root_after _ _ _ _ _ _ c.piece_at.ensures c.in-Root.is c.if-end-eq0.false); notes = c.note.ensures }
 
 pub overflow_add-here : goal.overflow_add-here
 overflow_add-here c = omega (arith, label-in _ _ _ _ _ (sym c.piece_at.ensures ∙ c.in-Label.is))
@@ -51,22 +48,19 @@ pub bounds-noted-target : goal.bounds-noted-target
 bounds-noted-target c = omega (arith, pointer_back _ _ _ _ _ (sym c.piece_at.ensures ∙ c.in-Pointer.is), pointer_in _ _ _ _ _ (sym c.piece_at.ensures ∙ c.in-Pointer.is))
 
 pub returns-then-used-rest : goal.returns-then-used-rest
-returns-then-used-rest c = (past_malformed _ (c.loop-noted.invariant.3 ∙ known_over _ _ _ _ _ _ c.piece_at.ensures _ c.in-Pointer.is _ c.loop-noted.invariant.2 c.if-rest-gt0.true c.loop-noted.invariant.0 (omega arith)), c.loop-noted.invariant.2)
+returns-then-used-rest c = record { answer = past_malformed _ (c.loop-noted.invariant.3 ∙ known_over _ _ _ _ _ _ c.piece_at.ensures _ c.in-Pointer.is _ c.loop-noted.invariant.2 c.if-rest-gt0.true c.loop-noted.invariant.0 (omega arith)); notes = c.loop-noted.invariant.2 }
 
 pub overflow_add-result-then-end-eq0-2 : goal.overflow_add-result-then-end-eq0-2
 overflow_add-result-then-end-eq0-2 c = omega (arith, pointer_in _ _ _ _ _ (sym c.piece_at.ensures ∙ c.in-Pointer.is))
 
 pub returns-then-end-eq0-2 : goal.returns-then-end-eq0-2
-returns-then-end-eq0-2 c = (past_found _ _ _ (c.loop-noted.invariant.3 ∙ known-first _ _ _ _ _ _ c.piece_at.ensures _ c.in-Pointer.is _ c.loop-noted.invariant.2 c.if-rest-gt0.true c.if-end-eq0-2.true (omega arith)), c.loop-noted.invariant.2)
+returns-then-end-eq0-2 c = record { answer = past_found _ _ _ (c.loop-noted.invariant.3 ∙ known-first _ _ _ _ _ _ c.piece_at.ensures _ c.in-Pointer.is _ c.loop-noted.invariant.2 c.if-rest-gt0.true c.if-end-eq0-2.true (omega arith)); notes = c.loop-noted.invariant.2 }
 
 pub note-requires-then-rest-gt0 : goal.note-requires-then-rest-gt0
-note-requires-then-rest-gt0 c = (omega arith, (omega arith, (long_found _ _ _ (c.loop-noted.invariant.3 ∙ known-later _ _ _ _ _ _ c.piece_at.ensures _ c.in-Pointer.is _ c.loop-noted.invariant.2 c.if-rest-gt0.true c.if-end-eq0-2.false (omega arith)), c.loop-noted.invariant.2)))
+note-requires-then-rest-gt0 c = record { p_len_bound = omega arith; len_nonzero = omega arith; len_value = long_found _ _ _ (c.loop-noted.invariant.3 ∙ known-later _ _ _ _ _ _ c.piece_at.ensures _ c.in-Pointer.is _ c.loop-noted.invariant.2 c.if-rest-gt0.true c.if-end-eq0-2.false (omega arith)); noted = c.loop-noted.invariant.2 }
 
 pub returns-then-rest-gt0 : goal.returns-then-rest-gt0
-returns-then-rest-gt0 c = (
-  past_found _ _ _ (c.loop-noted.invariant.3 ∙ known-later _ _ _ _ _ _ c.piece_at.ensures _ c.in-Pointer.is _ c.loop-noted.invariant.2 c.if-rest-gt0.true c.if-end-eq0-2.false (omega arith)),
-  c.note-then-rest-gt0.ensures,
-)
+returns-then-rest-gt0 c = record { answer = past_found _ _ _ (c.loop-noted.invariant.3 ∙ known-later _ _ _ _ _ _ c.piece_at.ensures _ c.in-Pointer.is _ c.loop-noted.invariant.2 c.if-rest-gt0.true c.if-end-eq0-2.false (omega arith)); notes = c.note-then-rest-gt0.ensures }
 
 pub overflow_add-end : goal.overflow_add-end
 overflow_add-end c = omega (arith, pointer_in _ _ _ _ _ (sym c.piece_at.ensures ∙ c.in-Pointer.is))
@@ -84,4 +78,4 @@ pub loop-noted-preserved : goal.loop-noted-preserved
 loop-noted-preserved c = (c.loop-noted.invariant.0, omega arith, c.loop-noted.invariant.2, c.loop-noted.invariant.3 ∙ reached_later _ _ _ _ _ _ c.piece_at.ensures _ c.in-Pointer.is c.if-end-eq0-3.false)
 
 pub returns-in-Bad : goal.returns-in-Bad
-returns-in-Bad c = (past_malformed _ (c.loop-noted.invariant.3 ∙ reached_bad _ _ _ _ _ _ c.piece_at.ensures c.in-Bad.is), c.loop-noted.invariant.2)
+returns-in-Bad c = record { answer = past_malformed _ (c.loop-noted.invariant.3 ∙ reached_bad _ _ _ _ _ _ c.piece_at.ensures c.in-Bad.is); notes = c.loop-noted.invariant.2 }

@@ -10,13 +10,10 @@ pub loop-left-init : goal.loop-left-init
 loop-left-init c = (refl, c.requires.noted)
 
 pub past_question-requires : goal.past_question-requires
-past_question-requires c = (omega arith, c.loop-left.invariant.1)
+past_question-requires c = record { p_len_bound = omega arith; noted = c.loop-left.invariant.1 }
 
 pub returns-in-Malformed : goal.returns-in-Malformed
-returns-in-Malformed c = (
-  sym (c.loop-left.invariant.0 ∙ ends_bad (question_at c.args.p.now) _ _ _ c.loop-left-test.true c.past_question.ensures.answer c.in-Malformed.is),
-  c.past_question.ensures.notes,
-)
+returns-in-Malformed c = record { answer = sym (c.loop-left.invariant.0 ∙ ends_bad (question_at c.args.p.now) _ _ _ c.loop-left-test.true c.past_question.ensures.answer c.in-Malformed.is); notes = c.past_question.ensures.notes }
 
 pub loop-left-preserved : goal.loop-left-preserved
 loop-left-preserved c = (
@@ -25,4 +22,4 @@ loop-left-preserved c = (
 )
 
 pub returns : goal.returns
-returns c = (sym (c.loop-left.invariant.0 ∙ ap past_list (list_none (question_at c.args.p.now) _ _ c.loop-left-test.false)), c.loop-left.invariant.1)
+returns c = record { answer = sym (c.loop-left.invariant.0 ∙ ap past_list (list_none (question_at c.args.p.now) _ _ c.loop-left-test.false)); notes = c.loop-left.invariant.1 }

@@ -4,7 +4,7 @@ use Rattle.wire.proofs.message.Sections.{questions-cut, answers_cut, authorities
 use Rattle.wire.proofs.long_message.read_sections.Goals as goal
 
 pub questions_end-requires : goal.questions_end-requires
-questions_end-requires c = (omega arith, noted_none _ 8972)
+questions_end-requires c = record { p_len_bound = omega arith; noted = noted_none _ 8972 }
 
 pub returns-in_default : goal.returns-in_default
 returns-in_default c = questions-cut _ _ _ _ _ c.be16-questions.ensures c.be16-answers.ensures c.be16-authorities.ensures c.be16-additionals.ensures _ c.questions_end.ensures.answer c.in_default.is

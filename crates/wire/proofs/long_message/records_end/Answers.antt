@@ -10,13 +10,10 @@ pub loop-left-init : goal.loop-left-init
 loop-left-init c = (refl, c.requires.noted)
 
 pub past_record-requires : goal.past_record-requires
-past_record-requires c = (omega arith, c.loop-left.invariant.1)
+past_record-requires c = record { p_len_bound = omega arith; noted = c.loop-left.invariant.1 }
 
 pub returns-in-Malformed : goal.returns-in-Malformed
-returns-in-Malformed c = (
-  sym (c.loop-left.invariant.0 ∙ ends_bad (record_at c.args.p.now) _ _ _ c.loop-left-test.true c.past_record.ensures.answer c.in-Malformed.is),
-  c.past_record.ensures.notes,
-)
+returns-in-Malformed c = record { answer = sym (c.loop-left.invariant.0 ∙ ends_bad (record_at c.args.p.now) _ _ _ c.loop-left-test.true c.past_record.ensures.answer c.in-Malformed.is); notes = c.past_record.ensures.notes }
 
 pub loop-left-preserved : goal.loop-left-preserved
 loop-left-preserved c = (
@@ -25,4 +22,4 @@ loop-left-preserved c = (
 )
 
 pub returns : goal.returns
-returns c = (sym (c.loop-left.invariant.0 ∙ ap past_list (list_none (record_at c.args.p.now) _ _ c.loop-left-test.false)), c.loop-left.invariant.1)
+returns c = record { answer = sym (c.loop-left.invariant.0 ∙ ap past_list (list_none (record_at c.args.p.now) _ _ c.loop-left-test.false)); notes = c.loop-left.invariant.1 }

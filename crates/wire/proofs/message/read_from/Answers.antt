@@ -8,8 +8,7 @@ pub returns-then-p-gt-MOST_MESSAGE : goal.returns-then-p-gt-MOST_MESSAGE
 returns-then-p-gt-MOST_MESSAGE c = long_from _ _ c.if-p-gt-MOST_MESSAGE.true
 
 pub returns-then-port_refused : goal.returns-then-port_refused
-returns-then-port_refused c = let port = c.before in
-    elsewhere_from _ _ port.before.before.if1.false port.before.if2.false (told port.port-refused.ensures c.if-port_refused.true)
+returns-then-port_refused c = elsewhere_from _ _ c.if-p-lt-LEAST_MESSAGE.false c.if-p-gt-MOST_MESSAGE.false (told c.port_refused.ensures c.if-port_refused.true)
 
 pub returns : goal.returns
 returns c = read_from_lem _ _ (told c.port_refused.ensures c.if-port_refused.false) _ c.read_message.ensures.answer

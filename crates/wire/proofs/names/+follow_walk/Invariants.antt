@@ -6,7 +6,7 @@ use Prim.Native.Nat.{ℕ, ◌+◌, ◌*◌, ◌-◌, ◌<◌}
 use Rattle.wire.proofs.names.+follow_walk.Given as goal
 
 abbrev pub decreases-follow : goal.decreases-follow
-decreases-follow l = 2 * (a.1.1.0 + (255 - a.1.1.1.1.0)) + 2
+decreases-follow l = 2 * (l.target + (255 - l.used)) + 2
 
 abbrev pub decreases-walk : goal.decreases-walk
-decreases-walk l = 2 * (a.1.0 + (255 - a.1.1.1.1.0)) + 1
+decreases-walk l = 2 * (l.start + (255 - l.used)) + 1

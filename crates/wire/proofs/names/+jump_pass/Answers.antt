@@ -6,10 +6,10 @@ use Prim.Native.Nat.{ℕ, ◌+◌, ◌*◌, ◌-◌, ◌<◌}
 use Rattle.wire.proofs.names.+jump_pass.Goals as goal
 
 pub jump-returns-then-end-eq0 : goal.jump-returns-then-end-eq0
-jump-returns-then-end-eq0 t c = c.pass.ensures ∙ passed_first _ _ _ _ _ _ _ c.if-end-eq0.true ∙ passed_chain _ _ _ _ _ _ _ _ c.chase-run.ensures.chain
+jump-returns-then-end-eq0 t c = c.pass.ensures ∙ passed_first c.args.p.now c.chase-run.result c.args.at c.args.used c.args.end c.args.labels c.args.first c.if-end-eq0.true ∙ passed_chain c.args.p.now c.chase-run.result c.args.at c.args.used c.args.end c.args.labels c.args.first _ c.chase-run.ensures.chain
 
 pub jump-returns : goal.jump-returns
-jump-returns t c = c.pass-2.ensures ∙ passed_later _ _ _ _ _ _ _ c.if-end-eq0.false ∙ passed_chain _ _ _ _ _ _ _ _ c.chase-run.ensures.chain
+jump-returns t c = c.pass-2.ensures ∙ passed_later c.args.p.now c.chase-run.result c.args.at c.args.used c.args.end c.args.labels c.args.first c.if-end-eq0.false ∙ passed_chain c.args.p.now c.chase-run.result c.args.at c.args.used c.args.end c.args.labels c.args.first _ c.chase-run.ensures.chain
 
 pub pass-overflow_add-result : goal.pass-overflow_add-result
 pass-overflow_add-result t c = omega (arith, is-root _ _ _ _ (sym c.piece_at.ensures ∙ c.in-Root.is))
@@ -36,10 +36,10 @@ pub pass-returns-else-end-eq0 : goal.pass-returns-else-end-eq0
 pass-returns-else-end-eq0 t c = seen_root_after _ _ _ _ _ _ _ _ c.piece_at.ensures c.in-Root.is c.if-end-eq0.false
 
 pub pass-returns-in-Label : goal.pass-returns-in-Label
-pass-returns-in-Label t c = c.pass.ensures ∙ sym (seen_label _ _ _ _ _ _ _ _ c.piece_at.ensures _ c.in-Label.is _ c.or_later-one.ensures)
+pass-returns-in-Label t c = c.pass.ensures ∙ sym (seen_label c.args.p.now c.args.start c.args.at c.args.used c.args.end c.args.labels c.args.first _ c.piece_at.ensures _ c.in-Label.is _ c.or_later-one.ensures)
 
 pub pass-returns-in-Pointer : goal.pass-returns-in-Pointer
-pass-returns-in-Pointer t c = c.jump.ensures ∙ sym (seen_pointer _ _ _ _ _ _ _ _ c.piece_at.ensures _ c.in-Pointer.is)
+pass-returns-in-Pointer t c = c.jump.ensures ∙ sym (seen_pointer c.args.p.now c.args.start c.args.at c.args.used c.args.end c.args.labels c.args.first _ c.piece_at.ensures _ c.in-Pointer.is)
 
 pub pass-returns-in-Bad : goal.pass-returns-in-Bad
-pass-returns-in-Bad t c = seen_bad _ _ _ _ _ _ _ _ c.piece_at.ensures c.in-Bad.is
+pass-returns-in-Bad t c = seen_bad c.args.p.now c.args.start c.args.at c.args.used c.args.end c.args.labels c.args.first _ c.piece_at.ensures c.in-Bad.is

@@ -6,7 +6,7 @@ use Prim.Native.Nat.{ℕ, ◌+◌, ◌*◌, ◌-◌, ◌<◌}
 use Rattle.wire.proofs.names.+jump_pass.Given as goal
 
 abbrev pub decreases-jump : goal.decreases-jump
-decreases-jump l = 2 * (a.1.1.0 + (255 - a.1.1.1.0)) + 2
+decreases-jump l = 2 * (l.target + (255 - l.used)) + 2
 
 abbrev pub decreases-pass : goal.decreases-pass
-decreases-pass l = 2 * (a.1.0 + (255 - a.1.1.1.0)) + 1
+decreases-pass l = 2 * (l.start + (255 - l.used)) + 1

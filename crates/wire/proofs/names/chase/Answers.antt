@@ -16,10 +16,10 @@ pub loop-t-preserved : goal.loop-t-preserved
 loop-t-preserved c = chased_on _ _ _ _ _ c.piece_at.ensures _ _ c.in-Pointer.is refl c.loop-t.invariant
 
 pub returns-in-Root : goal.returns-in-Root
-returns-in-Root c = (c.loop-t.invariant, not-pointer _ _ _ _ _ c.piece_at.ensures c.in-Root.is refl)
+returns-in-Root c = record { chain = c.loop-t.invariant; end = not-pointer _ _ _ _ _ c.piece_at.ensures c.in-Root.is refl }
 
 pub returns-in-Label : goal.returns-in-Label
-returns-in-Label c = (c.loop-t.invariant, not-pointer _ _ _ _ _ c.piece_at.ensures c.in-Label.is refl)
+returns-in-Label c = record { chain = c.loop-t.invariant; end = not-pointer _ _ _ _ _ c.piece_at.ensures c.in-Label.is refl }
 
 pub returns-in-Bad : goal.returns-in-Bad
-returns-in-Bad c = (c.loop-t.invariant, not-pointer _ _ _ _ _ c.piece_at.ensures c.in-Bad.is refl)
+returns-in-Bad c = record { chain = c.loop-t.invariant; end = not-pointer _ _ _ _ _ c.piece_at.ensures c.in-Bad.is refl }

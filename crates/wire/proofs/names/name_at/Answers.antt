@@ -37,7 +37,7 @@ loop-n-preserved-in-Label c = (
   label-room _ _ _ _ _ (sym c.piece_at.ensures ∙ c.in-Label.is),
   omega arith,
   c.loop-n.invariant.2
-      ∙ seen_label _ _ _ _ _ _ _ _ c.piece_at.ensures _ c.in-Label.is _ c.or_later-first.ensures,
+      ∙ seen_label c.args.p.now c.loop-n.start c.loop-n.here c.loop-n.used c.loop-n.end c.loop-n.labels c.loop-n.first _ c.piece_at.ensures _ c.in-Label.is _ c.or_later-first.ensures,
 )
 
 pub overflow_add-end : goal.overflow_add-end
@@ -47,13 +47,13 @@ pub loop-n-smaller-then-end-eq0-2 : goal.loop-n-smaller-then-end-eq0-2
 loop-n-smaller-then-end-eq0-2 c = omega (arith, pointer_back _ _ _ _ _ (sym c.piece_at.ensures ∙ c.in-Pointer.is))
 
 pub loop-n-preserved-then-end-eq0-2 : goal.loop-n-preserved-then-end-eq0-2
-loop-n-preserved-then-end-eq0-2 c = (omega arith, omega arith, c.loop-n.invariant.2 ∙ seen_pointer _ _ _ _ _ _ _ _ c.piece_at.ensures _ c.in-Pointer.is ∙ sym (passed_first _ _ _ _ _ _ _ c.if-end-eq0-2.true))
+loop-n-preserved-then-end-eq0-2 c = (omega arith, omega arith, c.loop-n.invariant.2 ∙ seen_pointer c.args.p.now c.loop-n.start c.loop-n.here c.loop-n.used c.loop-n.end c.loop-n.labels c.loop-n.first _ c.piece_at.ensures _ c.in-Pointer.is ∙ sym (passed_first c.args.p.now c.in-Pointer.target c.loop-n.here c.loop-n.used c.loop-n.end c.loop-n.labels c.loop-n.first c.if-end-eq0-2.true))
 
 pub loop-n-smaller : goal.loop-n-smaller
 loop-n-smaller c = omega (arith, pointer_back _ _ _ _ _ (sym c.piece_at.ensures ∙ c.in-Pointer.is))
 
 pub loop-n-preserved : goal.loop-n-preserved
-loop-n-preserved c = (omega arith, omega arith, c.loop-n.invariant.2 ∙ seen_pointer _ _ _ _ _ _ _ _ c.piece_at.ensures _ c.in-Pointer.is ∙ sym (passed_later _ _ _ _ _ _ _ c.if-end-eq0-2.false))
+loop-n-preserved c = (omega arith, omega arith, c.loop-n.invariant.2 ∙ seen_pointer c.args.p.now c.loop-n.start c.loop-n.here c.loop-n.used c.loop-n.end c.loop-n.labels c.loop-n.first _ c.piece_at.ensures _ c.in-Pointer.is ∙ sym (passed_later c.args.p.now c.in-Pointer.target c.loop-n.here c.loop-n.used c.loop-n.end c.loop-n.labels c.loop-n.first c.if-end-eq0-2.false))
 
 pub returns-in-Bad : goal.returns-in-Bad
-returns-in-Bad c = sym (c.loop-n.invariant.2 ∙ sym (seen_bad _ _ _ _ _ _ _ _ c.piece_at.ensures c.in-Bad.is))
+returns-in-Bad c = sym (c.loop-n.invariant.2 ∙ sym (seen_bad c.args.p.now c.loop-n.start c.loop-n.here c.loop-n.used c.loop-n.end c.loop-n.labels c.loop-n.first _ c.piece_at.ensures c.in-Bad.is))

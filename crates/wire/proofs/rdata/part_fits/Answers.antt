@@ -22,10 +22,10 @@ pub returns-in-Malformed : goal.returns-in-Malformed
 returns-in-Malformed c = in_srv _ _ _ (omega arith) _ (fits-bad _ _ _ _ _ (omega arith) _ refl (srv_none _ _ _ _ c.srv_in.ensures c.in-Malformed.is))
 
 pub returns-then-not-held : goal.returns-then-not-held
-returns-then-not-held c = in_other _ _ _ _ (in_typed _ _ _ (λ e. omega arith) _ c.form_of-held.ensures) (λ e. omega arith) (λ e. omega arith) (λ e. omega arith) (c.if-not-held.true)
+returns-then-not-held c = in_other _ _ _ _ (in_typed _ _ _ (λ e. omega arith) _ c.form_of-held.ensures) (λ e. omega arith) (λ e. omega arith) (λ e. omega arith) (not-true _ c.if-not-held.true)
 
 pub returns-in-Found-name_in : goal.returns-in-Found-name_in
-returns-in-Found-name_in c = in_form _ _ _ _ (in_typed _ _ _ (λ e. omega arith) _ c.form_of-held.ensures) (c.if-not-held.false) _ (fits-found _ _ _ _ _ (omega arith) _ c.name_in.ensures _ c.in-Found-name_in.is)
+returns-in-Found-name_in c = in_form _ _ _ _ (in_typed _ _ _ (λ e. omega arith) _ c.form_of-held.ensures) (not-false _ c.if-not-held.false) _ (fits-found _ _ _ _ _ (omega arith) _ c.name_in.ensures _ c.in-Found-name_in.is)
 
 pub returns-in-Malformed-name_in : goal.returns-in-Malformed-name_in
-returns-in-Malformed-name_in c = in_form _ _ _ _ (in_typed _ _ _ (λ e. omega arith) _ c.form_of-held.ensures) (c.if-not-held.false) _ (fits-bad _ _ _ _ _ (omega arith) _ c.name_in.ensures c.in-Malformed-name_in.is)
+returns-in-Malformed-name_in c = in_form _ _ _ _ (in_typed _ _ _ (λ e. omega arith) _ c.form_of-held.ensures) (not-false _ c.if-not-held.false) _ (fits-bad _ _ _ _ _ (omega arith) _ c.name_in.ensures c.in-Malformed-name_in.is)

@@ -18,10 +18,7 @@ pub returns-in-Root : goal.returns-in-Root
 returns-in-Root c = let l = c.loop-past in
     let a = c.args in
     let is = c.piece_at.ensures in
-    let k = c.in-Root.is in (
-      root_span _ _ _ _ _ _ _ _ is k _ c.or_later-past.ensures ∙ sym l.invariant.6,
-      kept-root a.p.now (name_at a.p.now a.at) l.from l.front l.start l.last l.here l.used _ is l.invariant.7 l.invariant.2 l.invariant.3 l.invariant.4 k,
-    )
+    let k = c.in-Root.is in record { span = root_span c.args.p.now c.loop-past.start c.loop-past.here c.loop-past.used c.loop-past.end c.loop-past.labels c.loop-past.first _ is k _ c.or_later-past.ensures ∙ sym l.invariant.6; bytes = kept-root a.p.now (name_at a.p.now a.at) l.from l.front l.start l.last l.here l.used _ is l.invariant.7 l.invariant.2 l.invariant.3 l.invariant.4 k }
 
 pub overflow_add-here-in-Label : goal.overflow_add-here-in-Label
 overflow_add-here-in-Label c = omega (arith, label-in _ _ _ _ _ (sym c.piece_at.ensures ∙ c.in-Label.is))
@@ -46,7 +43,7 @@ loop-past-preserved-in-Label c = let l = c.loop-past in
       omega arith,
       omega arith,
       l.invariant.5,
-      l.invariant.6 ∙ seen_label _ _ _ _ _ _ _ _ is _ k _ c.or_later-first.ensures,
+      l.invariant.6 ∙ seen_label c.args.p.now c.loop-past.start c.loop-past.here c.loop-past.used c.loop-past.end c.loop-past.labels c.loop-past.first _ is _ k _ c.or_later-first.ensures,
       kept_label a.p.now (name_at a.p.now a.at) l.from l.front l.start l.last l.here l.used _ is l.invariant.7 l.invariant.3 l.invariant.4 _ k,
     )
 
@@ -70,9 +67,9 @@ loop-past-preserved c = let l = c.loop-past in
       omega arith,
       omega arith,
       later-zero l.front l.used _ g,
-      l.invariant.6 ∙ pointer_span _ _ _ _ _ _ _ _ is _ k _ c.or_later-end.ensures,
+      l.invariant.6 ∙ pointer_span c.args.p.now c.loop-past.start c.loop-past.here c.loop-past.used c.loop-past.end c.loop-past.labels c.loop-past.first _ is _ k _ c.or_later-end.ensures,
       kept-pointer a.p.now (name_at a.p.now a.at) l.from l.front l.start l.last l.here l.used _ is l.invariant.7 l.invariant.2 l.invariant.3 l.invariant.5 _ k _ _ f g,
     )
 
 pub returns-in-Bad : goal.returns-in-Bad
-returns-in-Bad c = (seen_bad _ _ _ _ _ _ _ _ c.piece_at.ensures c.in-Bad.is ∙ sym c.loop-past.invariant.6, tt)
+returns-in-Bad c = record { span = seen_bad c.args.p.now c.loop-past.start c.loop-past.here c.loop-past.used c.loop-past.end c.loop-past.labels c.loop-past.first _ c.piece_at.ensures c.in-Bad.is ∙ sym c.loop-past.invariant.6; bytes = tt }
