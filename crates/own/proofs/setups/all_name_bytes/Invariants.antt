@@ -1,0 +1,14 @@
+use borrow.Author.Tests.{not-true, not-false}
+use Prim.Native.Nat.{◌≤◌, ◌-◌}
+use mathlib.Core.Path.{◌≡◌, refl}
+use lib.ListN.{length, drop}
+use native.Mathlib.Omega.{arith}
+use Rattle.own.specs.records.Setups.{all_name_bytes}
+use Rattle.own.proofs.setups.Rules.{bytes_end, bytes_stop, bytes_on}
+use Rattle.own.proofs.setups.all_name_bytes.Given as goal
+
+abbrev pub invariant-loop-i : goal.invariant-loop-i
+invariant-loop-i l = (l.i ≤ length l.s) × (all_name_bytes l.s ≡ all_name_bytes (drop l.i l.s))
+
+abbrev pub decreases-loop-i : goal.decreases-loop-i
+decreases-loop-i l = length l.s - l.i

@@ -1,0 +1,11 @@
+use Rattle.own.proofs.records.Arrays.{sized}
+use Prim.Native.Nat.{ℕ}
+use native.Mathlib.Omega.{arith}
+use Rattle.own.proofs.setups.Rules.{label-empty, label-most}
+use Rattle.own.proofs.setups.label_fits.Goals as goal
+
+pub returns-then-l-eq0 : goal.returns-then-l-eq0
+returns-then-l-eq0 c = label-empty _ (omega arith)
+
+pub returns : goal.returns
+returns c = label-most _ c.if-l-eq0.false (sized c.args.l.bytes 63 c.before.before.before.well-formed.0.1.1.0.1.0.1)

@@ -1,0 +1,25 @@
+use borrow.Author.Tests.{not-true, not-false}
+use native.Mathlib.Omega.{arith}
+use mathlib.Core.Path.{◌≡◌, refl}
+use mathlib.Core.Bool.{◌&&◌}
+use mathlib.Core.Logic.{⊎_elim}
+use Prim.Native.Nat.{◌≤◌, ◌-◌}
+use lib.ListN.{length, drop}
+use Rattle.own.specs.utf8.Utf8.{all_plain}
+use Rattle.own.proofs.utf8.Bytes.{plain-on, plain-lost, plain_end}
+use Rattle.own.proofs.utf8.all_plain.Goals as goal
+
+pub loop-i-init : goal.loop-i-init
+loop-i-init c = (omega arith, refl)
+
+pub loop-i-preserved : goal.loop-i-preserved
+loop-i-preserved c = (
+  omega arith,
+  ⊎_elim
+      (λ w. plain-lost _ c.loop-i.i (omega arith) c.loop-i.plain c.loop-i.invariant.1 _ c.is_within.ensures (not-true _ w.0.taken) _ w.1)
+      (λ w. plain-on _ c.loop-i.i (omega arith) c.loop-i.plain c.loop-i.invariant.1 _ c.is_within.ensures (not-false _ w.0.left) _ w.1)
+      c.if-not-is_within.branch,
+)
+
+pub returns : goal.returns
+returns c = plain_end _ c.loop-i.i _ (omega arith) c.loop-i.invariant.1

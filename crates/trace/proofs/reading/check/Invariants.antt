@@ -1,0 +1,15 @@
+use Rattle.trace.proofs.reading.Begun.{step_end}
+use mathlib.Core.Path.{◌≡◌, refl, sym, ap, ◌∙◌}
+use Prim.Native.Nat.{ℕ, ◌+◌, ◌-◌, ◌≤◌}
+use native.Mathlib.Omega.{arith}
+use lib.ListN.{length}
+use Rattle.trace.specs.reading.Events.{read_from, checked_of}
+use Rattle.trace.proofs.reading.Placed.{placed}
+use Rattle.trace.proofs.reading.Unrolled.{read_on, read_end, read_refused}
+use Rattle.trace.proofs.reading.check.Given as goal
+
+abbrev pub invariant-loop-at : goal.invariant-loop-at
+invariant-loop-at l = (l.at ≤ length l.trace) × ((read_from l.trace 0).fault ≡ (read_from l.trace l.at).fault)
+
+abbrev pub decreases-loop-at : goal.decreases-loop-at
+decreases-loop-at l = length l.trace - l.at
