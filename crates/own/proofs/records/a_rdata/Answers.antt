@@ -3,4 +3,4 @@ use Rattle.own.proofs.records.Laying.{own_of_lem}
 use Rattle.own.proofs.records.a_rdata.Goals as goal
 
 pub returns : goal.returns
-returns c = own_of_lem c.args.t1 _ 4 c.put.ensures (omega arith) (omega arith)
+returns c = own_of_lem c.args.a _ 4 c.put.ensures (omega arith) (omega arith)

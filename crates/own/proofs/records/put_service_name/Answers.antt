@@ -4,13 +4,13 @@ use Rattle.own.proofs.records.Laying.{held_in_lem, laid-service}
 use Rattle.own.proofs.records.put_service_name.Goals as goal
 
 pub put_held-a-requires : goal.put_held-a-requires
-put_held-a-requires c = (omega (arith, sized c.args.s.service.bytes 16 c.before.before.before.before.before.well-formed.1.1.0.1.1.1.0.1.1.0.1.0.1), omega (arith, sized c.args.s.service.bytes 16 c.before.before.before.before.before.well-formed.1.1.0.1.1.1.0.1.1.0.1.0.1))
+put_held-a-requires c = (omega (arith, c.well_formed.1.1.0.1.1.1.0.1.1.0.1.0.1), omega (arith, c.well_formed.1.1.0.1.1.1.0.1.1.0.1.0.1))
 
 pub put_protocol-b-requires : goal.put_protocol-b-requires
-put_protocol-b-requires c = omega (arith, c.put_held-a.ensures.ended, c.put_held-a.ensures.few, sized c.args.s.service.bytes 16 c.before.before.before.before.before.before.before.well-formed.1.1.0.1.1.1.0.1.1.0.1.0.1)
+put_protocol-b-requires c = omega (arith, c.put_held-a.ensures.ended, c.put_held-a.ensures.few, c.well_formed.1.1.0.1.1.1.0.1.1.0.1.0.1)
 
 pub put_local-requires : goal.put_local-requires
-put_local-requires c = omega (arith, c.put_held-a.ensures.ended, c.put_held-a.ensures.few, c.put_protocol-b.ensures.ended, c.put_protocol-b.ensures.few, sized c.args.s.service.bytes 16 c.before.before.before.before.before.before.before.before.before.well-formed.1.1.0.1.1.1.0.1.1.0.1.0.1)
+put_local-requires c = omega (arith, c.put_held-a.ensures.ended, c.put_held-a.ensures.few, c.put_protocol-b.ensures.ended, c.put_protocol-b.ensures.few, c.well_formed.1.1.0.1.1.1.0.1.1.0.1.0.1)
 
 pub returns : goal.returns
-returns c = laid-service _ _ _ _ _ _ _ _ _ (held_in_lem _ _ c.args.s.service.len c.args.s.service.bytes _ _ 16 (sized c.args.s.service.bytes 16 c.before.before.before.before.before.before.before.before.before.before.well-formed.1.1.0.1.1.1.0.1.1.0.1.0.1) c.put_held-a.ensures) c.put_protocol-b.ensures c.put_local.ensures
+returns c = laid-service _ _ _ _ _ _ _ _ _ (held_in_lem _ _ c.args.s.service.len c.args.s.service.bytes _ _ 16 (c.well_formed.1.1.0.1.1.1.0.1.1.0.1.0.1) c.put_held-a.ensures) c.put_protocol-b.ensures c.put_local.ensures

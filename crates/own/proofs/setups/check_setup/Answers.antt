@@ -19,4 +19,4 @@ pub returns-then-not-domain_fits : goal.returns-then-not-domain_fits
 returns-then-not-domain_fits c = not-domain _ _ c.instance_fits.ensures (c.if-not-instance_fits.false) _ c.service_fits.ensures (c.if-not-service_fits.false) _ c.protocol_fits.ensures (c.if-not-protocol_fits.false) _ c.label_fits.ensures (c.if-not-label_fits.false) _ c.domain_fits.ensures (c.if-not-domain_fits.true)
 
 pub returns : goal.returns
-returns c = all-but_txt _ _ c.instance_fits.ensures (c.if-not-instance_fits.false) _ c.service_fits.ensures (c.if-not-service_fits.false) _ c.protocol_fits.ensures (c.if-not-protocol_fits.false) _ c.label_fits.ensures (c.if-not-label_fits.false) _ c.domain_fits.ensures (c.if-not-domain_fits.false) _ c.txt_fits.ensures (sized c.args.s.a 4 c.before.before.before.before.before.before.before.before.before.before.before.before.before.before.before.before.before.well-formed.0.1.1.1.1.1.1.1.1.1.0.1.0.1) (sized c.args.s.aaaa 16 c.before.before.before.before.before.before.before.before.before.before.before.before.before.before.before.before.before.well-formed.0.1.1.1.1.1.1.1.1.1.1.1.0.1.0.1)
+returns c = all-but_txt _ _ c.instance_fits.ensures (c.if-not-instance_fits.false) _ c.service_fits.ensures (c.if-not-service_fits.false) _ c.protocol_fits.ensures (c.if-not-protocol_fits.false) _ c.label_fits.ensures (c.if-not-label_fits.false) _ c.domain_fits.ensures (c.if-not-domain_fits.false) _ c.txt_fits.ensures (c.well_formed.0.1.1.1.1.1.1.1.1.1.0.1.0.1) (c.well_formed.0.1.1.1.1.1.1.1.1.1.1.1.0.1.0.1)

@@ -9,6 +9,7 @@ use native.Mathlib.Omega.{arith}
 use Rattle.own.specs.records.Setups.{hyphens_apart}
 use Rattle.own.proofs.setups.Rules.{hyphens_end, hyphen_barred, hyphen_on, other-on}
 use Rattle.own.proofs.setups.hyphens_apart.Goals as goal
+use Rattle.own.proofs.setups.hyphens_apart.Goals.{then-s-i-eq45+else-barred, else-s-i-eq45}
 
 pub loop-i-init : goal.loop-i-init
 loop-i-init c = (omega arith, refl)
@@ -19,10 +20,9 @@ returns-then-barred c = hyphen_barred _ c.loop-i.i (omega arith) _ c.loop-i.inva
 pub loop-i-preserved : goal.loop-i-preserved
 loop-i-preserved c = (
   omega arith,
-  ⊎_elim
-      (λ w. hyphen_on _ c.loop-i.i (omega arith) _ c.loop-i.invariant.1 w.0.taken w.1.left _ w.2)
-      (λ w. other-on _ c.loop-i.i (omega arith) _ c.loop-i.invariant.1 w.0.left _ w.1)
-      c.if-s-i-eq45.branch,
+  elim c.if-s-i-eq45.branch [
+      then-s-i-eq45+else-barred w ↦ hyphen_on _ c.loop-i.i (omega arith) _ c.loop-i.invariant.1 w.if-s-i-eq45.true w.if-barred.false _ w.barred-is
+      | else-s-i-eq45 w ↦ other-on _ c.loop-i.i (omega arith) _ c.loop-i.invariant.1 w.if-s-i-eq45.false _ w.barred-is ],
 )
 
 pub returns : goal.returns

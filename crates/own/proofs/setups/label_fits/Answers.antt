@@ -8,4 +8,4 @@ pub returns-then-l-eq0 : goal.returns-then-l-eq0
 returns-then-l-eq0 c = label-empty _ (omega arith)
 
 pub returns : goal.returns
-returns c = label-most _ c.if-l-eq0.false (sized c.args.l.bytes 63 c.before.before.before.well-formed.0.1.1.0.1.0.1)
+returns c = label-most _ c.if-l-eq0.false (c.well_formed.0.1.1.0.1.0.1)

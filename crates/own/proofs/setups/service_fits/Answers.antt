@@ -12,10 +12,10 @@ pub returns-then-len-gt-MOST_SERVICE : goal.returns-then-len-gt-MOST_SERVICE
 returns-then-len-gt-MOST_SERVICE c = service-many _ (omega arith) (omega arith)
 
 pub slice_bounds-bytes-end : goal.slice_bounds-bytes-end
-slice_bounds-bytes-end c = omega (arith, sized c.args.l.bytes 16 c.before.before.before.well-formed.0.1.1.0.1.0.1)
+slice_bounds-bytes-end c = omega (arith, c.well_formed.0.1.1.0.1.0.1)
 
 pub slice_bounds-service_rule-end : goal.slice_bounds-service_rule-end
-slice_bounds-service_rule-end c = sym (length-take-le _ c.args.l.bytes (omega (arith, sized c.args.l.bytes 16 c.before.before.before.before.well-formed.0.1.1.0.1.0.1)))
+slice_bounds-service_rule-end c = sym (length-take-le _ c.args.l.bytes (omega (arith, c.well_formed.0.1.1.0.1.0.1)))
 
 pub returns : goal.returns
-returns c = service-so _ (omega arith) (omega arith) (sized c.args.l.bytes 16 c.before.before.before.before.before.well-formed.0.1.1.0.1.0.1) _ c.service_rule.ensures
+returns c = service-so _ (omega arith) (omega arith) (c.well_formed.0.1.1.0.1.0.1) _ c.service_rule.ensures

@@ -12,10 +12,10 @@ pub returns-then-len-gt-MOST_TXT : goal.returns-then-len-gt-MOST_TXT
 returns-then-len-gt-MOST_TXT c = txt-many _ c.if-len-eq0.false (omega arith)
 
 pub slice_bounds-bytes-end : goal.slice_bounds-bytes-end
-slice_bounds-bytes-end c = omega (arith, sized c.args.t.bytes 400 c.before.before.before.well-formed.0.1.1.0.1.0.1)
+slice_bounds-bytes-end c = omega (arith, c.well_formed.0.1.1.0.1.0.1)
 
 pub slice_bounds-strings_fill-end : goal.slice_bounds-strings_fill-end
-slice_bounds-strings_fill-end c = sym (length-take-le _ c.args.t.bytes (omega (arith, sized c.args.t.bytes 400 c.before.before.before.before.well-formed.0.1.1.0.1.0.1)))
+slice_bounds-strings_fill-end c = sym (length-take-le _ c.args.t.bytes (omega (arith, c.well_formed.0.1.1.0.1.0.1)))
 
 pub returns : goal.returns
-returns c = txt-so _ c.if-len-eq0.false (omega arith) (sized c.args.t.bytes 400 c.before.before.before.before.before.well-formed.0.1.1.0.1.0.1) _ c.strings_fill.ensures
+returns c = txt-so _ c.if-len-eq0.false (omega arith) (c.well_formed.0.1.1.0.1.0.1) _ c.strings_fill.ensures

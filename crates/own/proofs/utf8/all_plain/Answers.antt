@@ -8,6 +8,7 @@ use lib.ListN.{length, drop}
 use Rattle.own.specs.utf8.Utf8.{all_plain}
 use Rattle.own.proofs.utf8.Bytes.{plain-on, plain-lost, plain_end}
 use Rattle.own.proofs.utf8.all_plain.Goals as goal
+use Rattle.own.proofs.utf8.all_plain.Goals.{then-not-is_within, else-not-is_within}
 
 pub loop-i-init : goal.loop-i-init
 loop-i-init c = (omega arith, refl)
@@ -15,10 +16,9 @@ loop-i-init c = (omega arith, refl)
 pub loop-i-preserved : goal.loop-i-preserved
 loop-i-preserved c = (
   omega arith,
-  ⊎_elim
-      (λ w. plain-lost _ c.loop-i.i (omega arith) c.loop-i.plain c.loop-i.invariant.1 _ c.is_within.ensures (not-true _ w.0.taken) _ w.1)
-      (λ w. plain-on _ c.loop-i.i (omega arith) c.loop-i.plain c.loop-i.invariant.1 _ c.is_within.ensures (not-false _ w.0.left) _ w.1)
-      c.if-not-is_within.branch,
+  elim c.if-not-is_within.branch [
+      then-not-is_within w ↦ plain-lost _ c.loop-i.i (omega arith) c.loop-i.plain c.loop-i.invariant.1 _ c.is_within.ensures w.if-not-is_within.true _ w.plain-is
+      | else-not-is_within w ↦ plain-on _ c.loop-i.i (omega arith) c.loop-i.plain c.loop-i.invariant.1 _ c.is_within.ensures w.if-not-is_within.false _ w.plain-is ],
 )
 
 pub returns : goal.returns
