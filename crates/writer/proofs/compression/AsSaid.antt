@@ -18,6 +18,7 @@ use Rattle.writer.specs.compression.Sentence.{Among, first, later, Stands, label
 use Rattle.writer.proofs.compression.ByLabels.{cut_at, none_at, by_labels, places_by, by-labels, places-by}
 
 above : {m n o : ℕ} {os : List ℕ} → Rising m n os → Among o os → m ≤ o
+above {o = o} (empty {m = m} {n = n} _) i = elim i [ ]
 above (next h r) first = h
 above (next h r) (later i) = omega (arith, above r i)
 

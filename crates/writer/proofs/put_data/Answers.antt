@@ -5,62 +5,51 @@ use Rattle.writer.proofs.Rdata.{behind-fits, front_fits, name-between, target-re
 use Rattle.writer.proofs.put_data.Goals as goal
 
 pub overflow_sub-tail : goal.overflow_sub-tail
-overflow_sub-tail c = let s = c.before.before.before.before.before in
-    let a = s.args in
-    behind-fits a.known a.at a.count a.tried a.held a.d.now a.out.now a.places.now s.requires c.if-held.true
+overflow_sub-tail c = let a = c.args in
+    behind-fits a.known a.at a.count a.tried a.held a.d.now a.out.now a.places.now c.requires c.if-held.true
 
 pub slice_bounds-put-end : goal.slice_bounds-put-end
-slice_bounds-put-end c = let s = c.before.before.before.before.before.before.before in
-    let a = s.args in
+slice_bounds-put-end c = let a = c.args in
     sym (length-take-le _ a.d.now (front_fits a.known a.at a.count a.tried a.held a.d.now a.out.now a.places.now
-    s.requires c.if-held.true))
+    c.requires c.if-held.true))
 
 pub overflow_add-at : goal.overflow_add-at
-overflow_add-at c = let s = c.before.before.before.before.before.before.before.before.before.before.before in
-    let a = s.args in
+overflow_add-at c = let a = c.args in
     omega (
       arith,
-      front_fits a.known a.at a.count a.tried a.held a.d.now a.out.now a.places.now s.requires c.if-held.true,
-      s.requires.room,
+      front_fits a.known a.at a.count a.tried a.held a.d.now a.out.now a.places.now c.requires c.if-held.true,
+      c.requires.room,
     )
 
 pub slice_bounds-put_name-count : goal.slice_bounds-put_name-count
-slice_bounds-put_name-count c = let s = c.before.before.before.before.before.before.before.before.before.before.before.before in
-    let a = s.args in
-    name-between a.known a.at a.count a.tried a.held a.d.now a.out.now a.places.now s.requires c.if-held.true
+slice_bounds-put_name-count c = let a = c.args in
+    name-between a.known a.at a.count a.tried a.held a.d.now a.out.now a.places.now c.requires c.if-held.true
 
 pub slice_bounds-put_name-start : goal.slice_bounds-put_name-start
-slice_bounds-put_name-start c = let s = c.before.before.before.before.before.before.before.before.before.before.before.before in
-    let a = s.args in
-    name-between a.known a.at a.count a.tried a.held a.d.now a.out.now a.places.now s.requires c.if-held.true
+slice_bounds-put_name-start c = let a = c.args in
+    name-between a.known a.at a.count a.tried a.held a.d.now a.out.now a.places.now c.requires c.if-held.true
 
 pub put_name-named-requires : goal.put_name-named-requires
-put_name-named-requires c = let s = c.before.before.before.before.before.before.before.before.before.before.before.before.before in
-    let a = s.args in
-    target-ready a.known a.at a.count a.tried a.held a.d.now a.out.now a.places.now s.requires c.if-held.true _
+put_name-named-requires c = let a = c.args in
+    target-ready a.known a.at a.count a.tried a.held a.d.now a.out.now a.places.now c.requires c.if-held.true _
     c.put.ensures
 
 pub overflow_add-result : goal.overflow_add-result
-overflow_add-result c = let s = c.before.before.before.before.before.before.before.before.before.before.before.before.before.before.before.before.before.before.before.before.before.before.before.before in
-    let a = s.args in
-    let n = c.before.before.before.before.before.before.before.before.before.before in
+overflow_add-result c = let a = c.args in
     omega (
       arith,
-      target-end a.known a.at a.count a.tried a.held a.d.now a.out.now a.places.now s.pre n.before.before.before.before.before.before.before.before.before.before.if1.true _
-          n.before.before.before.before.before.before.put.ensures n.put-name.result _ _ n.put-name.ensures,
-      s.pre.room,
+      target-end a.known a.at a.count a.tried a.held a.d.now a.out.now a.places.now c.requires c.if-held.true _
+          c.put.ensures c.put_name-named.result _ _ c.put_name-named.ensures,
+      c.requires.room,
     )
 
 pub returns-then-held : goal.returns-then-held
-returns-then-held c = let s = c.before.before.before.before.before.before.before.before.before.before.before.before.before.before.before.before.before.before.before.before.before.before.before.before in
-    let a = s.args in
-    let n = c.before.before.before.before.before.before.before.before.before.before in
-    wrote_target a.known a.at a.count a.tried a.held a.d.now a.out.now a.places.now s.pre n.before.before.before.before.before.before.before.before.before.before.if1.true _
-    n.before.before.before.before.before.before.put.ensures n.put-name.result _ _ n.put-name.ensures _
+returns-then-held c = let a = c.args in
+    wrote_target a.known a.at a.count a.tried a.held a.d.now a.out.now a.places.now c.requires c.if-held.true _
+    c.put.ensures c.put_name-named.result _ _ c.put_name-named.ensures _
     c.put-then-held.ensures
 
 pub returns : goal.returns
-returns c = let s = c.before.before.before.before.before.before.before.before in
-    let a = s.args in
-    wrote_plain a.known a.at a.count a.tried a.held a.d.now a.out.now a.places.now s.requires c.if-held.false _
+returns c = let a = c.args in
+    wrote_plain a.known a.at a.count a.tried a.held a.d.now a.out.now a.places.now c.requires c.if-held.false _
     c.put-2.ensures

@@ -18,7 +18,6 @@ write_question-requires c = record {
     }
 
 pub returns : goal.returns
-returns c = let ten = c.before.before.before.before.before.before.before.before.before.before in
-    placed-done _ _ _ _ _ _ ten.is_name.ensures (c.if-not-is_name.false) _
+returns c = placed-done _ _ _ _ _ _ c.is_name.ensures (c.if-not-is_name.false) _
     c.name_fits.ensures
     (c.if-not-name_fits.false) _ _ _ c.write_question.ensures

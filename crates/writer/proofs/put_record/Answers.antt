@@ -21,7 +21,6 @@ write_record-requires c = record {
     }
 
 pub returns : goal.returns
-returns c = let ten = c.before.before.before.before.before.before.before.before.before.before in
-    placed-done _ _ _ _ _ _ ten.fit-record.ensures (c.if-not-fit_record.false) _
+returns c = placed-done _ _ _ _ _ _ c.fit_record.ensures (c.if-not-fit_record.false) _
     c.record_fits.ensures
     (c.if-not-record_fits.false) _ _ _ c.write_record.ensures

@@ -8,9 +8,8 @@ put_name-a-requires c = let a = c.args in
     name-ready a.at a.count a.name.now 4 0 a.out.now a.places.now room
 
 pub put_u16-requires : goal.put_u16-requires
-put_u16-requires c = let ten = c.before.before.before.before.before.before.before.before.before.before in
-    let a = ten.before.args in
-    let room = question-front a.at a.count a.name.now a.out.now a.places.now ten.before.requires in (
+put_u16-requires c = let a = c.args in
+    let room = question-front a.at a.count a.name.now a.out.now a.places.now c.requires in (
       omega (
         arith,
         first-room a.at a.count a.name.now 4 0 a.out.now a.places.now room
@@ -20,9 +19,8 @@ put_u16-requires c = let ten = c.before.before.before.before.before.before.befor
     )
 
 pub overflow_add-e : goal.overflow_add-e
-overflow_add-e c = let ten = c.before.before.before.before.before.before.before.before.before.before in
-    let a = ten.before.before.before.before.before.args in
-    let room = question-front a.at a.count a.name.now a.out.now a.places.now ten.before.before.before.before.before.requires in
+overflow_add-e c = let a = c.args in
+    let room = question-front a.at a.count a.name.now a.out.now a.places.now c.requires in
     omega (
       arith,
       first-room a.at a.count a.name.now 4 0 a.out.now a.places.now room
@@ -31,9 +29,8 @@ overflow_add-e c = let ten = c.before.before.before.before.before.before.before.
     )
 
 pub put_u16-requires-2 : goal.put_u16-requires-2
-put_u16-requires-2 c = let ten = c.before.before.before.before.before.before.before.before.before.before in
-    let a = ten.before.before.before.before.before.args in
-    let room = question-front a.at a.count a.name.now a.out.now a.places.now ten.before.before.before.before.before.requires in (
+put_u16-requires-2 c = let a = c.args in
+    let room = question-front a.at a.count a.name.now a.out.now a.places.now c.requires in (
       omega (
         arith,
         question-room a.at a.count a.name.now 4 0 a.out.now a.places.now room
@@ -45,21 +42,19 @@ put_u16-requires-2 c = let ten = c.before.before.before.before.before.before.bef
     )
 
 pub overflow_add-result : goal.overflow_add-result
-overflow_add-result c = let ten = c.before.before.before.before.before.before.before.before.before.before in
-    let a = ten.before.before.before.before.before.before.before.before.args in
+overflow_add-result c = let a = c.args in
     let room = question-front a.at a.count a.name.now a.out.now a.places.now
-    ten.before.before.before.before.before.before.before.before.requires in
+    c.requires in
     omega (
       arith,
-      first-room a.at a.count a.name.now 4 0 a.out.now a.places.now room ten.before.before.put-name.result _ _
-          ten.before.before.put-name.ensures,
+      first-room a.at a.count a.name.now 4 0 a.out.now a.places.now room c.put_name-a.result _ _
+          c.put_name-a.ensures,
     )
 
 pub returns : goal.returns
-returns c = let ten = c.before.before.before.before.before.before.before.before.before.before in
-    let a = ten.before.before.before.before.before.before.before.before.args in
+returns c = let a = c.args in
     let room = question-front a.at a.count a.name.now a.out.now a.places.now
-    ten.before.before.before.before.before.before.before.before.requires in
-    question-grown a.at a.count a.name.now 4 0 a.out.now a.places.now room ten.before.before.put-name.result _ _
-    ten.before.before.put-name.ensures _ _ _ c.put_u16.ensures (omega arith) _
+    c.requires in
+    question-grown a.at a.count a.name.now 4 0 a.out.now a.places.now room c.put_name-a.result _ _
+    c.put_name-a.ensures _ _ _ c.put_u16.ensures (omega arith) _
     c.put_u16-2.ensures

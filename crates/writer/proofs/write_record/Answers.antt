@@ -14,9 +14,8 @@ put_name-a-requires c = let a = c.args in
     name-ready a.at a.count a.owner.now (10 + length a.d.now) (labels_for (form_for a.owner.now a.rtype a.d.now) a.d.now) a.out.now a.places.now room.front
 
 pub overflow_add-body : goal.overflow_add-body
-overflow_add-body c = let ten = c.before.before.before.before.before.before.before.before.before.before in
-    let a = ten.before.args in
-    let room = record_room a.at a.count a.owner.now a.rtype a.ttl a.d.now a.out.now a.places.now ten.before.requires in
+overflow_add-body c = let a = c.args in
+    let room = record_room a.at a.count a.owner.now a.rtype a.ttl a.d.now a.out.now a.places.now c.requires in
     omega (
       arith,
       first-room a.at a.count a.owner.now (10 + length a.d.now) (labels_for (form_for a.owner.now a.rtype a.d.now) a.d.now) a.out.now a.places.now
@@ -24,40 +23,35 @@ overflow_add-body c = let ten = c.before.before.before.before.before.before.befo
     )
 
 pub put_data-b-requires : goal.put_data-b-requires
-put_data-b-requires c = let ten = c.before.before.before.before.before.before.before.before.before.before in
-    let a = ten.before.before.before.before.before.args in
+put_data-b-requires c = let a = c.args in
     let room = record_room a.at a.count a.owner.now a.rtype a.ttl a.d.now a.out.now a.places.now
-    ten.before.before.before.before.before.requires in
+    c.requires in
     data_ready a.at a.count a.owner.now (10 + length a.d.now) (labels_for (form_for a.owner.now a.rtype a.d.now) a.d.now) a.out.now a.places.now room.front
     c.put_name-a.result _ _
     c.put_name-a.ensures a.rtype a.d.now room.shaped room.short refl refl a.whole _
     c.tried_for-tried.ensures _ c.form_for-held.ensures
 
 pub put_fields-requires : goal.put_fields-requires
-put_fields-requires c = let ten = c.before.before.before.before.before.before.before.before.before.before in
-    let twenty = ten.before.before.before.before.before.before.before.before.before.before in
-    let a = twenty.before.args in
-    let room = record_room a.at a.count a.owner.now a.rtype a.ttl a.d.now a.out.now a.places.now twenty.before.requires in (
+put_fields-requires c = let a = c.args in
+    let room = record_room a.at a.count a.owner.now a.rtype a.ttl a.d.now a.out.now a.places.now c.requires in (
       fields-room a.at a.count a.owner.now (10 + length a.d.now) (labels_for (form_for a.owner.now a.rtype a.d.now) a.d.now) a.out.now a.places.now room.front
-          ten.before.before.before.before.put-name.result _ _ ten.before.before.before.before.put-name.ensures a.rtype a.d.now
+          c.put_name-a.result _ _ c.put_name-a.ensures a.rtype a.d.now
           room.shaped room.short
           refl refl a.whole _ c.tried_for-tried.ensures _ c.form_for-held.ensures
           c.put_data-b.result _ _ c.put_data-b.ensures,
       data_fits a.at a.count a.owner.now (10 + length a.d.now) (labels_for (form_for a.owner.now a.rtype a.d.now) a.d.now) a.out.now a.places.now room.front
-          ten.before.before.before.before.put-name.result _ _ ten.before.before.before.before.put-name.ensures a.rtype a.d.now
+          c.put_name-a.result _ _ c.put_name-a.ensures a.rtype a.d.now
           room.shaped room.short
           refl refl a.whole _ c.tried_for-tried.ensures _ c.form_for-held.ensures
           c.put_data-b.result _ _ c.put_data-b.ensures,
     )
 
 pub returns : goal.returns
-returns c = let ten = c.before.before.before.before.before.before.before.before.before.before in
-    let twenty = ten.before.before.before.before.before.before.before.before.before.before in
-    let a = twenty.before.before.before.before.args in
+returns c = let a = c.args in
     let room = record_room a.at a.count a.owner.now a.rtype a.ttl a.d.now a.out.now a.places.now
-    twenty.before.before.before.before.requires in
+    c.requires in
     record_grown a.at a.count a.owner.now (10 + length a.d.now) (labels_for (form_for a.owner.now a.rtype a.d.now) a.d.now) a.out.now a.places.now room.front
-    ten.before.before.before.before.before.before.before.put-name.result _ _ ten.before.before.before.before.before.before.before.put-name.ensures
-    a.rtype a.d.now room.shaped room.short refl refl a.whole _ ten.before.before.tried-for.ensures _ ten.before.form-for.ensures
+    c.put_name-a.result _ _ c.put_name-a.ensures
+    a.rtype a.d.now room.shaped room.short refl refl a.whole _ c.tried_for-tried.ensures _ c.form_for-held.ensures
     c.put_data-b.result _ _
     c.put_data-b.ensures _ _ _ c.put_fields.ensures

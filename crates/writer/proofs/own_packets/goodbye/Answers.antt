@@ -20,21 +20,16 @@ returns-then-parting-eq0 c = let a = c.args in
     (c.if-not-check_setup.false) goodbye_style refl (fixed {ttl = 0} (omega arith)) _ _ c.pick-parting.ensures c.if-parting-eq0.true in record { answer = all.0; out = all.1.0; number = all.1.1.0; sent = all.1.1.1 }
 
 pub write_packet-requires : goal.write_packet-requires
-write_packet-requires c = let ten = c.before.before.before.before.before.before.before.before.before.before in
-    let a = ten.args in
-    let p = c.pick-parting.ensures in (
-      response_ready a.s a.out.now c.if-out-lt-LEAST_OUT.false _
+write_packet-requires c = let a = c.args in
+    let p = c.pick-parting.ensures in record { packet_ready = response_ready a.s a.out.now c.if-out-lt-LEAST_OUT.false _
           c.check_setup.ensures
-          (c.if-not-check_setup.false) goodbye_style refl (fixed {ttl = 0} (omega arith)) _ _ p _ c.goodbye_style.ensures,
-      (p.few, p.sized),
-    )
+          (c.if-not-check_setup.false) goodbye_style refl (fixed {ttl = 0} (omega arith)) _ _ p _ c.goodbye_style.ensures; n_le_records = (p.few, p.sized) }
 
 pub returns : goal.returns
 unfolding goodbye_packet
-returns c = let ten = c.before.before.before.before.before.before.before.before.before.before in
-    let a = ten.before.before.before.args in
+returns c = let a = c.args in
     let p = c.pick-parting.ensures in
     let w = c.write_packet.ensures in
-    let all = response_sent a.s a.out.now ten.before.if1.false _ ten.check-setup.ensures
+    let all = response_sent a.s a.out.now c.if-out-lt-LEAST_OUT.false _ c.check_setup.ensures
     (c.if-not-check_setup.false) goodbye_style refl (fixed {ttl = 0} (omega arith)) _ _ p
     c.if-parting-eq0.false _ c.goodbye_style.ensures _ _ w.value w.out_after in record { answer = all.0; out = all.1.0; number = all.1.1.0; sent = all.1.1.1 }

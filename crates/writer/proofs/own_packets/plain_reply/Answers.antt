@@ -8,48 +8,29 @@ pub returns-then-out-lt-LEAST_OUT : goal.returns-then-out-lt-LEAST_OUT
 returns-then-out-lt-LEAST_OUT c = let a = c.args in let all = refuse_3 a.s a.out.now _ c.if-out-lt-LEAST_OUT.true in record { answer = all.0; out = all.1.0; number = all.1.1.0; sent = all.1.1.1 }
 
 pub returns-then-not-check_setup : goal.returns-then-not-check_setup
-returns-then-not-check_setup c = let if1 = c.before.before in
-    let a = if1.before.before.before.args in
-    let all = refuse_7 a.s a.out.now if1.if1.false _ c.check_setup.ensures _ (c.if-not-check_setup.true) in record { answer = all.0; out = all.1.0; number = all.1.1.0; sent = all.1.1.1 }
+returns-then-not-check_setup c = let a = c.args in
+    let all = refuse_7 a.s a.out.now c.if-out-lt-LEAST_OUT.false _ c.check_setup.ensures _ (c.if-not-check_setup.true) in record { answer = all.0; out = all.1.0; number = all.1.1.0; sent = all.1.1.1 }
 
 pub returns-then-not-is_name : goal.returns-then-not-is_name
-returns-then-not-is_name c = let check = c.before.before.before in
-    let if1 = check.before in
-    let a = if1.before.before.before.args in
-    let all = unnamed a.s a.out.now if1.if1.false _ check.check-setup.ensures (c.if-not-check_setup.false) a.chosen a.id
+returns-then-not-is_name c = let a = c.args in
+    let all = unnamed a.s a.out.now c.if-out-lt-LEAST_OUT.false _ c.check_setup.ensures (c.if-not-check_setup.false) a.chosen a.id
     (question_of a.name.now a.qtype a.qclass) _ c.is_name.ensures (c.if-not-is_name.true) in record { answer = all.0; out = all.1.0; number = all.1.1.0; sent = all.1.1.1 }
 
 pub returns-then-records-eq0 : goal.returns-then-records-eq0
-returns-then-records-eq0 c = let pick = c.before.before in
-    let if3 = pick.before.before in
-    let if2 = if3.before.before in
-    let if1 = if2.before.before in
-    let a = if1.before.before.before.args in
-    let all = empty a.s a.out.now if1.if1.false _ if2.before.check-setup.ensures (not-false _ if2.if2.false) a.chosen a.id
-    (question_of a.name.now a.qtype a.qclass) _ if3.before.is_name.ensures (not-false _ if3.if3.false) _ pick.before.with-data.ensures _
-    pick.pick.ensures c.if-records-eq0.true in record { answer = all.0; out = all.1.0; number = all.1.1.0; sent = all.1.1.1 }
+returns-then-records-eq0 c = let a = c.args in
+    let all = empty a.s a.out.now c.if-out-lt-LEAST_OUT.false _ c.check_setup.ensures (c.if-not-check_setup.false) a.chosen a.id
+    (question_of a.name.now a.qtype a.qclass) _ c.is_name.ensures (c.if-not-is_name.false) _ c.with_data.ensures _
+    c.pick-records.ensures c.if-records-eq0.true in record { answer = all.0; out = all.1.0; number = all.1.1.0; sent = all.1.1.1 }
 
 pub write_packet-requires : goal.write_packet-requires
-write_packet-requires c = let pick = c.before.before.before.before in
-    let if3 = pick.before.before in
-    let if2 = if3.before.before in
-    let if1 = if2.before.before in
-    let a = if1.before.before.before.args in
-    let p = pick.pick.ensures in (
-      plain_ready a.s a.out.now if1.if1.false _ if2.before.check-setup.ensures (not-false _ if2.if2.false) a.chosen a.id
-          (question_of a.name.now a.qtype a.qclass) _ if3.before.is_name.ensures (not-false _ if3.if3.false) _ pick.before.with-data.ensures _
-          p _ c.plain_style-style.ensures,
-      (p.few, p.sized),
-    )
+write_packet-requires c = let a = c.args in
+    let p = c.pick-records.ensures in record { packet_ready = plain_ready a.s a.out.now c.if-out-lt-LEAST_OUT.false _ c.check_setup.ensures (c.if-not-check_setup.false) a.chosen a.id
+          (question_of a.name.now a.qtype a.qclass) _ c.is_name.ensures (c.if-not-is_name.false) _ c.with_data.ensures _
+          p _ c.plain_style-style.ensures; n_le_records = (p.few, p.sized) }
 
 pub returns : goal.returns
-returns c = let style = c.before.before.before.before in
-    let pick = style.before.before.before in
-    let if3 = pick.before.before in
-    let if2 = if3.before.before in
-    let if1 = if2.before.before in
-    let a = if1.before.before.before.args in
+returns c = let a = c.args in
     let w = c.write_packet.ensures in
-    let all = plain-sent a.s a.out.now if1.if1.false _ if2.before.check-setup.ensures (not-false _ if2.if2.false) a.chosen a.id
-    (question_of a.name.now a.qtype a.qclass) _ if3.before.is_name.ensures (not-false _ if3.if3.false) _ pick.before.with-data.ensures _
-    pick.pick.ensures style.before.if4.false _ style.plain-style.ensures _ _ w.value w.out_after in record { answer = all.0; out = all.1.0; number = all.1.1.0; sent = all.1.1.1 }
+    let all = plain-sent a.s a.out.now c.if-out-lt-LEAST_OUT.false _ c.check_setup.ensures (c.if-not-check_setup.false) a.chosen a.id
+    (question_of a.name.now a.qtype a.qclass) _ c.is_name.ensures (c.if-not-is_name.false) _ c.with_data.ensures _
+    c.pick-records.ensures c.if-records-eq0.false _ c.plain_style-style.ensures _ _ w.value w.out_after in record { answer = all.0; out = all.1.0; number = all.1.1.0; sent = all.1.1.1 }

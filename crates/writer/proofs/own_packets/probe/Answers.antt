@@ -16,27 +16,21 @@ slice_bounds-name-end c = own_fits (own_name c.args.s c.first_of.result) _
     c.own_name-owner.ensures
 
 pub slice_bounds-write_packet-end : goal.slice_bounds-write_packet-end
-slice_bounds-write_packet-end c = let ten = c.before.before.before.before.before.before.before.before.before.before in
-    own_long (own_name ten.args.s c.first_of.result) _ c.own_name-owner.ensures
+slice_bounds-write_packet-end c = own_long (own_name c.args.s c.first_of.result) _ c.own_name-owner.ensures
 
 pub write_packet-requires : goal.write_packet-requires
-write_packet-requires c = let ten = c.before.before.before.before.before.before.before.before.before.before in
-    let a = ten.before.args in
-    let p = c.pick_claim-list.ensures in (
-      probe-ready a.s a.out.now c.if-out-lt-LEAST_OUT.false _
+write_packet-requires c = let a = c.args in
+    let p = c.pick_claim-list.ensures in record { packet_ready = probe-ready a.s a.out.now c.if-out-lt-LEAST_OUT.false _
           c.check_setup.ensures
           (c.if-not-check_setup.false) a.claim _ p _
           c.first_of.ensures _
-          c.own_name-owner.ensures _ c.probe_style.ensures,
-      (p.few, p.sized),
-    )
+          c.own_name-owner.ensures _ c.probe_style.ensures; n_le_records = (p.few, p.sized) }
 
 pub returns : goal.returns
-returns c = let ten = c.before.before.before.before.before.before.before.before.before.before in
-    let a = ten.before.before.before.before.args in
+returns c = let a = c.args in
     let p = c.pick_claim-list.ensures in
     let w = c.write_packet.ensures in
-    let all = probe-sent a.s a.out.now ten.before.before.if1.false _ ten.before.check-setup.ensures (not-false _ ten.if2.false) a.claim _ p _
+    let all = probe-sent a.s a.out.now c.if-out-lt-LEAST_OUT.false _ c.check_setup.ensures (c.if-not-check_setup.false) a.claim _ p _
     c.first_of.ensures _
     c.own_name-owner.ensures _ c.probe_style.ensures _ _
     w.value w.out_after in record { answer = all.0; out = all.1.0; number = all.1.1.0; sent = all.1.1.1 }

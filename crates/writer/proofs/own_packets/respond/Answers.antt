@@ -20,21 +20,16 @@ returns-then-list-eq0 c = let a = c.args in
     (c.if-not-check_setup.false) (response_style a.id) refl each _ _ c.pick-list.ensures c.if-list-eq0.true in record { answer = all.0; out = all.1.0; number = all.1.1.0; sent = all.1.1.1 }
 
 pub write_packet-requires : goal.write_packet-requires
-write_packet-requires c = let ten = c.before.before.before.before.before.before.before.before.before.before in
-    let a = ten.args in
-    let p = c.pick-list.ensures in (
-      response_ready a.s a.out.now c.if-out-lt-LEAST_OUT.false _
+write_packet-requires c = let a = c.args in
+    let p = c.pick-list.ensures in record { packet_ready = response_ready a.s a.out.now c.if-out-lt-LEAST_OUT.false _
           c.check_setup.ensures
-          (c.if-not-check_setup.false) (response_style a.id) refl each _ _ p _ c.response_style.ensures,
-      (p.few, p.sized),
-    )
+          (c.if-not-check_setup.false) (response_style a.id) refl each _ _ p _ c.response_style.ensures; n_le_records = (p.few, p.sized) }
 
 pub returns : goal.returns
 unfolding response_packet
-returns c = let ten = c.before.before.before.before.before.before.before.before.before.before in
-    let a = ten.before.before.before.args in
+returns c = let a = c.args in
     let p = c.pick-list.ensures in
     let w = c.write_packet.ensures in
-    let all = response_sent a.s a.out.now ten.before.if1.false _ ten.check-setup.ensures
+    let all = response_sent a.s a.out.now c.if-out-lt-LEAST_OUT.false _ c.check_setup.ensures
     (c.if-not-check_setup.false) (response_style a.id) refl each _ _ p
     c.if-list-eq0.false _ c.response_style.ensures _ _ w.value w.out_after in record { answer = all.0; out = all.1.0; number = all.1.1.0; sent = all.1.1.1 }

@@ -22,16 +22,15 @@ write_own-r-requires c = let a = c.args.list in
     (listed_at a.order a.n l.j _ c.record_at-o.ensures (omega arith))
 
 pub loop-j-preserved : goal.loop-j-preserved
-loop-j-preserved c = let ten = c.before.before.before.before.before.before.before.before.before.before in
-    let a = ten.before.before.before.args.list in
+loop-j-preserved c = let a = c.args.list in
     let l = c.loop-j in
-    let pre = ten.before.before.before.requires in
-    let long = listed-length a.order a.n (omega (arith, pre.1.1)) in (
+    let pre = c.requires in
+    let long = listed-length a.order a.n (omega (arith, pre.n_le_records.1)) in (
       omega arith,
-      step _ _ _ _ _ _ _ _ _ _ _ l.invariant.1 pre.0.ok pre.0.counts (omega (arith, long)) _
+      step _ _ _ _ _ _ _ _ _ _ _ l.invariant.1 pre.list_ready.ok pre.list_ready.counts (omega (arith, long)) _
           (listed_at a.order a.n l.j _ c.record_at-o.ensures (omega arith)) _ _ _
           c.write_own-r.ensures
-          c.write_own-r.auto.1.1.1.0 c.write_own-r.auto.1.1.1.1.1.0,
+          c.write_own-r.auto.out c.write_own-r.auto.places,
     )
 
 pub returns : goal.returns

@@ -21,26 +21,20 @@ put_header-requires c = let a = c.args in
     }
 
 pub write_list-r-requires : goal.write_list-r-requires
-write_list-r-requires c = let ten = c.before.before.before.before.before.before.before.before.before.before in
-    let a = ten.before.before.before.before.before.before.before.before.before.args in
-    let pre = ten.before.before.before.before.before.before.before.before.before.requires in (
-      list_ready a.s a.style a.name.now a.list a.out.now pre.0 pre.1 _ _ _
-          ten.before.before.before.before.before.before.either.ensures ten.before.before.before.before.before.either2.ensures
-          ten.before.before.before.before.either3.ensures _ ten.put-header.ensures
+write_list-r-requires c = let a = c.args in
+    let pre = c.requires in record { list_ready = list_ready a.s a.style a.name.now a.list a.out.now pre.packet_ready pre.n_le_records _ _ _
+          c.either-questions.ensures c.either-answers.ensures
+          c.either-authorities.ensures _ c.put_header.ensures
           (replicate most_places 0) refl _ _ _ c.write_asked-q.ensures
-          c.write_asked-q.auto.1.1.0 c.write_asked-q.auto.1.1.1.0,
-      pre.1,
-    )
+          c.write_asked-q.auto.out c.write_asked-q.auto.places; n_le_records = pre.n_le_records }
 
 pub returns : goal.returns
-returns c = let ten = c.before.before.before.before.before.before.before.before.before.before in
-    let twenty = ten.before.before.before.before.before.before.before.before.before.before in
-    let a = twenty.before.before.before.args in
-    let pre = twenty.before.before.before.requires in
-    let all = packet_written a.s a.style a.name.now a.list a.out.now pre.0 pre.1 _ _ _ twenty.either.ensures
-    ten.before.before.before.before.before.before.before.before.before.either2.ensures
-    ten.before.before.before.before.before.before.before.before.either3.ensures _ ten.before.before.before.before.put-header.ensures
+returns c = let a = c.args in
+    let pre = c.requires in
+    let all = packet_written a.s a.style a.name.now a.list a.out.now pre.packet_ready pre.n_le_records _ _ _ c.either-questions.ensures
+    c.either-answers.ensures
+    c.either-authorities.ensures _ c.put_header.ensures
     (replicate most_places 0) refl _ _ _ c.write_asked-q.ensures
-    c.write_asked-q.auto.1.1.0
-    c.write_asked-q.auto.1.1.1.0
+    c.write_asked-q.auto.out
+    c.write_asked-q.auto.places
     _ _ _ c.write_list-r.ensures in record { value = all.0; out_after = all.1 }
