@@ -5,12 +5,12 @@ use mathlib.Core.Bool.{Bool, true, false, cond, ◌&&◌}
 use native.Mathlib.Omega.{arith}
 use lib.Dec.{leb}
 use borrow.Author.Tests.{le-leb}
-use Rattle.claims.specs.records.Own.{all, has}
+use Rattle.claims.specs.records.Own.{has}
 use Rattle.claims.specs.records.Sets.{every_of}
 use Rattle.claims.specs.Time.{last_time, last_due, after_ms, at_most, sent_of, marked, marked_all}
 use Rattle.claims.specs.Claims.{after_conflict, after_probe, begun_at}
 use Rattle.claims.specs.Refusals.{claim_kept, multicasts_kept, hold_kept, holds_kept, kept}
-use Rattle.claims.specs.holds.Holds.{no_hold, hold_at, with_hold, is_taken, is_from, union, knowing, knowing_all, queued}
+use Rattle.claims.specs.holds.Holds.{no_hold, with_hold, is_taken, is_from, union, knowing, knowing_all, queued}
 use Rattle.claims.specs.declared.ClaimState.{ClaimState}
 use Rattle.claims.specs.declared.ClaimState.TheVariants.{Waiting, Probing1, Probing2, Probing3, Deferred, Announced, Held, Lost}
 use Rattle.claims.specs.declared.Multicasts.{Multicasts}

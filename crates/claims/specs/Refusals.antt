@@ -1,6 +1,6 @@
 -- The refusals that are tests on times and draws (specification, 'Refusal numbers' 1, 2, and of 7 the kept start draw). Assumes nothing: these are
 -- definitions.
-use Rattle.std.specs.Prelude.{ℕ, Bool, true, not, ◌&&◌, ◌||◌, leb, ltb}
+use Rattle.std.specs.Prelude.{ℕ, Bool, not, ◌&&◌, ◌||◌, leb, ltb}
 use Rattle.claims.specs.Time.{last_time, last_kept, at_most, sent_of}
 use Rattle.claims.specs.Claims.{due_of}
 use Rattle.claims.specs.records.Own.{all}

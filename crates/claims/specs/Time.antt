@@ -1,6 +1,6 @@
 -- Times and how long ago they are (specification, 'What the dock does'): "Time is in milliseconds, 64 bits, at most 2^62. A kept time ahead of now counts as
 -- 0 ms ago." Assumes nothing: these are definitions.
-use Rattle.std.specs.Prelude.{ℕ, ◌+◌, ◌-◌, Bool, true, false, cond, List, map, leb, ltb, get_or}
+use Rattle.std.specs.Prelude.{ℕ, ◌+◌, ◌-◌, Bool, true, false, cond, map, leb, ltb, get_or}
 use Rattle.claims.specs.records.Own.{all, index_of, has}
 use Rattle.claims.specs.declared.records.Own.{Own}
 use Rattle.claims.specs.declared.records.Set.{Set}

@@ -1,4 +1,3 @@
-
 use Rattle.claims.proofs.after_conflict.Goals as goal
 
 pub returns-in-Announced : goal.returns-in-Announced

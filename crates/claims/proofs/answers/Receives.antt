@@ -33,7 +33,6 @@ use Rattle.claims.proofs.answers.Causes.{held-or_judged}
 use Rattle.claims.specs.declared.answers.Heard.{Heard}
 use Rattle.claims.specs.declared.answers.Facts.{Facts}
 use Rattle.claims.specs.declared.answers.Coming.{Coming}
-use Rattle.claims.specs.declared.answers.Received.{Received}
 
 -- what a conflict and a probe keep, a message keeps
 heard-by :

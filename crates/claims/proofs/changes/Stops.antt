@@ -5,7 +5,7 @@ use mathlib.Core.Bool.{Bool, true, false, ◌&&◌}
 use native.Mathlib.Omega.{arith}
 use borrow.Author.Tests.{le-leb}
 use Rattle.claims.specs.records.Own.{claim_for, has}
-use Rattle.claims.specs.records.Sets.{some_of, no_record, records_of, any_of}
+use Rattle.claims.specs.records.Sets.{no_record, records_of}
 use Rattle.claims.specs.Time.{last_time, last_due}
 use Rattle.claims.specs.Claims.{held_now, claim_of}
 use Rattle.claims.specs.Refusals.{kept}

@@ -9,10 +9,10 @@ use lib.Dec.{leb}
 use borrow.Author.Tests.{le-leb}
 use Rattle.claims.specs.records.Own.{claim_for, has}
 use Rattle.claims.specs.records.Sets.{no_record, only, picked, some_of}
-use Rattle.claims.specs.Time.{last_time, last_due, after_ms, at_most, marked_all}
+use Rattle.claims.specs.Time.{last_time, last_due, after_ms, marked_all}
 use Rattle.claims.specs.Claims.{held_now, claim_of}
-use Rattle.claims.specs.Refusals.{claim_kept, hold_kept, holds_kept, kept}
-use Rattle.claims.specs.holds.Holds.{is_taken, hold_at, slots, held_of, same_address, once_per_address}
+use Rattle.claims.specs.Refusals.{claim_kept, holds_kept, kept}
+use Rattle.claims.specs.holds.Holds.{is_taken, hold_at, slots, held_of, once_per_address}
 use Rattle.claims.specs.declared.ClaimState.{ClaimState}
 use Rattle.claims.specs.declared.ClaimState.TheVariants.{Waiting, Probing1, Probing2, Probing3, Deferred, Announced, Held, Lost}
 use Rattle.claims.specs.declared.When.TheVariants.{At}

@@ -14,7 +14,7 @@ use Rattle.claims.specs.declared.When.{When}
 use Rattle.claims.specs.declared.When.TheVariants.{Never, At}
 use Rattle.claims.specs.declared.Progress.{Progress}
 use Rattle.claims.specs.steps.Steps.{steps, step_due, more_due}
-use Rattle.claims.specs.steps.Tick.{with_last, step_turn, or_else, walked, ended_of, tick_of}
+use Rattle.claims.specs.steps.Tick.{with_last, or_else, walked, ended_of, tick_of}
 use Rattle.claims.specs.declared.steps.Step.{Step}
 use Rattle.claims.specs.declared.steps.Output.TheVariants.{Nothing}
 use Rattle.claims.specs.declared.steps.Turn.{Turn}

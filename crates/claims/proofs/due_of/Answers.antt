@@ -1,4 +1,3 @@
-
 use Rattle.claims.proofs.due_of.Goals as goal
 
 pub returns-in-Waiting : goal.returns-in-Waiting

@@ -1,4 +1,3 @@
-
 use Rattle.claims.proofs.has_come.Goals as goal
 
 pub returns-in-At : goal.returns-in-At

@@ -1,4 +1,3 @@
-
 use Rattle.claims.proofs.is_within.Goals as goal
 
 pub returns-in-At : goal.returns-in-At

@@ -1,4 +1,3 @@
-
 use Rattle.claims.proofs.mark.Goals as goal
 
 pub returns-then-went : goal.returns-then-went

@@ -1,12 +1,9 @@
-use Rattle.claims.specs.records.Own.{records, record_at, has}
-use Rattle.claims.specs.Time.{last_of, sent_of, marked, marked_all}
+use Rattle.claims.specs.records.Own.{records, has}
+use Rattle.claims.specs.Time.{last_of, sent_of, marked}
 use Rattle.claims.specs.declared.When.TheVariants.{Never}
-use Rattle.claims.specs.declared.Multicast.{Multicast}
-use Rattle.claims.proofs.records.Filled.{filled, none_filled, next_filled, all-filled}
+use Rattle.claims.proofs.records.Filled.{filled}
 use Prim.Native.Nat.{◌≤◌, ◌-◌}
-use mathlib.Core.Path.{◌≡◌, ap}
-use mathlib.Core.List.{List}
-use native.Mathlib.Omega.{arith}
+use mathlib.Core.Path.{◌≡◌}
 use Rattle.claims.proofs.mark_all.Given as goal
 
 abbrev pub invariant-loop-i : goal.invariant-loop-i

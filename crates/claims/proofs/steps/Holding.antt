@@ -2,8 +2,7 @@
 -- tick sends; or it is due and has nothing to send. Assumes nothing.
 use Prim.Native.Nat.{ℕ}
 use mathlib.Core.Path.{◌≡◌, refl, sym, subst, ap, ◌∙◌}
-use mathlib.Core.Logic.{◌⊎◌, inl, inr}
-use mathlib.Core.Bool.{Bool, true, false, cond}
+use mathlib.Core.Bool.{Bool, true, false}
 use native.Mathlib.Omega.{arith}
 use Rattle.claims.specs.records.Sets.{any_of, records_of}
 use Rattle.claims.specs.Time.{due_by}
@@ -20,14 +19,14 @@ use Rattle.claims.specs.declared.holds.Holds.{Holds}
 use Rattle.claims.specs.declared.holds.Place.{Place}
 use Rattle.claims.specs.declared.holds.Place.TheVariants.{First, Second, Third, Fourth}
 use Rattle.claims.specs.declared.Progress.{Progress}
-use Rattle.claims.specs.steps.Steps.{hold_due, taken_action, unsent_of}
+use Rattle.claims.specs.steps.Steps.{hold_due, taken_action}
 use Rattle.claims.specs.steps.Tick.{with_claim, without_reply, without_hold, sends, ptr_reply, reply_turn, hold_answers, hold_turn, claim_turn, with_last, ended_of, tick_of}
 use Rattle.claims.specs.declared.steps.Action.TheVariants as action
 use Rattle.claims.specs.declared.steps.Output.{Output}
 use Rattle.claims.specs.declared.steps.Output.TheVariants.{Nothing, Probe, Response}
 use Rattle.claims.specs.declared.steps.Turn.{Turn}
-use Rattle.claims.proofs.steps.Walk.{quiet, responds, sends-by, walk, claim_by, reply-by, hold-by}
-use Rattle.claims.proofs.steps.Ticks.{with-claim_holds, with-claim_sent}
+use Rattle.claims.proofs.steps.Walk.{quiet, sends-by, walk, claim_by, reply-by, hold-by}
+use Rattle.claims.proofs.steps.Ticks.{with-claim_holds}
 use Rattle.claims.proofs.steps.Moves.{sends-any, any_records}
 
 clash : {A : Type 0} → ◌≡◌ {A = ℕ} 0 1 → A

@@ -1,12 +1,11 @@
 -- Ticks settle: a tick takes the first due step and leaves it not due, so that after as many ticks at one time as there are steps nothing is due. Assumes
 -- nothing.
-use Prim.Native.Nat.{ℕ, zero, suc, ◌+◌, ◌≤◌, ◌<◌}
+use Prim.Native.Nat.{ℕ, zero, suc, ◌≤◌, ◌<◌}
 use mathlib.Core.Path.{◌≡◌, refl, sym, subst}
 use mathlib.Core.List.{List, [], ◌∷◌}
-use mathlib.Core.Bool.{Bool, true, false, cond, ◌||◌}
+use mathlib.Core.Bool.{Bool, true, false, cond}
 use native.Mathlib.Omega.{arith}
 use lib.ListN.{length, take}
-use lib.Seq.{take-length}
 use borrow.Author.Tests.{lt-leb}
 use Rattle.claims.specs.records.Sets.{some_of}
 use Rattle.claims.specs.Time.{last_time, after_ms, due_by}

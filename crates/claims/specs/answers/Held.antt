@@ -1,5 +1,5 @@
 -- Which queries are held, and what is kept of them (specification, 'Held queries'; RFC 6762, section 7.2). Assumes nothing: these are definitions.
-use Rattle.std.specs.Prelude.{ℕ, Bool, cond, not, ◌&&◌}
+use Rattle.std.specs.Prelude.{Bool, cond, not, ◌&&◌}
 use Rattle.claims.specs.records.Sets.{no_record}
 use Rattle.claims.specs.Time.{after_ms}
 use Rattle.claims.specs.holds.Holds.{some_from, some_free, queued}

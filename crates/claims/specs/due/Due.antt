@@ -1,5 +1,5 @@
 -- When a responder's next step is due: the earliest of the steps that a tick walks (specification, 'A claim's life'). Assumes nothing: these are definitions.
-use Rattle.std.specs.Prelude.{ℕ, cond, List, [], ◌∷◌, map, leb}
+use Rattle.std.specs.Prelude.{cond, List, [], ◌∷◌, leb}
 use Rattle.claims.specs.steps.Steps.{steps, step_due}
 use Rattle.claims.specs.declared.When.{When}
 use Rattle.claims.specs.declared.When.TheVariants.{Never, At}

@@ -1,5 +1,5 @@
 -- Held queries (specification, 'Held queries'): "Hold up to four such queries, by source address". Assumes nothing: these are definitions.
-use Rattle.std.specs.Prelude.{ℕ, Bool, true, false, cond, not, ◌&&◌, ◌||◌, List, [], ◌∷◌, map, eqb}
+use Rattle.std.specs.Prelude.{Bool, true, false, cond, not, ◌&&◌, ◌||◌, List, [], ◌∷◌, map, eqb}
 use Rattle.claims.specs.records.Own.{has, each}
 use Rattle.claims.specs.records.Sets.{some_of, picked, no_record}
 use Rattle.claims.specs.declared.records.Set.{Set}

@@ -1,6 +1,6 @@
 -- The steps of a claim, of the PTR reply and of the held queries (specification, 'A claim's life'): which is due, what it sends, and the claim after it. Assumes nothing: these
 -- are definitions.
-use Rattle.std.specs.Prelude.{ℕ, Bool, false, cond, not, ◌&&◌, List, [], ◌∷◌, map, get_or}
+use Rattle.std.specs.Prelude.{ℕ, Bool, cond, not, ◌&&◌, List, ◌∷◌, map, get_or}
 use Rattle.claims.specs.records.Own.{has, each}
 use Rattle.claims.specs.records.Sets.{some_of}
 use Rattle.claims.specs.Time.{probe_gap, announcement_gap, multicast_gap, after_ms, due_by, recently, sent_of}

@@ -1,5 +1,5 @@
 -- A tick (specification, 'A claim's life', "A tick walks the due steps, .."). Assumes nothing: these are definitions.
-use Rattle.std.specs.Prelude.{ℕ, Bool, true, false, cond, List, [], ◌∷◌}
+use Rattle.std.specs.Prelude.{ℕ, Bool, false, cond, List, [], ◌∷◌}
 use Rattle.claims.specs.Time.{due_by, marked_all}
 use Rattle.claims.specs.Claims.{held_now, claim_of}
 use Rattle.claims.specs.declared.ClaimState.{ClaimState}

@@ -1,10 +1,7 @@
-use Rattle.claims.specs.records.Own.{records, has}
-use Rattle.claims.proofs.records.Filled.{filled, none_filled, next_filled, set-filled}
-use Prim.Native.Nat.{◌≤◌, ◌-◌}
-use mathlib.Core.Path.{◌≡◌}
-use mathlib.Core.Bool.{false, cond, not, ◌&&◌}
+use Rattle.claims.proofs.records.Filled.{none_filled, next_filled, set-filled}
+use mathlib.Core.Bool.{false}
 use native.Mathlib.Omega.{arith}
-use Rattle.claims.specs.answers.Answers.{is_to_asker, asked_by}
+use Rattle.claims.specs.answers.Answers.{asked_by}
 use Rattle.claims.proofs.answers.asked_by.Goals as goal
 
 pub loop-i-init : goal.loop-i-init

@@ -1,10 +1,9 @@
-use Rattle.claims.specs.records.Own.{records, record_at, has, each}
-use Rattle.claims.proofs.records.Filled.{filled, none_filled, next_filled, set-filled}
+use Rattle.claims.specs.records.Own.{records}
+use Rattle.claims.proofs.records.Filled.{filled}
 use Prim.Native.Nat.{◌≤◌, ◌-◌}
 use mathlib.Core.Path.{◌≡◌}
-use mathlib.Core.Bool.{false, ◌&&◌}
-use native.Mathlib.Omega.{arith}
-use Rattle.claims.specs.answers.Answers.{is_due, due_to}
+use mathlib.Core.Bool.{false}
+use Rattle.claims.specs.answers.Answers.{is_due}
 use Rattle.claims.proofs.answers.due.Given as goal
 
 abbrev pub invariant-loop-i : goal.invariant-loop-i

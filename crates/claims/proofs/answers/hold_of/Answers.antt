@@ -1,4 +1,3 @@
-
 use Rattle.claims.proofs.answers.hold_of.Goals as goal
 
 pub returns : goal.returns

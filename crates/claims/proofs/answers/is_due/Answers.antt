@@ -1,4 +1,3 @@
-
 use Rattle.claims.proofs.answers.is_due.Goals as goal
 
 pub returns-then-is_present : goal.returns-then-is_present

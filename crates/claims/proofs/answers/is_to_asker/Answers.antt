@@ -1,4 +1,3 @@
-
 use Rattle.claims.proofs.answers.is_to_asker.Goals as goal
 
 pub returns-then-is_in : goal.returns-then-is_in

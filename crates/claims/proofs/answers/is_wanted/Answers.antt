@@ -1,4 +1,3 @@
-
 use Rattle.claims.proofs.answers.is_wanted.Goals as goal
 
 pub returns-then-is_due : goal.returns-then-is_due

@@ -1,4 +1,3 @@
-
 use Rattle.claims.proofs.answers.set_reply.Goals as goal
 
 pub returns-then-asks : goal.returns-then-asks

@@ -1,4 +1,3 @@
-
 use Rattle.claims.proofs.changes.after_update.Goals as goal
 
 pub returns-in-Waiting : goal.returns-in-Waiting

@@ -1,4 +1,3 @@
-
 use Rattle.claims.proofs.changes.but_not.Goals as goal
 
 pub returns-then-a : goal.returns-then-a

@@ -1,4 +1,3 @@
-
 use Rattle.claims.proofs.changes.forget.Goals as goal
 
 pub returns : goal.returns

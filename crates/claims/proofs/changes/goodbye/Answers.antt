@@ -1,10 +1,7 @@
-use Rattle.claims.specs.records.Own.{records, record_at, has, each}
-use Rattle.claims.proofs.records.Filled.{filled, none_filled, next_filled, set-filled}
-use Prim.Native.Nat.{◌≤◌, ◌-◌}
-use mathlib.Core.Path.{◌≡◌}
-use mathlib.Core.Bool.{false, ◌&&◌}
+use Rattle.claims.proofs.records.Filled.{none_filled, next_filled, set-filled}
+use mathlib.Core.Bool.{false}
 use native.Mathlib.Omega.{arith}
-use Rattle.claims.specs.changes.Changes.{is_parting, goodbye_of}
+use Rattle.claims.specs.changes.Changes.{goodbye_of}
 use Rattle.claims.proofs.changes.goodbye.Goals as goal
 
 pub loop-i-init : goal.loop-i-init

@@ -1,4 +1,3 @@
-
 use Rattle.claims.proofs.changes.is_parting.Goals as goal
 
 pub returns-then-is_held : goal.returns-then-is_held

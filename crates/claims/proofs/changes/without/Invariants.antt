@@ -1,10 +1,8 @@
 use Rattle.claims.specs.records.Own.{records, has}
-use Rattle.claims.proofs.records.Filled.{filled, none_filled, next_filled, set-filled}
+use Rattle.claims.proofs.records.Filled.{filled}
 use Prim.Native.Nat.{◌≤◌, ◌-◌}
 use mathlib.Core.Path.{◌≡◌}
 use mathlib.Core.Bool.{false, not, ◌&&◌}
-use native.Mathlib.Omega.{arith}
-use Rattle.claims.specs.changes.Changes.{without}
 use Rattle.claims.proofs.changes.without.Given as goal
 
 abbrev pub invariant-loop-i : goal.invariant-loop-i

@@ -2,11 +2,11 @@ use Rattle.claims.specs.declared.When.{When}
 use Rattle.claims.specs.declared.records.Claim.TheVariants.{Instance}
 use Rattle.claims.specs.declared.steps.Step.TheVariants.{OfClaim}
 use Rattle.claims.proofs.records.Searched.{rest}
-use Prim.Native.Nat.{◌+◌, ◌≤◌, ◌-◌}
-use Rattle.claims.specs.steps.Steps.{steps, step_at, step_due}
+use Prim.Native.Nat.{◌+◌}
+use Rattle.claims.specs.steps.Steps.{steps, step_at}
 use Rattle.claims.specs.due.Due.{earliest_of, next_due}
-use mathlib.Core.Path.{◌≡◌, refl, sym, ap, ◌∙◌}
-use lib.ListN.{length, drop, drop_of_length-le}
+use mathlib.Core.Path.{refl, sym, ap, ◌∙◌}
+use lib.ListN.{drop, drop_of_length-le}
 use native.Mathlib.Omega.{arith}
 use Rattle.claims.proofs.due.next_due.Goals as goal
 

@@ -1,4 +1,3 @@
-
 use Rattle.claims.proofs.holds.is_from.Goals as goal
 
 pub returns-then-is_taken : goal.returns-then-is_taken

@@ -1,4 +1,3 @@
-
 use Rattle.claims.proofs.holds.no_hold.Goals as goal
 
 pub returns : goal.returns

@@ -1,4 +1,3 @@
-
 use Rattle.claims.proofs.holds.no_holds.Goals as goal
 
 pub returns : goal.returns

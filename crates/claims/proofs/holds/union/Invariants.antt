@@ -1,10 +1,8 @@
 use Rattle.claims.specs.records.Own.{records, has}
-use Rattle.claims.proofs.records.Filled.{filled, none_filled, next_filled, set-filled}
+use Rattle.claims.proofs.records.Filled.{filled}
 use Prim.Native.Nat.{◌≤◌, ◌-◌}
 use mathlib.Core.Path.{◌≡◌}
 use mathlib.Core.Bool.{false, ◌||◌}
-use native.Mathlib.Omega.{arith}
-use Rattle.claims.specs.holds.Holds.{union}
 use Rattle.claims.proofs.holds.union.Given as goal
 
 abbrev pub invariant-loop-i : goal.invariant-loop-i

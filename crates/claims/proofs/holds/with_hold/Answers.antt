@@ -1,4 +1,3 @@
-
 use Rattle.claims.proofs.holds.with_hold.Goals as goal
 
 pub returns-in-First : goal.returns-in-First

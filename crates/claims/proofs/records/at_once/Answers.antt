@@ -1,10 +1,6 @@
-use Rattle.claims.specs.records.Own.{records, record_at, has, each}
-use Rattle.claims.proofs.records.Filled.{filled, none_filled, next_filled, set-filled}
-use Prim.Native.Nat.{◌≤◌, ◌-◌}
-use mathlib.Core.Path.{◌≡◌}
-use mathlib.Core.Bool.{false, ◌&&◌}
+use Rattle.claims.proofs.records.Filled.{none_filled, next_filled, set-filled}
+use mathlib.Core.Bool.{false}
 use native.Mathlib.Omega.{arith}
-use Rattle.claims.specs.records.Own.{goes_at_once}
 use Rattle.claims.specs.records.Sets.{at_once}
 use Rattle.claims.proofs.records.at_once.Goals as goal
 

@@ -1,11 +1,9 @@
-use Rattle.claims.specs.records.Own.{records, record_at, has, each}
-use Rattle.claims.proofs.records.Filled.{filled, none_filled, next_filled, set-filled}
+use Rattle.claims.specs.records.Own.{records, has}
+use Rattle.claims.proofs.records.Filled.{filled}
 use Prim.Native.Nat.{◌≤◌, ◌-◌}
 use mathlib.Core.Path.{◌≡◌}
 use mathlib.Core.Bool.{false, ◌&&◌}
-use native.Mathlib.Omega.{arith}
 use Rattle.claims.specs.records.Own.{goes_at_once}
-use Rattle.claims.specs.records.Sets.{at_once}
 use Rattle.claims.proofs.records.at_once.Given as goal
 
 abbrev pub invariant-loop-i : goal.invariant-loop-i

@@ -1,10 +1,9 @@
-use Prim.Native.Nat.{◌≤◌, ◌-◌}
 use mathlib.Core.Path.{refl}
 use native.Mathlib.Omega.{arith}
-use Rattle.claims.specs.records.Own.{all, records, record_at, has}
+use Rattle.claims.specs.records.Own.{all, record_at, has}
 use Rattle.claims.specs.records.Sets.{any_of}
 use Rattle.claims.specs.declared.records.Own.TheVariants.{Ptr}
-use Rattle.claims.proofs.records.Searched.{Some, some-found, some_next, some-ends}
+use Rattle.claims.proofs.records.Searched.{some-found, some_next, some-ends}
 use Rattle.claims.proofs.records.is_any.Goals as goal
 
 pub loop-i-init : goal.loop-i-init

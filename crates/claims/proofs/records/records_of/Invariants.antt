@@ -1,11 +1,9 @@
-use Rattle.claims.specs.records.Own.{records, record_at, has, each}
-use Rattle.claims.proofs.records.Filled.{filled, none_filled, next_filled, set-filled}
+use Rattle.claims.specs.records.Own.{records}
+use Rattle.claims.proofs.records.Filled.{filled}
 use Prim.Native.Nat.{◌≤◌, ◌-◌}
 use mathlib.Core.Path.{◌≡◌}
 use mathlib.Core.Bool.{false, ◌&&◌}
-use native.Mathlib.Omega.{arith}
 use Rattle.claims.specs.records.Own.{claim_for, same_claim, present, carries_data}
-use Rattle.claims.specs.records.Sets.{records_of}
 use Rattle.claims.proofs.records.records_of.Given as goal
 
 abbrev pub invariant-loop-i : goal.invariant-loop-i

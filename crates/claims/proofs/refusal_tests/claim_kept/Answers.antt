@@ -1,4 +1,3 @@
-
 use Rattle.claims.proofs.refusal_tests.claim_kept.Goals as goal
 
 pub returns : goal.returns

@@ -1,4 +1,3 @@
-
 use Rattle.claims.proofs.refusal_tests.draws_refused.Goals as goal
 
 pub returns-then-reply_draw_refused : goal.returns-then-reply_draw_refused

@@ -1,12 +1,10 @@
-use Prim.Native.Nat.{◌≤◌, ◌-◌}
 use mathlib.Core.Path.{refl}
 use native.Mathlib.Omega.{arith}
-use borrow.Author.Tests.{not-true, not-false}
-use Rattle.claims.specs.records.Own.{all, records, record_at}
+use Rattle.claims.specs.records.Own.{all, record_at}
 use Rattle.claims.specs.Time.{at_most, sent_of}
 use Rattle.claims.specs.Refusals.{multicasts_kept}
 use Rattle.claims.specs.declared.records.Own.TheVariants.{Ptr}
-use Rattle.claims.proofs.records.Searched.{Every, every-fails, every-next, every-ends}
+use Rattle.claims.proofs.records.Searched.{every-fails, every-next, every-ends}
 use Rattle.claims.proofs.refusal_tests.multicasts_kept.Goals as goal
 
 pub loop-i-init : goal.loop-i-init

@@ -1,4 +1,3 @@
-
 use Rattle.claims.proofs.steps.hold_due.Goals as goal
 
 pub returns : goal.returns

@@ -1,4 +1,3 @@
-
 use Rattle.claims.proofs.steps.is_unsent.Goals as goal
 
 pub returns-then-wanted : goal.returns-then-wanted

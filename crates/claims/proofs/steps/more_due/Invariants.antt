@@ -1,12 +1,8 @@
 use Prim.Native.Nat.{◌≤◌, ◌-◌}
-use mathlib.Core.Path.{refl}
-use native.Mathlib.Omega.{arith}
 use lib.ListN.{length}
 use Rattle.claims.specs.Time.{due_by}
-use Rattle.claims.specs.steps.Steps.{steps, step_at, step_due, more_due}
-use Rattle.claims.specs.declared.records.Claim.TheVariants.{Instance}
-use Rattle.claims.specs.declared.steps.Step.TheVariants.{OfClaim}
-use Rattle.claims.proofs.records.Searched.{Some, some-found, some_next, some-ends}
+use Rattle.claims.specs.steps.Steps.{steps, step_due}
+use Rattle.claims.proofs.records.Searched.{Some}
 use Rattle.claims.proofs.steps.more_due.Given as goal
 
 abbrev pub invariant-loop-i : goal.invariant-loop-i

@@ -1,4 +1,3 @@
-
 use Rattle.claims.proofs.steps.step_due.Goals as goal
 
 pub returns-in-OfClaim : goal.returns-in-OfClaim

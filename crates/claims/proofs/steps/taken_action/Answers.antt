@@ -1,4 +1,3 @@
-
 use Rattle.claims.proofs.steps.taken_action.Goals as goal
 
 pub returns-in-Waiting : goal.returns-in-Waiting

@@ -1,11 +1,7 @@
-use Rattle.claims.specs.records.Own.{records, record_at, has, each}
-use Rattle.claims.proofs.records.Filled.{filled, none_filled, next_filled, set-filled}
-use Prim.Native.Nat.{◌≤◌, ◌-◌}
-use mathlib.Core.Path.{◌≡◌}
-use mathlib.Core.Bool.{false, ◌&&◌}
+use Rattle.claims.proofs.records.Filled.{none_filled, next_filled, set-filled}
+use mathlib.Core.Bool.{false}
 use native.Mathlib.Omega.{arith}
-use Rattle.claims.specs.Time.{sent_of}
-use Rattle.claims.specs.steps.Steps.{unsent, unsent_of}
+use Rattle.claims.specs.steps.Steps.{unsent_of}
 use Rattle.claims.proofs.steps.unsent_of.Goals as goal
 
 pub loop-i-init : goal.loop-i-init

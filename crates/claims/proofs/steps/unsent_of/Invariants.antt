@@ -1,11 +1,10 @@
-use Rattle.claims.specs.records.Own.{records, record_at, has, each}
-use Rattle.claims.proofs.records.Filled.{filled, none_filled, next_filled, set-filled}
+use Rattle.claims.specs.records.Own.{records, has}
+use Rattle.claims.proofs.records.Filled.{filled}
 use Prim.Native.Nat.{◌≤◌, ◌-◌}
 use mathlib.Core.Path.{◌≡◌}
-use mathlib.Core.Bool.{false, ◌&&◌}
-use native.Mathlib.Omega.{arith}
+use mathlib.Core.Bool.{false}
 use Rattle.claims.specs.Time.{sent_of}
-use Rattle.claims.specs.steps.Steps.{unsent, unsent_of}
+use Rattle.claims.specs.steps.Steps.{unsent}
 use Rattle.claims.proofs.steps.unsent_of.Given as goal
 
 abbrev pub invariant-loop-i : goal.invariant-loop-i

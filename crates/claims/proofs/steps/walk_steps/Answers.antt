@@ -2,11 +2,9 @@ use Rattle.claims.specs.declared.records.Claim.TheVariants.{Instance}
 use Rattle.claims.specs.declared.steps.Step.{Step}
 use Rattle.claims.specs.declared.steps.Step.TheVariants.{OfClaim}
 use Rattle.claims.proofs.steps.Walk.{walk_probes, walk_responds, walk_passes, walk_ends}
-use Prim.Native.Nat.{◌≤◌, ◌-◌}
 use Rattle.claims.specs.steps.Steps.{steps, step_at}
-use Rattle.claims.specs.steps.Tick.{step_turn, walked}
-use mathlib.Core.Path.{◌≡◌, refl, sym, ap, ◌∙◌}
-use lib.ListN.{length, drop}
+use Rattle.claims.specs.steps.Tick.{step_turn}
+use mathlib.Core.Path.{refl, sym, ap, ◌∙◌}
 use native.Mathlib.Omega.{arith}
 use Rattle.claims.proofs.steps.walk_steps.Goals as goal
 

@@ -1,4 +1,3 @@
-
 use Rattle.claims.proofs.steps.with_claim.Goals as goal
 
 pub returns-in-Instance : goal.returns-in-Instance
