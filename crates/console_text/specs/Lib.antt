@@ -1,3 +1,4 @@
 pub mod lines
 pub mod fields
 pub mod hex
+pub mod scan

@@ -4,3 +4,4 @@
 pub mod fields;
 pub mod hex;
 pub mod lines;
+pub mod scan;

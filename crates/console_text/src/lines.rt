@@ -34,14 +34,14 @@ pub fn field<'a>(line: &'a [u8], index: usize) -> &'a [u8]
     let mut at = 0;
     let mut left = index;
     while 0 < left {
-        let end = bytes::scan::find(line, at, size, b' ');
+        let end = at + crate::scan::find(&line[at..], b' ');
         if size <= end {
             return &line[size..];
         }
         at = end + 1;
         left -= 1;
     }
-    let end = bytes::scan::find(line, at, size, b' ');
+    let end = at + crate::scan::find(&line[at..], b' ');
     &line[at..end]
 }
 

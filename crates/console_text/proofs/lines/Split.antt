@@ -9,7 +9,7 @@ use lib.ListN.{length, get_or, take, drop, length-drop, drop_of_length-le}
 use lib.Seq.{drop-cons, drop-drop, take-length}
 use lib.Dec.{eqb}
 use borrow.Author.Tests.{eq-eqb, ne_eqb}
-use Rattle.bytes.specs.Bytes.{slice, index_of, index_after}
+use Rattle.console_text.specs.scan.Scan.{index_of, index_after}
 use Rattle.console_text.specs.lines.Fields.{in_front, fields_of}
 
 -- a line has a first field
@@ -83,11 +83,7 @@ no_field (b ∷ bs) k h = go (eqb b 32) h (no_field bs k)
     go false h e = front_later b (fields_of bs) k ∙ e (omega arith)
 
 -- the search for the end of the field that starts at an offset
-module _ (l : List ℕ) (at size end : ℕ) (whole : size ≡ length l) (fits : at ≤ length l) (found : end ≡ at + index_of 32 (slice at size l)) where
-  searched : end ≡ at + index_of 32 (drop at l)
-  unfolding slice
-  searched = found ∙ rw (whole, take-length l)
-
+module _ (l : List ℕ) (at size end : ℕ) (whole : size ≡ length l) (fits : at ≤ length l) (searched : end ≡ at + index_of 32 (drop at l)) where
   pub this_field : (left : ℕ) → left ≤ 0 → take (end - at) (drop at l) ≡ get_or (fields_of (drop at l)) left []
   this_field (suc n) h = absurd (omega arith)
   this_field zero h =

@@ -1,0 +1,13 @@
+use mathlib.Core.Path.{◌≡◌}
+use Prim.Native.Nat.{◌≤◌, ◌<◌, ◌-◌}
+use native.Mathlib.Omega.{arith}
+use lib.ListN.{length, drop}
+use Rattle.console_text.specs.lines.Numbers.{number_of, number_from}
+use Rattle.console_text.proofs.lines.Digits.{number-none, number-some, number-end, number-low, number-high, number-digit, number-over}
+use Rattle.console_text.proofs.lines.number.Given as goal
+
+abbrev pub invariant-loop-i : goal.invariant-loop-i
+invariant-loop-i l = (l.i ≤ length l.s) × (l.value < 18446744073709551616) × (number_of l.s ≡ number_from l.value (drop l.i l.s))
+
+abbrev pub decreases-loop-i : goal.decreases-loop-i
+decreases-loop-i l = length l.s - l.i

@@ -1,0 +1,17 @@
+// The search for a byte.
+ghost use Rattle.std.specs.Prelude.{◌≡◌};
+ghost use Rattle.console_text.specs.scan.Scan.{index_of};
+
+// The place of the first byte that equals `b`, or the length where there is none.
+pub fn find(s: &[u8], b: u8) -> usize
+    ensures { result ≡ index_of b s.now }
+{
+    let mut i = 0;
+    while i < s.len() {
+        if s[i] == b {
+            return i;
+        }
+        i += 1;
+    }
+    i
+}
