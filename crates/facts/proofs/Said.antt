@@ -7,7 +7,7 @@ use borrow.Author.Tests.{le-leb, lt-leb}
 use Rattle.wire.specs.Lists.{some}
 use Rattle.wire.specs.message.Message.{Record, Message, is_response}
 use Rattle.wire.specs.message.Layout.{record_at}
-use Rattle.wire.specs.message.Readable.{readable, message_in}
+use Rattle.wire.specs.message.Readable.{message_in}
 use Rattle.wire.specs.declared.message.Layout.{Layout}
 use Rattle.wire.proofs.message.Walk.{readable-none}
 use Rattle.claims.specs.records.Own.{own_type, own_ttl, each}

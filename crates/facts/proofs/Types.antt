@@ -1,14 +1,13 @@
 -- Where no record has the type of a claimed record, none conflicts. Assumes nothing.
 use mathlib.Core.Path.{◌≡◌, refl, sym, ap, ◌∙◌}
 use mathlib.Core.List.{List, [], ◌∷◌, ◌++◌}
-use mathlib.Core.Bool.{Bool, true, false, cond, not, ◌&&◌, ◌||◌, and-false, or-false}
+use mathlib.Core.Bool.{Bool, true, false, ◌&&◌, ◌||◌, and-false}
 use mathlib.Mathlib.Data.Bool.Basic.{or-eq-false-eq-eq-false-and-eq-false as neither}
-use Prim.Native.Nat.{ℕ, zero, suc}
+use Prim.Native.Nat.{ℕ}
 use borrow.Author.Tests.{ne_eqb, eqb-true}
 use lib.Dec.{eqb}
 use Rattle.wire.specs.Lists.{some}
-use Rattle.wire.specs.case_folding.Fold.{same_name}
-use Rattle.wire.specs.message.Message.{Record, Message, class_of, all_records}
+use Rattle.wire.specs.message.Message.{Record, all_records}
 use Rattle.wire.specs.message.Layout.{record_at}
 use Rattle.wire.specs.message.Readable.{readable, message_in}
 use Rattle.wire.specs.declared.message.Section.{Section}

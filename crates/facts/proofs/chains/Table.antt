@@ -8,7 +8,7 @@ use borrow.Author.Tests.{eq-eqb, ne_eqb, eqb-true, eqb-false}
 use lib.Dec.{eqb}
 use lib.ListN.{length, get_or, set, replicate}
 use lib.Seq.{get_or-set_same, get_or-set_other}
-use Rattle.wire.specs.name_pieces.Pieces.{piece_at, target}
+use Rattle.wire.specs.name_pieces.Pieces.{piece_at}
 use Rattle.wire.specs.names.Names.{Reading, name, malformed, ending, from_run}
 use Rattle.wire.specs.names.Answers.{Chased, or_later, same_as}
 use Rattle.wire.specs.declared.name_pieces.Piece.{Piece}

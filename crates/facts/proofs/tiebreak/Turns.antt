@@ -8,7 +8,7 @@ use native.Mathlib.Numerals.{add-one}
 use lib.ListN.{length, get_or, drop, drop_of_length-le}
 use lib.Seq.{drop-cons}
 use Rattle.wire.specs.names.Answers.{name_is}
-use Rattle.wire.specs.rdata.Rdata.{rdata, rdata_at}
+use Rattle.wire.specs.rdata.Rdata.{rdata_at}
 use Rattle.wire.specs.rdata.Answers.{fits, data_of}
 use Rattle.wire.specs.expansion.Opened.{opened_at, view_of}
 use Rattle.wire.specs.declared.expansion.Opened.{Opened}

@@ -1,0 +1,6 @@
+use native.Mathlib.Omega.{arith}
+use Rattle.facts.proofs.Tests.{other_length}
+use Rattle.facts.proofs.is_named.Goals as goal
+
+pub returns-then-len-own : goal.returns-then-len-own
+returns-then-len-own c = other_length _ _ _ _ (c.requires.long_if_known (λ z. omega arith)) c.if-len-own.true
