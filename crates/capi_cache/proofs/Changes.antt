@@ -8,13 +8,11 @@ use lib.ListN.{replicate}
 use lib.Seq.{sets}
 use lib.Dec.{ltb}
 use borrow.Author.Tests.{lt-ltb, le-ltb, lt-leb, le-leb, eq-eqb, ne_eqb}
-use Rattle.wire.specs.rdata.Rdata.{rdata}
 use Rattle.wire.specs.message.Layout.{read_of}
 use Rattle.wire.specs.message.Refusals.{message_from}
 use Rattle.wire.specs.declared.message.Layout.{Layout}
 use Rattle.wire.specs.declared.message.MessageRead.{MessageRead}
 use Rattle.wire.specs.declared.message.MessageRead.TheVariants as m
-use Rattle.wire.specs.declared.message.RecordRead.TheVariants as r
 use Rattle.wire.specs.declared.message.Section.{Section}
 use Rattle.cache.specs.entries.Entries.{soon, refreshed}
 use Rattle.cache.specs.entries.Cache.{cached_as, is_store_of, slot_with}

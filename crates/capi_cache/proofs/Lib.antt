@@ -1,16 +1,7 @@
--- Laws that belong to no one function: calls as steps of a walk, and the lists and numbers that the walks rest on.
-pub mod Lent
-pub mod Calls
-mod CallsEntry
+-- Laws that belong to no one function: the lists and numbers that the proofs rest on.
 mod Mixed
 pub mod Scan
-mod Plain
-mod Slots
 mod Looking
-mod CallsBytes
-mod CallsFound
-mod CallsRules
-mod CallsTaking
 mod Changes
 mod Types
 mod Flushing

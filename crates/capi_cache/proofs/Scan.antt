@@ -1,14 +1,12 @@
 -- The refusal of a table by the greatest numbers of its entries: after i entries, and at the end. Assumes nothing.
-use mathlib.Core.Path.{◌≡◌, refl, sym, ap, ap₂, subst, ◌∙◌}
+use mathlib.Core.Path.{◌≡◌, refl, sym, ap, ap₂, ◌∙◌}
 use mathlib.Core.List.{List, [], ◌∷◌}
 use mathlib.Core.Bool.{Bool, true, false, cond, not, ◌||◌}
 use Prim.Native.Nat.{ℕ, ◌+◌, ◌<◌, ◌≤◌, ◌^◌}
 use native.Mathlib.Omega.{arith}
 use lib.ListN.{length, get_or, drop, drop_of_length-le}
-use lib.Dec.{T, ltb}
+use lib.Dec.{ltb}
 use borrow.Author.Tests.{lt-ltb, le-ltb, ltb-true, ltb-false}
-use mir.Syntax.{w8, w64, ty_int, ty_bool}
-use mir.Val.{Val, WT, vint, vbool, has_ty}
 use Rattle.cache.specs.entries.Entries.{blank, heard_ahead, too_long}
 use Rattle.wire.specs.Lists.{some}
 use Rattle.cache.specs.entries.Cache.{is_size, bad_time, bad_table, entries_refusal}
@@ -137,22 +135,3 @@ entries-fits now es = go (bad_time now es) (bad_table es)
     go true y = omega arith
     go false true = omega arith
     go false false = omega arith
-
--- a value that is a number that fits is one of its type
-pub typed64 : (m : ℕ) → m < 2 ^ 64 → (u : Val) → u ≡ vint w64 m → T (has_ty (ty_int w64) u) × WT u
-typed64 m fits u same = subst (λ (x : Val). T (has_ty (ty_int w64) x) × WT x) (sym same) (tt, record { fits = fits })
-
-pub typed8 : (m : ℕ) → m < 2 ^ 8 → (u : Val) → u ≡ vint w8 m → T (has_ty (ty_int w8) u) × WT u
-typed8 m fits u same = subst (λ (x : Val). T (has_ty (ty_int w8) x) × WT x) (sym same) (tt, record { fits = fits })
-
-pub typed_bool : (b : Bool) (u : Val) → u ≡ vbool b → T (has_ty ty_bool u) × WT u
-typed_bool b u same = subst (λ (x : Val). T (has_ty ty_bool x) × WT x) (sym same) (tt, tt)
-
--- what a test that was made says
-pub is_true : (t : Bool) → T t → t ≡ true
-is_true true h = refl
-is_true false h = absurd h
-
-pub is_false : (t : Bool) → T (not t) → t ≡ false
-is_false true h = absurd h
-is_false false h = refl

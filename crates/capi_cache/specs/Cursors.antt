@@ -1,6 +1,6 @@
 -- The records of a message in order: what is left of its Answer and Additional sections, and the counts so far; and what the private functions rest on.
 -- Assumes nothing: these are definitions.
-use Rattle.std.specs.Prelude.{ℕ, ◌+◌, ◌-◌, ◌*◌, ◌≤◌, ◌^◌, ◌≡◌, List, ◌++◌, Bool, true, cond, ◌||◌, length, ltb, eqb}
+use Rattle.std.specs.Prelude.{ℕ, ◌+◌, ◌-◌, ◌*◌, ◌≤◌, ◌^◌, ◌≡◌, List, ◌++◌, Bool, true, cond, ◌||◌, ltb, eqb}
 use Rattle.wire.specs.message.Message.{Record, is_response}
 use Rattle.wire.specs.message.Layout.{record_at, read_of}
 use Rattle.wire.specs.message.Readable.{readable}

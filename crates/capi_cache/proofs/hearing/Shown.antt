@@ -25,7 +25,7 @@ use Rattle.wire.specs.declared.message.RecordRead.{RecordRead}
 use Rattle.wire.specs.declared.message.RecordRead.TheVariants as r
 use Rattle.wire.proofs.message.Walk.{RecordMet, record_found}
 use Rattle.cache.specs.declared.records.Heard.{Heard}
-use Rattle.cache.specs.records.Heard.{heard_of, heard_at, is_taken, owner_in, rdata_in}
+use Rattle.cache.specs.records.Heard.{heard_of, heard_at, is_taken}
 use Rattle.cache.specs.records.Taking.{Shows}
 use Rattle.cache.proofs.laws.Slots.{read_back, part_sets}
 use Rattle.cache.proofs.records.Rules.{not-whole}
