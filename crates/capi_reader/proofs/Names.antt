@@ -1,6 +1,5 @@
 -- The answers for a name. Assumes nothing.
 use mathlib.Core.Path.{◌≡◌, refl, sym, ap, ◌∙◌}
-use mathlib.Core.List.{List}
 use Prim.Native.Nat.{ℕ}
 use native.Mathlib.Omega.{arith}
 use Rattle.wire.specs.names.Names.{Reading, name, malformed}
@@ -12,7 +11,7 @@ use Rattle.wire.specs.declared.names.Expanded.{Expanded}
 use Rattle.wire.proofs.names.Use.{as_name, as_malformed, as_unexpanded}
 use Rattle.capi_reader.specs.Reader.{end_of, length_of, name_of}
 use Rattle.capi_reader.specs.declared.Name as exported
-use lib.ListN.{length, replicate}
+use lib.ListN.{replicate}
 
 module _ (x : Reading) (r : Name) (h : r ≡ found_of x) where
   pub end_found : (s : Span) → r ≡ Found s → s.end ≡ end_of x

@@ -1,5 +1,5 @@
 -- What the exported functions answer. Assumes nothing: these are definitions.
-use Rattle.std.specs.Prelude.{ℕ, ◌-◌, List, ◌++◌, cond, length, replicate, leb}
+use Rattle.std.specs.Prelude.{ℕ, ◌-◌, ◌++◌, cond, length, replicate, leb}
 use Rattle.wire.specs.labels.Counted.{labels_in, first_in}
 use Rattle.wire.specs.names.Names.{Reading, name, malformed}
 use Rattle.wire.specs.declared.message.MessageRead.{MessageRead}

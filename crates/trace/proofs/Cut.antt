@@ -10,7 +10,7 @@ use lib.Dec.{leb}
 use Rattle.claims.specs.declared.holds.Address.{Address}
 use Rattle.trace.specs.records.Records.{size_of, kind_at, record_at}
 use Rattle.trace.specs.reading.Reading.{is_usual, pieces_of, is_piece, pieces_at, data_step, with_data, alone_step, behind_source, step_with, step_at}
-use Rattle.trace.specs.reading.Events.{data_from, data_in, within}
+use Rattle.trace.specs.reading.Events.{data_from, data_in}
 use Rattle.trace.specs.declared.records.Kind.{Kind}
 use Rattle.trace.specs.declared.records.Record.{Record}
 use Rattle.trace.specs.declared.records.Record.TheVariants as is
@@ -19,7 +19,7 @@ use Rattle.trace.specs.declared.reading.Entry.{Entry}
 use Rattle.trace.specs.declared.reading.Pieces.{Pieces}
 use Rattle.trace.specs.declared.reading.Pieces.TheVariants as pieces
 use Rattle.trace.specs.declared.reading.Step.{Step}
-use Rattle.trace.specs.declared.reading.Step.TheVariants.{End, Found, Refused}
+use Rattle.trace.specs.declared.reading.Step.TheVariants.{Found, Refused}
 use Rattle.trace.proofs.records.Standing.{kind_in, is_well, stand, never}
 use Rattle.trace.proofs.reading.Owed.{piece_whole}
 use Rattle.trace.proofs.reading.Placed.{pieces_end, same_entry, not-refused}

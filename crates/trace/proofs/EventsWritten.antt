@@ -2,7 +2,7 @@
 use mathlib.Core.Path.{◌≡◌, refl, sym, ap, subst, ◌∙◌}
 use mathlib.Core.List.{List, [], ◌++◌, append_assoc}
 use mathlib.Core.Bool.{Bool, true, false, cond, ◌&&◌}
-use Prim.Native.Nat.{ℕ, ◌+◌, ◌-◌, ◌≤◌}
+use Prim.Native.Nat.{ℕ, ◌+◌, ◌≤◌}
 use native.Mathlib.Omega.{arith}
 use borrow.Author.Tests.{le-leb}
 use lib.ListN.{length, drop}
@@ -12,7 +12,7 @@ use Rattle.claims.specs.declared.holds.Address.{Address}
 use Rattle.trace.specs.records.Numbers.{word64, bytes16}
 use Rattle.trace.specs.records.Records.{record_at}
 use Rattle.trace.specs.reading.Reading.{no_source, usual_hold, is_usual, pieces_of, pieces_at, data_step, with_data, alone_step, behind_source, step_with, step_at}
-use Rattle.trace.specs.reading.Events.{packet, occurrence, data_from, data_in}
+use Rattle.trace.specs.reading.Events.{occurrence, data_from, data_in}
 use Rattle.trace.specs.writing.Bytes.{headed, pieces_for, pieces_over, source_bytes, source_over, packet_numbers, packet_bytes, bytes_of}
 use Rattle.trace.specs.writing.Sizes.{fits64, can_be_written}
 use Rattle.trace.specs.declared.records.Kind.TheVariants as kind

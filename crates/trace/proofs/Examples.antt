@@ -2,22 +2,20 @@
 -- Assumes nothing.
 use mathlib.Core.Path.{◌≡◌, refl, sym, ap, ◌∙◌}
 use mathlib.Core.List.{List, [], ◌∷◌, ◌++◌}
-use mathlib.Core.Bool.{Bool, true, false, ◌&&◌}
+use mathlib.Core.Bool.{Bool, true, ◌&&◌}
 use mathlib.Core.Option.{Option, none, some}
-use Prim.Native.Nat.{ℕ, zero, suc, ◌+◌, ◌<◌}
+use Prim.Native.Nat.{ℕ, zero, suc}
 use native.Mathlib.Omega.{arith}
 use borrow.Author.Tests.{ltb-true}
-use lib.ListN.{length, get_or, take, drop, set}
+use lib.ListN.{length, take, drop, set}
 use lib.Dec.{ltb}
-use Rattle.wire.specs.octets.Octets.{byte_at, word16, word32}
 use Rattle.claims.specs.declared.holds.Address.{Address}
-use Rattle.trace.specs.records.Numbers.{word64, bytes16, bytes64}
+use Rattle.trace.specs.records.Numbers.{bytes64}
 use Rattle.trace.specs.records.Records.{record_at}
 use Rattle.trace.specs.reading.Reading.{all_zero, no_source, usual_hold, is_piece, pieces_at, with_data, step_at}
 use Rattle.trace.specs.reading.Events.{Occurrence, tick, packet, claim, stop, port, txt, data_from, Reading, at_most, read_from, reading_of}
 use Rattle.trace.specs.writing.Bytes.{pieces_over, trace_of}
 use Rattle.trace.specs.writing.Sizes.{all_can_be_written}
-use Rattle.trace.proofs.records.Standing.{never}
 use Rattle.trace.proofs.Numbers.{Bytes}
 use Rattle.trace.proofs.ReadBack.{both, read_back}
 use Rattle.trace.proofs.Written.{read_is_written, one-trace}

@@ -1,7 +1,6 @@
 -- Each record that stands in a trace is read as that record. Assumes nothing.
 use mathlib.Core.Path.{◌≡◌, refl, sym, ap, ◌∙◌}
 use mathlib.Core.List.{List, [], ◌∷◌, ◌++◌}
-use mathlib.Core.Bool.{Bool, true, false, cond, ◌&&◌}
 use Prim.Native.Nat.{ℕ, ◌+◌, ◌<◌, ◌≤◌}
 use native.Mathlib.Omega.{arith}
 use borrow.Author.Tests.{le-leb}
@@ -9,14 +8,13 @@ use lib.ListN.{length}
 use Rattle.wire.specs.octets.Octets.{byte_at, word16}
 use Rattle.claims.specs.declared.holds.Address.{Address}
 use Rattle.trace.specs.records.Numbers.{word64, bytes16, bytes64}
-use Rattle.trace.specs.records.Records.{kind_of, size_of, claim_of, kind_at, fields_at, record_at}
+use Rattle.trace.specs.records.Records.{kind_of, size_of, claim_of, fields_at, record_at}
 use Rattle.trace.specs.writing.Bytes.{headed, piece_of, source_bytes, packet_numbers}
 use Rattle.trace.specs.declared.records.Kind.{Kind}
 use Rattle.trace.specs.declared.records.Kind.TheVariants as kind
-use Rattle.trace.specs.declared.records.Record.{Record}
 use Rattle.trace.specs.declared.records.Record.TheVariants as is
 use Rattle.trace.proofs.records.Whole.{record_whole}
-use Rattle.trace.proofs.writing.Laid.{length-headed, length_high, length-source, length-packet, length-txt}
+use Rattle.trace.proofs.writing.Laid.{length-headed, length_high}
 use Rattle.trace.proofs.Stands.{Stands, front, behind, within, byte_read, word16-read, number_read}
 
 claim_known : (last k state : ℕ) → k ≤ 1 → state ≤ 4 → claim_of last k state ≡ is.Claim last k state

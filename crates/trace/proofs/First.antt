@@ -1,11 +1,11 @@
 -- Theorem: the offset of a refusal is that of the first record that is malformed or cannot stand where it does, or the end where one is owed. Assumes nothing.
 use mathlib.Core.Path.{◌≡◌, refl, sym, ap, subst, ◌∙◌}
-use mathlib.Core.List.{List, [], ◌∷◌, ◌++◌}
-use mathlib.Core.Bool.{Bool, true, false, cond, ◌&&◌}
+use mathlib.Core.List.{List}
+use mathlib.Core.Bool.{Bool, true, false, cond}
 use mathlib.Core.Option.{Option, none, some}
-use Prim.Native.Nat.{ℕ, zero, suc, ◌+◌, ◌-◌, ◌*◌, ◌<◌, ◌≤◌}
+use Prim.Native.Nat.{ℕ, zero, suc, ◌+◌, ◌-◌, ◌<◌, ◌≤◌}
 use native.Mathlib.Omega.{arith}
-use borrow.Author.Tests.{leb-true, leb-false}
+use borrow.Author.Tests.{leb-false}
 use lib.ListN.{length}
 use lib.Dec.{leb}
 use Rattle.claims.specs.declared.holds.Address.{Address}
@@ -24,11 +24,11 @@ use Rattle.trace.specs.declared.reading.Pieces.TheVariants as pieces
 use Rattle.trace.specs.declared.reading.Step.{Step}
 use Rattle.trace.specs.declared.reading.Step.TheVariants.{End, Found, Refused}
 use Rattle.trace.proofs.records.Standing.{kind_in, is_well, stand, never}
-use Rattle.trace.proofs.reading.Owed.{pieces_more, piece_whole, padded-whole}
-use Rattle.trace.proofs.reading.Placed.{placed, pieces_end, same_entry, not-refused, not_end}
+use Rattle.trace.proofs.reading.Owed.{pieces_more, piece_whole}
+use Rattle.trace.proofs.reading.Placed.{placed, not-refused, not_end}
 use Rattle.trace.proofs.reading.Unrolled.{unroll}
 use Rattle.trace.proofs.PiecesWritten.{is_end}
-use Rattle.trace.proofs.Written.{ended, is_none}
+use Rattle.trace.proofs.Written.{ended}
 
 -- where a run of records stops
 pub record Stopped (p : List ℕ) (owed : Owed) (at o : ℕ) : Type 0 where

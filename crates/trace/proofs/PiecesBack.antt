@@ -1,18 +1,16 @@
 -- The pieces of some bytes are read as those bytes. Assumes nothing.
 use mathlib.Core.Path.{◌≡◌, refl, sym, ap, ◌∙◌}
 use mathlib.Core.List.{List, [], ◌∷◌, ◌++◌, append_assoc}
-use mathlib.Core.Bool.{Bool, true, false, cond}
+use mathlib.Core.Bool.{Bool, true, false}
 use Prim.Native.Nat.{ℕ, zero, suc, ◌+◌, ◌-◌, ◌*◌, ◌<◌, ◌≤◌}
 use native.Mathlib.Omega.{arith}
-use lib.ListN.{length, take, drop, replicate, length-drop, length-take, length-append, length-replicate, take-append-drop}
+use lib.ListN.{length, take, drop, replicate, length-drop, length-append, length-replicate, take-append-drop}
 use lib.Seq.{take_at, drop_at, drop-drop, length-take-le}
 use lib.Dec.{leb}
 use borrow.Author.Tests.{leb-true, leb-false}
-use Rattle.trace.specs.records.Records.{record_at}
 use Rattle.trace.specs.reading.Reading.{all_zero, pieces_of, padding_at, is_padded, is_piece, pieces_at}
 use Rattle.trace.specs.reading.Events.{in_piece, data_from}
 use Rattle.trace.specs.writing.Bytes.{piece_of, pieces_over}
-use Rattle.trace.specs.declared.records.Record.TheVariants as is
 use Rattle.trace.specs.declared.reading.Pieces.TheVariants as pieces
 use Rattle.trace.proofs.reading.Owed.{pieces_more}
 use Rattle.trace.proofs.reading.Gathered.{in_piece_most, in_piece_rest}

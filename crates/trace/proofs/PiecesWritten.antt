@@ -2,10 +2,10 @@
 use mathlib.Core.Path.{◌≡◌, refl, sym, ap, ◌∙◌}
 use mathlib.Core.List.{List, [], ◌∷◌, ◌++◌, append-nil, append_assoc}
 use mathlib.Core.Bool.{Bool, true, false, cond, ◌&&◌}
-use Prim.Native.Nat.{ℕ, zero, suc, ◌+◌, ◌-◌, ◌*◌, ◌<◌, ◌≤◌}
+use Prim.Native.Nat.{ℕ, zero, suc, ◌+◌, ◌-◌, ◌<◌, ◌≤◌}
 use native.Mathlib.Omega.{arith}
-use borrow.Author.Tests.{ltb-true, ltb-false, lt-ltb, le-ltb, eqb-true}
-use lib.ListN.{length, take, drop, replicate, length-drop, length-append, take-append-drop, drop_of_length-le}
+use borrow.Author.Tests.{ltb-true, eqb-true}
+use lib.ListN.{length, take, drop, replicate, length-drop, take-append-drop, drop_of_length-le}
 use lib.Seq.{take_all, take_at, drop_at, take-add, drop-drop, length-take-le}
 use lib.Dec.{ltb, eqb}
 use Rattle.wire.specs.octets.Octets.{byte_at}
@@ -20,7 +20,7 @@ use Rattle.trace.specs.declared.reading.Pieces.TheVariants as pieces
 use Rattle.trace.proofs.records.Standing.{stand, never}
 use Rattle.trace.proofs.reading.Owed.{pieces_more, piece_whole}
 use Rattle.trace.proofs.reading.Placed.{pieces_end}
-use Rattle.trace.proofs.Numbers.{next_byte, kind_byte, byte_of-kind}
+use Rattle.trace.proofs.Numbers.{next_byte, byte_of-kind}
 
 abbrev pub is_end : Pieces → Bool
 is_end (pieces.End m) = true

@@ -1,33 +1,32 @@
 -- Theorem: "Reading what was written gives the same events." Assumes nothing.
-use mathlib.Core.Path.{◌≡◌, refl, sym, ap, subst, ◌∙◌}
-use mathlib.Core.List.{List, [], ◌∷◌, ◌++◌, append-nil}
+use mathlib.Core.Path.{◌≡◌, refl, sym, ap, ◌∙◌}
+use mathlib.Core.List.{List, [], ◌∷◌, ◌++◌}
 use mathlib.Core.Bool.{Bool, true, false, cond, ◌&&◌}
-use mathlib.Core.Option.{Option, none, some}
-use Prim.Native.Nat.{ℕ, zero, suc, ◌+◌, ◌-◌, ◌*◌, ◌<◌, ◌≤◌}
+use mathlib.Core.Option.{none}
+use Prim.Native.Nat.{ℕ, ◌+◌, ◌*◌, ◌<◌, ◌≤◌}
 use native.Mathlib.Omega.{arith}
 use borrow.Author.Tests.{ltb-true, eqb-true}
-use lib.ListN.{length, drop, length-drop, length-append}
-use lib.Dec.{ltb, eqb}
+use lib.ListN.{length, drop, length-drop}
+use lib.Dec.{eqb}
 use Rattle.claims.specs.declared.holds.Address.{Address}
 use Rattle.trace.specs.records.Numbers.{bytes16, bytes64}
 use Rattle.trace.specs.records.Records.{record_at}
-use Rattle.trace.specs.reading.Reading.{no_source, usual_hold, is_usual, pieces_of, pieces_at, data_step, with_data, alone_step, behind_source, step_with, step_at}
-use Rattle.trace.specs.reading.Events.{Occurrence, tick, packet, claim, stop, port, txt, occurrence, data_from, data_in, Reading, within, read_from, reading_of}
-use Rattle.trace.specs.writing.Bytes.{headed, pieces_for, pieces_over, source_bytes, source_over, packet_numbers, packet_bytes, txt_bytes, bytes_of, trace_of}
-use Rattle.trace.specs.writing.Sizes.{event_of, brought_by, fits64, is_wide, is_size, size_for, can_be_written, all_can_be_written}
+use Rattle.trace.specs.reading.Reading.{no_source, usual_hold, is_usual, pieces_of, data_step, with_data, alone_step, behind_source, step_with, step_at}
+use Rattle.trace.specs.reading.Events.{Occurrence, tick, packet, claim, stop, port, txt, occurrence, data_from, data_in, within, read_from, reading_of}
+use Rattle.trace.specs.writing.Bytes.{headed, pieces_for, source_bytes, packet_numbers, packet_bytes, bytes_of, trace_of}
+use Rattle.trace.specs.writing.Sizes.{fits64, is_wide, is_size, size_for, can_be_written, all_can_be_written}
 use Rattle.trace.specs.declared.records.Record.{Record}
 use Rattle.trace.specs.declared.records.Record.TheVariants as is
 use Rattle.trace.specs.declared.reading.Event.{Event}
 use Rattle.trace.specs.declared.reading.Event.TheVariants as event
 use Rattle.trace.specs.declared.reading.Entry.{Entry}
-use Rattle.trace.specs.declared.reading.Step.{Step}
-use Rattle.trace.specs.declared.reading.Step.TheVariants.{End, Found, Refused}
+use Rattle.trace.specs.declared.reading.Step.TheVariants.{Found, Refused}
 use Rattle.trace.specs.declared.writing.Size.{Size}
 use Rattle.trace.specs.declared.writing.Size.TheVariants as size
 use Rattle.trace.proofs.records.Standing.{never}
 use Rattle.trace.proofs.reading.Begun.{step_of, step_end}
 use Rattle.trace.proofs.reading.Unrolled.{unroll}
-use Rattle.trace.proofs.writing.Laid.{length-headed, length-source, length-packet, length-txt}
+use Rattle.trace.proofs.writing.Laid.{length-source, length-packet}
 use Rattle.trace.proofs.writing.Fitting.{claim_fits}
 use Rattle.trace.proofs.Stands.{Stands, front, behind, after}
 use Rattle.trace.proofs.Stands as stands

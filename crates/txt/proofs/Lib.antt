@@ -6,7 +6,6 @@ mod Strings
 mod Whole
 mod Placed
 mod Parts
-mod Several
 mod Examples
 pub mod ReadBack
 pub mod Use

@@ -1,17 +1,14 @@
 -- The refusal and the answer of a lookup, by what was found on the way. Assumes nothing.
 use mathlib.Core.Path.{◌≡◌, refl, sym, ◌∙◌}
-use mathlib.Core.List.{List, [], ◌∷◌}
+use mathlib.Core.List.{List}
 use mathlib.Core.Bool.{Bool, true, false, cond, not, ◌&&◌}
 use Prim.Native.Nat.{ℕ, zero, suc}
 use native.Mathlib.Omega.{arith}
-use types.Run.{OneOf, miss}
-use denote.Enum.Declared.{tag_of}
 use Rattle.wire.specs.rdata.Rdata.{strings_fill}
 use Rattle.txt.specs.Lookup.{bad_key, refusal_of, in_txt, when_absent, unless_refused, lookup_of}
 use Rattle.txt.specs.declared.Buffer.TheVariants.{Received, Factory}
 use Rattle.txt.specs.declared.Answer.{Answer}
 use Rattle.txt.specs.declared.Answer.TheVariants.{Refused, Absent, Present, Empty, Value}
-use Rattle.txt.specs.contracts.Answer.{the_type}
 
 module _ (key received factory : List ℕ) where
   pub refused_key : bad_key key ≡ true → 9 ≡ refusal_of key received factory
@@ -43,9 +40,9 @@ refuses zero a ne = absurd (ne refl)
 refuses (suc n) a ne = refl
 
 -- an answer that is not absent stands
-stands : (a other : Answer) → OneOf (0 ∷ 2 ∷ 3 ∷ 4 ∷ []) (tag_of the_type a) → a ≡ when_absent a other
+stands : (a other : Answer) → (a ≡ Absent → ⊥) → a ≡ when_absent a other
 stands (Refused n) other h = refl
-stands Absent other h = absurd (miss (0 ∷ 2 ∷ 3 ∷ 4 ∷ []) 1 tt h)
+stands Absent other h = absurd (h refl)
 stands Present other h = refl
 stands Empty other h = refl
 stands (Value v) other h = refl
@@ -67,5 +64,5 @@ module _ (key received factory : List ℕ) (n : ℕ) (is : n ≡ refusal_of key 
     pub is-factory : a ≡ Absent → (o : Answer) → o ≡ in_txt Factory key factory → o ≡ lookup_of key received factory
     is-factory e o eo = eo ∙ sym (asked zero_is ∙ simp (sym ea ∙ e))
 
-    pub is-received : OneOf (0 ∷ 2 ∷ 3 ∷ 4 ∷ []) (tag_of the_type a) → a ≡ lookup_of key received factory
+    pub is-received : (a ≡ Absent → ⊥) → a ≡ lookup_of key received factory
     is-received h = stands a (in_txt Factory key factory) h ∙ sym (asked zero_is ∙ rw (← ea))

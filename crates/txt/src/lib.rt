@@ -181,8 +181,7 @@ pub fn part_of<'a>(answer: Answer, received: &'a [u8], factory: &'a [u8]) -> &'a
     }
 }
 
-// The lookup: the answer for a key and the part that it shows, together. The prover's own walk does not cover a struct that holds a reference, so
-// the work is in the two functions above, and this one is walked by hand.
+// The lookup: the answer for a key and the part that it shows, together.
 pub fn lookup<'k, 'a>(key: &'k [u8], received: &'a [u8], factory: &'a [u8]) -> Shown<'a>
     ensures answer { result.answer ≡ lookup_of key.now received.now factory.now }
     ensures number { number_of result.answer ≡ refusal_of key.now received.now factory.now }

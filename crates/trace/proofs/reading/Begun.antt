@@ -1,11 +1,8 @@
 -- The event that begins with the record that was read. Assumes nothing.
 use mathlib.Core.Path.{◌≡◌, refl, sym, ap, ◌∙◌}
-use mathlib.Core.List.{List, [], ◌∷◌}
+use mathlib.Core.List.{List}
 use mathlib.Core.Bool.{Bool, true, false}
 use Prim.Native.Nat.{ℕ, ◌+◌, ◌<◌, ◌≤◌}
-use native.Mathlib.Omega.{arith}
-use types.Run.{OneOf, miss}
-use denote.Enum.Declared.{tag_of}
 use borrow.Author.Tests.{le-leb, lt-leb}
 use lib.ListN.{length}
 use Rattle.claims.specs.declared.holds.Address.{Address}
@@ -15,9 +12,7 @@ use Rattle.trace.specs.declared.records.Record.{Record}
 use Rattle.trace.specs.declared.records.Record.TheVariants as is
 use Rattle.trace.specs.declared.reading.Event.{Event}
 use Rattle.trace.specs.declared.reading.Pieces.{Pieces}
-use Rattle.trace.specs.declared.reading.Step.{Step}
-use Rattle.trace.specs.declared.reading.Step.TheVariants.{End, Found, Refused}
-use Rattle.trace.specs.contracts.records.Record.{the_type}
+use Rattle.trace.specs.declared.reading.Step.TheVariants.{End, Refused}
 use Rattle.trace.proofs.records.Standing.{kind_in, is_well, stand}
 
 pub with-data_of : (p : List ℕ) (e : Event) (first len : ℕ) (x y : Pieces) → x ≡ pieces_at (pieces_of len) p first len → x ≡ y
@@ -44,13 +39,13 @@ module _ (p : List ℕ) (at : ℕ) (r : Record) (er : r ≡ record_at p at) wher
   pub behind-of : (from : Address) (hold : ℕ) (q : Record) → r ≡ q → behind_source p at from hold q ≡ behind_source p at from hold (record_at p at)
   behind-of from hold q e = ap (behind_source p at from hold) (sym e ∙ er)
 
-  pub behind-other : (from : Address) (hold : ℕ) → OneOf (0 ∷ 2 ∷ 3 ∷ 4 ∷ 5 ∷ 6 ∷ 7 ∷ 8 ∷ []) (tag_of the_type r)
+  pub behind-other : (from : Address) (hold : ℕ) → ((time port draw len : ℕ) → r ≡ is.Packet time port draw len → ⊥)
       → Refused at ≡ behind_source p at from hold (record_at p at)
   behind-other from hold h = go r h ∙ ap (behind_source p at from hold) er
     where
-      go : (q : Record) → OneOf (0 ∷ 2 ∷ 3 ∷ 4 ∷ 5 ∷ 6 ∷ 7 ∷ 8 ∷ []) (tag_of the_type q) → Refused at ≡ behind_source p at from hold q
+      go : (q : Record) → ((time port draw len : ℕ) → q ≡ is.Packet time port draw len → ⊥) → Refused at ≡ behind_source p at from hold q
       go (is.Tick time) h = refl
-      go (is.Packet time port draw len) h = absurd (miss (0 ∷ 2 ∷ 3 ∷ 4 ∷ 5 ∷ 6 ∷ 7 ∷ 8 ∷ []) 1 tt h)
+      go (is.Packet time port draw len) h = absurd (h time port draw len refl)
       go is.Piece h = refl
       go (is.Claim last claim state) h = refl
       go (is.Source from2 hold2) h = refl

@@ -1,19 +1,15 @@
 -- Pieces, one at a time. Assumes nothing.
 use mathlib.Core.Path.{◌≡◌, refl, sym, ap, ◌∙◌}
-use mathlib.Core.List.{List, [], ◌∷◌}
+use mathlib.Core.List.{List}
 use mathlib.Core.Bool.{Bool, true, false}
 use Prim.Native.Nat.{ℕ, suc, ◌+◌, ◌-◌, ◌<◌, ◌≤◌}
 use native.Mathlib.Omega.{arith}
-use types.Run.{OneOf, miss}
-use denote.Enum.Declared.{tag_of}
 use lib.ListN.{length, take, drop}
 use Rattle.trace.specs.records.Records.{record_at}
 use Rattle.trace.specs.reading.Reading.{all_zero, pieces_of, is_padded, is_piece, pieces_at}
 use Rattle.trace.specs.declared.records.Record.{Record}
 use Rattle.trace.specs.declared.records.Record.TheVariants as is
-use Rattle.trace.specs.declared.reading.Pieces.{Pieces}
 use Rattle.trace.specs.declared.reading.Pieces.TheVariants as pieces
-use Rattle.trace.specs.contracts.records.Record.{the_type}
 use Rattle.trace.proofs.records.Standing.{stand, never}
 
 -- one piece more
@@ -50,14 +46,14 @@ module _ (p : List ℕ) (at left : ℕ) where
         let z : at + 17 - (at + 1 + left) ≡ 16 - left = omega arith in
         eb ∙ ap (λ (n : ℕ). all_zero (take n (drop (at + 1 + left) p))) z ∙ rw (← e, er)
 
-    pub piece_other : OneOf (0 ∷ 1 ∷ 3 ∷ 4 ∷ 5 ∷ 6 ∷ 7 ∷ 8 ∷ []) (tag_of the_type r) → false ≡ is_piece p at left
+    pub piece_other : (r ≡ is.Piece → ⊥) → false ≡ is_piece p at left
     unfolding is_piece
     piece_other h = go r h ∙ ap (is_padded p at left) e
       where
-        go : (q : Record) → OneOf (0 ∷ 1 ∷ 3 ∷ 4 ∷ 5 ∷ 6 ∷ 7 ∷ 8 ∷ []) (tag_of the_type q) → false ≡ is_padded p at left q
+        go : (q : Record) → (q ≡ is.Piece → ⊥) → false ≡ is_padded p at left q
         go (is.Tick time) h = refl
         go (is.Packet time port draw len) h = refl
-        go is.Piece h = absurd (miss (0 ∷ 1 ∷ 3 ∷ 4 ∷ 5 ∷ 6 ∷ 7 ∷ 8 ∷ []) 2 tt h)
+        go is.Piece h = absurd (h refl)
         go (is.Claim last claim state) h = refl
         go (is.Source from hold) h = refl
         go (is.Stop time) h = refl

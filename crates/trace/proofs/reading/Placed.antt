@@ -1,14 +1,13 @@
 -- Where the event lies that stands at an offset: within the trace, with its pieces, and it takes a byte at least. Assumes nothing.
-use mathlib.Core.Path.{◌≡◌, refl, sym, ap, subst, ◌∙◌}
-use mathlib.Core.List.{List, [], ◌∷◌}
+use mathlib.Core.Path.{◌≡◌, refl, ap, subst}
+use mathlib.Core.List.{List}
 use mathlib.Core.Bool.{Bool, true, false, cond}
 use Prim.Native.Nat.{ℕ, zero, suc, ◌+◌, ◌*◌, ◌-◌, ◌<◌, ◌≤◌}
 use native.Mathlib.Omega.{arith}
-use borrow.Author.Tests.{leb-false}
 use lib.ListN.{length}
 use lib.Dec.{leb}
 use Rattle.claims.specs.declared.holds.Address.{Address}
-use Rattle.trace.specs.records.Records.{size_of, record_at}
+use Rattle.trace.specs.records.Records.{record_at}
 use Rattle.trace.specs.reading.Reading.{is_usual, is_piece, pieces_of, pieces_at, data_step, with_data, alone_step, behind_source, step_with, step_at}
 use Rattle.trace.specs.declared.records.Record.{Record}
 use Rattle.trace.specs.declared.records.Record.TheVariants as is

@@ -8,8 +8,7 @@ use borrow.Author.Tests.{leb-true}
 use lib.ListN.{length}
 use lib.Dec.{leb}
 use Rattle.wire.specs.octets.Octets.{byte_at}
-use Rattle.trace.specs.records.Records.{kind_of, size_of, claim_of, kind_at, fields_at, record_at}
-use Rattle.trace.specs.records.Numbers.{word64}
+use Rattle.trace.specs.records.Records.{size_of, kind_at, fields_at, record_at}
 use Rattle.trace.specs.declared.records.Kind.{Kind}
 use Rattle.trace.specs.declared.records.Kind.TheVariants as kind
 use Rattle.trace.specs.declared.records.Record.{Record}

@@ -1,11 +1,11 @@
 -- Pieces, laid one after the other. Assumes nothing.
 use mathlib.Core.Path.{◌≡◌, refl, sym, ap, ◌∙◌}
-use mathlib.Core.List.{List, [], ◌∷◌, ◌++◌}
+use mathlib.Core.List.{List, ◌++◌}
 use mathlib.Core.Bool.{Bool, true, false, cond}
-use Prim.Native.Nat.{ℕ, suc, ◌+◌, ◌-◌, ◌*◌, ◌<◌, ◌≤◌}
+use Prim.Native.Nat.{ℕ, suc, ◌+◌, ◌-◌, ◌<◌, ◌≤◌}
 use native.Mathlib.Omega.{arith}
-use borrow.Author.Tests.{ltb-true, ltb-false}
-use lib.ListN.{length, take, drop, length-drop, length-take, drop_of_length-le}
+use borrow.Author.Tests.{ltb-true}
+use lib.ListN.{length, take, drop, length-drop, drop_of_length-le}
 use lib.Seq.{sets, take_all, drop-drop, length-take-le}
 use lib.Dec.{ltb}
 use Rattle.wire.proofs.octets.Sets.{sets-append}

@@ -1,5 +1,5 @@
 -- One record of a trace: "one byte of kind, then a body whose length the kind fixes, numbers big-endian". Assumes nothing: these are definitions.
-use Rattle.std.specs.Prelude.{ℕ, ◌+◌, List, Bool, cond, ◌&&◌, length, leb, eqb}
+use Rattle.std.specs.Prelude.{ℕ, ◌+◌, List, cond, ◌&&◌, length, leb, eqb}
 use Rattle.wire.specs.octets.Octets.{byte_at, word16}
 use Rattle.trace.specs.records.Numbers.{word64}
 use Rattle.trace.specs.declared.records.Kind.{Kind}

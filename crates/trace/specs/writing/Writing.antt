@@ -1,5 +1,5 @@
 -- What writing an event into a buffer answers, and what the buffer holds then. Assumes nothing: these are definitions.
-use Rattle.std.specs.Prelude.{ℕ, ◌+◌, List, Bool, cond, length, leb, ltb}
+use Rattle.std.specs.Prelude.{ℕ, ◌+◌, List, cond, length, leb}
 use Rattle.std.proofs.lemmas.List.Edits.{sets}
 use Rattle.trace.specs.reading.Events.{occurrence}
 use Rattle.trace.specs.writing.Bytes.{bytes_of}

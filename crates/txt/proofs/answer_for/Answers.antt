@@ -15,4 +15,4 @@ pub returns-in-Absent : goal.returns-in-Absent
 returns-in-Absent c = let all = numbered _ _ _ _ (is-factory _ _ _ _ c.refusal-number.ensures c.if-number-ne0.false _ c.find-answer.ensures c.in-Absent.is _ c.find.ensures) in record { answer = all.0; number = all.1 }
 
 pub returns-in_default : goal.returns-in_default
-returns-in_default c = let all = numbered _ _ _ _ (is-received _ _ _ _ c.refusal-number.ensures c.if-number-ne0.false _ c.find-answer.ensures c.in_default.keys2) in record { answer = all.0; number = all.1 }
+returns-in_default c = let all = numbered _ _ _ _ (is-received _ _ _ _ c.refusal-number.ensures c.if-number-ne0.false _ c.find-answer.ensures c.in_default.not-Absent) in record { answer = all.0; number = all.1 }

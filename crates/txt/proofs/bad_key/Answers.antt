@@ -1,9 +1,4 @@
-use mathlib.Core.Path.{◌≡◌}
-use Prim.Native.Nat.{◌≤◌, ◌-◌}
 use native.Mathlib.Omega.{arith}
-use lib.ListN.{length, drop}
-use Rattle.wire.specs.Lists.{some as some_of}
-use Rattle.txt.specs.Lookup.{bad_byte, bad_key}
 use Rattle.txt.proofs.Keys.{empty-bad, bad_start, turn_bad, turn_good, all-good}
 use Rattle.txt.proofs.bad_key.Goals as goal
 

@@ -1,10 +1,5 @@
-use mathlib.Core.Path.{◌≡◌, refl, sym, ◌∙◌}
-use Prim.Native.Nat.{◌≤◌, ◌-◌}
+use mathlib.Core.Path.{refl, sym, ◌∙◌}
 use native.Mathlib.Omega.{arith}
-use lib.ListN.{length, drop}
-use Rattle.wire.specs.rdata.Rdata.{strings_fill}
-use Rattle.txt.specs.Txt.{strings_from, first_with}
-use Rattle.txt.specs.Lookup.{answer_of, in_txt}
 use Rattle.txt.proofs.Strings.{string_in, fill_rest, found, not_found, from_start, no_more}
 use Rattle.txt.proofs.find.Goals as goal
 

@@ -1,11 +1,9 @@
-use mathlib.Core.Path.{◌≡◌, refl, sym, ◌∙◌}
+use mathlib.Core.Path.{◌≡◌}
 use Prim.Native.Nat.{◌≤◌, ◌-◌}
-use native.Mathlib.Omega.{arith}
 use lib.ListN.{length, drop}
 use Rattle.wire.specs.rdata.Rdata.{strings_fill}
 use Rattle.txt.specs.Txt.{strings_from, first_with}
 use Rattle.txt.specs.Lookup.{answer_of, in_txt}
-use Rattle.txt.proofs.Strings.{string_in, fill_rest, found, not_found, from_start, no_more}
 use Rattle.txt.proofs.find.Given as goal
 
 abbrev pub invariant-loop-at : goal.invariant-loop-at

@@ -1,8 +1,4 @@
-use mathlib.Core.Path.{◌≡◌}
-use Prim.Native.Nat.{◌≤◌, ◌-◌, ◌+◌}
 use native.Mathlib.Omega.{arith}
-use lib.ListN.{length, drop}
-use Rattle.txt.specs.Txt.{key_of}
 use Rattle.txt.proofs.Pairs.{key_ends, key_goes_on, key_all}
 use Rattle.txt.proofs.key_len.Goals as goal
 

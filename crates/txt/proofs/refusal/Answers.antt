@@ -1,5 +1,4 @@
 use mathlib.Core.Path.{sym, ◌∙◌}
-use borrow.Author.Tests.{not-true, not-false}
 use Rattle.txt.proofs.Whole.{refused_key, refused_received, refused_factory, not-refused}
 use Rattle.txt.proofs.refusal.Goals as goal
 

@@ -1,8 +1,5 @@
-use mathlib.Core.Path.{◌≡◌, refl}
-use Prim.Native.Nat.{◌≤◌, ◌-◌}
+use mathlib.Core.Path.{refl}
 use native.Mathlib.Omega.{arith}
-use lib.ListN.{length, drop}
-use Rattle.trace.specs.reading.Reading.{all_zero}
 use Rattle.trace.proofs.reading.Zero.{turn_other, turn_zero, all-passed}
 use Rattle.trace.proofs.reading.all_zero.Goals as goal
 

@@ -1,9 +1,7 @@
-use mathlib.Core.Path.{◌≡◌, refl}
+use mathlib.Core.Path.{◌≡◌}
 use Prim.Native.Nat.{◌≤◌, ◌-◌}
-use native.Mathlib.Omega.{arith}
 use lib.ListN.{length, drop}
 use Rattle.trace.specs.reading.Reading.{all_zero}
-use Rattle.trace.proofs.reading.Zero.{turn_other, turn_zero, all-passed}
 use Rattle.trace.proofs.reading.all_zero.Given as goal
 
 abbrev pub invariant-loop-i : goal.invariant-loop-i

@@ -9,4 +9,4 @@ pub returns-in-Packet : goal.returns-in-Packet
 returns-in-Packet c = let a = c.args in c.with_data.ensures ∙ behind-of a.trace.now a.at _ c.record_at.ensures a.from a.hold _ c.in-Packet.is
 
 pub returns-in_default : goal.returns-in_default
-returns-in_default c = let a = c.args in behind-other a.trace.now a.at _ c.record_at.ensures a.from a.hold c.in_default.keys2
+returns-in_default c = let a = c.args in behind-other a.trace.now a.at _ c.record_at.ensures a.from a.hold c.in_default.not-Packet

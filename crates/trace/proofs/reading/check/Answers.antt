@@ -1,9 +1,7 @@
 use Rattle.trace.proofs.reading.Begun.{step_end}
-use mathlib.Core.Path.{◌≡◌, refl, sym, ap, ◌∙◌}
-use Prim.Native.Nat.{ℕ, ◌+◌, ◌-◌, ◌≤◌}
+use mathlib.Core.Path.{refl, sym, ap, ◌∙◌}
 use native.Mathlib.Omega.{arith}
-use lib.ListN.{length}
-use Rattle.trace.specs.reading.Events.{read_from, checked_of}
+use Rattle.trace.specs.reading.Events.{checked_of}
 use Rattle.trace.proofs.reading.Placed.{placed}
 use Rattle.trace.proofs.reading.Unrolled.{read_on, read_end, read_refused}
 use Rattle.trace.proofs.reading.check.Goals as goal

@@ -1,11 +1,7 @@
-use Rattle.trace.proofs.reading.Begun.{step_end}
-use mathlib.Core.Path.{◌≡◌, refl, sym, ap, ◌∙◌}
-use Prim.Native.Nat.{ℕ, ◌+◌, ◌-◌, ◌≤◌}
-use native.Mathlib.Omega.{arith}
+use mathlib.Core.Path.{◌≡◌}
+use Prim.Native.Nat.{◌-◌, ◌≤◌}
 use lib.ListN.{length}
-use Rattle.trace.specs.reading.Events.{read_from, checked_of}
-use Rattle.trace.proofs.reading.Placed.{placed}
-use Rattle.trace.proofs.reading.Unrolled.{read_on, read_end, read_refused}
+use Rattle.trace.specs.reading.Events.{read_from}
 use Rattle.trace.proofs.reading.check.Given as goal
 
 abbrev pub invariant-loop-at : goal.invariant-loop-at

@@ -1,11 +1,10 @@
 use mathlib.Core.Path.{◌≡◌, refl, sym, ap, ◌∙◌}
-use Prim.Native.Nat.{ℕ, ◌+◌, ◌-◌, ◌*◌, ◌≤◌}
+use Prim.Native.Nat.{ℕ, ◌+◌, ◌-◌}
 use native.Mathlib.Omega.{arith}
-use lib.ListN.{length, take, drop}
+use lib.ListN.{take, drop}
 use lib.Seq.{sets, length-sets}
-use Rattle.trace.specs.reading.Reading.{pieces_of}
-use Rattle.trace.specs.reading.Events.{in_piece, data_from}
-use Rattle.trace.proofs.reading.Gathered.{in_piece_most, in_piece_rest, piece_fits, rest_fits, gather_turn, gather_none}
+use Rattle.trace.specs.reading.Events.{in_piece}
+use Rattle.trace.proofs.reading.Gathered.{in_piece_most, piece_fits, rest_fits, gather_turn, gather_none}
 use Rattle.trace.proofs.reading.gather.Goals as goal
 
 pub loop-left-init : goal.loop-left-init

@@ -1,11 +1,9 @@
-use mathlib.Core.Path.{◌≡◌, refl, sym, ap, ◌∙◌}
-use Prim.Native.Nat.{ℕ, ◌+◌, ◌-◌, ◌*◌, ◌≤◌}
-use native.Mathlib.Omega.{arith}
-use lib.ListN.{length, take, drop}
-use lib.Seq.{sets, length-sets}
+use mathlib.Core.Path.{◌≡◌}
+use Prim.Native.Nat.{◌+◌, ◌-◌, ◌*◌, ◌≤◌}
+use lib.ListN.{length}
+use lib.Seq.{sets}
 use Rattle.trace.specs.reading.Reading.{pieces_of}
-use Rattle.trace.specs.reading.Events.{in_piece, data_from}
-use Rattle.trace.proofs.reading.Gathered.{in_piece_most, in_piece_rest, piece_fits, rest_fits, gather_turn, gather_none}
+use Rattle.trace.specs.reading.Events.{data_from}
 use Rattle.trace.proofs.reading.gather.Given as goal
 
 abbrev pub invariant-loop-left : goal.invariant-loop-left

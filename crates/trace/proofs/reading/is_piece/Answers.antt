@@ -21,4 +21,4 @@ pub returns-else-left-ge-PIECE_BYTES : goal.returns-else-left-ge-PIECE_BYTES
 returns-else-left-ge-PIECE_BYTES c = piece_padded _ _ _ _ c.record_at.ensures c.in-Piece.is _ c.all_zero.ensures
 
 pub returns-in_default : goal.returns-in_default
-returns-in_default c = piece_other _ _ _ _ c.record_at.ensures c.in_default.keys2
+returns-in_default c = piece_other _ _ _ _ c.record_at.ensures c.in_default.not-Piece

@@ -1,8 +1,6 @@
 use mathlib.Core.Path.{◌≡◌, refl, sym, ap, ◌∙◌}
-use Prim.Native.Nat.{ℕ, ◌+◌, ◌≤◌}
+use Prim.Native.Nat.{ℕ, ◌+◌}
 use native.Mathlib.Omega.{arith}
-use borrow.Author.Tests.{not-true, not-false}
-use lib.ListN.{length}
 use Rattle.trace.specs.reading.Reading.{pieces_of, pieces_at}
 use Rattle.trace.proofs.reading.Owed.{piece_whole, pieces_turn, pieces_stop, pieces_none}
 use Rattle.trace.proofs.reading.pieces_end.Goals as goal

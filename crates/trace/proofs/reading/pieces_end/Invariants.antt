@@ -1,10 +1,7 @@
-use mathlib.Core.Path.{◌≡◌, refl, sym, ap, ◌∙◌}
-use Prim.Native.Nat.{ℕ, ◌+◌, ◌≤◌}
-use native.Mathlib.Omega.{arith}
-use borrow.Author.Tests.{not-true, not-false}
+use mathlib.Core.Path.{◌≡◌}
+use Prim.Native.Nat.{◌≤◌}
 use lib.ListN.{length}
 use Rattle.trace.specs.reading.Reading.{pieces_of, pieces_at}
-use Rattle.trace.proofs.reading.Owed.{piece_whole, pieces_turn, pieces_stop, pieces_none}
 use Rattle.trace.proofs.reading.pieces_end.Given as goal
 
 abbrev pub invariant-loop-left : goal.invariant-loop-left

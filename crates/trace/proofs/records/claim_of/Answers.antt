@@ -1,5 +1,4 @@
 use borrow.Author.Tests.{le-leb, lt-leb}
-use native.Mathlib.Omega.{arith}
 use Rattle.trace.proofs.records.claim_of.Goals as goal
 
 pub returns-then-claim-gt1 : goal.returns-then-claim-gt1

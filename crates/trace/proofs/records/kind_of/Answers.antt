@@ -1,4 +1,3 @@
-use borrow.Author.Tests.{ne_eqb}
 use Rattle.trace.proofs.records.kind_of.Goals as goal
 
 pub returns-in-1 : goal.returns-in-1
@@ -24,16 +23,3 @@ returns-in-7 c = rw c.in-7.is
 
 pub returns-in-8 : goal.returns-in-8
 returns-in-8 c = rw c.in-8.is
-
-pub returns-in_default : goal.returns-in_default
-returns-in_default c = let r = c.in_default.rest in
-    simp (
-      ne_eqb _ 1 r.0.0.0.0.0.0.0.1,
-      ne_eqb _ 2 r.0.0.0.0.0.0.1,
-      ne_eqb _ 3 r.0.0.0.0.0.1,
-      ne_eqb _ 4 r.0.0.0.0.1,
-      ne_eqb _ 5 r.0.0.0.1,
-      ne_eqb _ 6 r.0.0.1,
-      ne_eqb _ 7 r.0.1,
-      ne_eqb _ 8 r.1,
-    )

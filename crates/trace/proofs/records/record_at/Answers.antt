@@ -5,10 +5,10 @@ use Rattle.trace.proofs.records.Whole.{record_short, record_whole}
 use Rattle.trace.proofs.records.record_at.Goals as goal
 
 pub returns-then-trace-size : goal.returns-then-trace-size
-returns-then-trace-size c = let a = c.args in record_short a.trace.now a.at _ (c.before.type_size.ensures ∙ ap size_of (c.kind_of-kind.ensures ∙ ap kind_of c.byte.ensures)) (omega arith)
+returns-then-trace-size c = let a = c.args in record_short a.trace.now a.at _ (c.size_of-size.ensures ∙ ap size_of (c.kind_of-kind.ensures ∙ ap kind_of c.byte.ensures)) (omega arith)
 
 pub returns-then-trace-size-2 : goal.returns-then-trace-size-2
-returns-then-trace-size-2 c = let a = c.args in record_short a.trace.now a.at _ (c.before.before.type_size.ensures ∙ ap size_of (c.kind_of-kind.ensures ∙ ap kind_of c.byte.ensures)) (omega arith)
+returns-then-trace-size-2 c = let a = c.args in record_short a.trace.now a.at _ (c.size_of-size.ensures ∙ ap size_of (c.kind_of-kind.ensures ∙ ap kind_of c.byte.ensures)) (omega arith)
 
 pub returns : goal.returns
-returns c = let a = c.args in record_whole a.trace.now a.at _ _ (c.kind_of-kind.ensures ∙ ap kind_of c.byte.ensures) (omega (arith, c.before.before.before.type_size.ensures)) c.fields.ensures
+returns c = let a = c.args in record_whole a.trace.now a.at _ _ (c.kind_of-kind.ensures ∙ ap kind_of c.byte.ensures) (omega (arith, c.size_of-size.ensures)) c.fields.ensures

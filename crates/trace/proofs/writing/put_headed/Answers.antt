@@ -1,4 +1,4 @@
-use Rattle.trace.specs.records.Numbers.{bytes16, bytes64}
+use Rattle.trace.specs.records.Numbers.{bytes64}
 use mathlib.Core.List.{[], ◌∷◌}
 use mathlib.Core.Path.{refl}
 use Rattle.trace.proofs.writing.Laid.{laid}

@@ -1,5 +1,4 @@
-use Rattle.trace.specs.records.Numbers.{bytes16, bytes64}
-use Rattle.trace.specs.writing.Bytes.{headed, source_bytes, packet_numbers, packet_bytes, pieces_for, bytes_of}
+use Rattle.trace.specs.writing.Bytes.{headed, packet_numbers, pieces_for}
 use mathlib.Core.List.{◌++◌}
 use lib.ListN.{length}
 use Rattle.trace.proofs.writing.Laid.{laid, length-headed, length-packet}

@@ -1,13 +1,11 @@
 use mathlib.Core.Path.{◌≡◌, refl, sym, ap, ◌∙◌}
 use native.Mathlib.Omega.{arith}
-use Prim.Native.Nat.{ℕ, ◌+◌, ◌-◌, ◌*◌, ◌≤◌}
+use Prim.Native.Nat.{ℕ, ◌+◌, ◌-◌, ◌≤◌}
 use lib.ListN.{length, take, drop}
 use lib.Seq.{sets, length-sets}
-use Rattle.trace.specs.reading.Reading.{pieces_of}
-use Rattle.trace.specs.reading.Events.{in_piece}
-use Rattle.trace.specs.writing.Bytes.{piece_of, pieces_over, pieces_for}
+use Rattle.trace.specs.writing.Bytes.{piece_of}
 use Rattle.trace.proofs.reading.Gathered.{in_piece_most, in_piece_rest}
-use Rattle.trace.proofs.writing.Turned.{length_front, turn_from, pieces_left, no_pieces}
+use Rattle.trace.proofs.writing.Turned.{turn_from, pieces_left, no_pieces}
 use lib.ListN.{length-drop}
 use lib.Seq.{length-take-le}
 use Rattle.trace.proofs.writing.put_pieces.Goals as goal
@@ -32,7 +30,10 @@ put_piece-requires c = let a = c.args in
       in_piece_most (length a.bytes.now - l.from),
       c.in_piece.ensures,
     ) in
-    (omega (arith, pieces_left c.args.bytes.now c.loop-from.from (omega arith) c.in_piece.result c.in_piece.ensures, l.invariant.2), most)
+    record {
+      at_in_bounds = omega (arith, pieces_left c.args.bytes.now c.loop-from.from (omega arith) c.in_piece.result c.in_piece.ensures, l.invariant.2);
+      bytes_len_bound = most;
+    }
 
 pub overflow_add-at : goal.overflow_add-at
 overflow_add-at c = omega (arith, pieces_left c.args.bytes.now c.loop-from.from (omega arith) c.in_piece.result c.in_piece.ensures, c.loop-from.invariant.2)

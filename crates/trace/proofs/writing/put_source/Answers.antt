@@ -1,5 +1,5 @@
 use Rattle.trace.specs.records.Numbers.{bytes16, bytes64}
-use Rattle.trace.specs.writing.Bytes.{headed, source_bytes, packet_numbers, packet_bytes, pieces_for, bytes_of}
+use Rattle.trace.specs.writing.Bytes.{headed}
 use mathlib.Core.List.{◌++◌}
 use Rattle.trace.proofs.writing.Laid.{laid, length-headed, length_high}
 use Rattle.trace.proofs.writing.put_source.Goals as goal

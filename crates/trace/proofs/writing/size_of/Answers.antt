@@ -1,4 +1,4 @@
-use mathlib.Core.Path.{◌≡◌, refl, sym, ap, ◌∙◌}
+use mathlib.Core.Path.{sym, ap, ◌∙◌}
 use Rattle.trace.proofs.writing.Fitting.{hold-unfit, hold-fit, source_small, port-unfit, port-fit, txt-unfit, txt-fit}
 use Rattle.trace.specs.writing.Sizes.{size_for}
 use Rattle.trace.specs.declared.reading.Event.{Event}

@@ -1,4 +1,4 @@
-use mathlib.Core.Path.{◌≡◌, refl, sym, ap, ◌∙◌}
+use mathlib.Core.Path.{sym, ◌∙◌}
 use Rattle.trace.proofs.writing.source_size.Goals as goal
 
 pub returns-then-is_usual : goal.returns-then-is_usual
