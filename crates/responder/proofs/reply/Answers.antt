@@ -6,7 +6,7 @@ use Rattle.responder.proofs.reply.Goals as goal
 pub returns-then-port-ne-MDNS_PORT : goal.returns-then-port-ne-MDNS_PORT
 returns-then-port-ne-MDNS_PORT c = let a = c.args in
     let all = replies_plain a.setup a.port a.set (message_in a.packet.now a.l) a.out.now _ _ c.if-port-ne-MDNS_PORT.true
-    c.plain_reply.ensures in record { value = all.0; out_after = all.1 }
+    (c.plain_reply.ensures.result_value, c.plain_reply.ensures.out_after) in record { value = all.0; out_after = all.1 }
 
 pub returns : goal.returns
 unfolding message_in

@@ -22,4 +22,4 @@ pub answer_with-requires : goal.answer_with-requires
 answer_with-requires c = tt
 
 pub returns : goal.returns
-returns c = ticks _ _ _ c.tick_refusal-refusal.ensures _ _ _ _ c.if-refusal-ne0.false c.tick-walked.ensures c.send-sent.ensures c.answer_with.ensures
+returns c = ticks _ _ _ c.tick_refusal-refusal.ensures _ _ _ _ c.if-refusal-ne0.false c.tick-walked.ensures (c.send-sent.ensures.value, c.send-sent.ensures.out_after) c.answer_with.ensures
