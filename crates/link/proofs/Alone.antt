@@ -12,7 +12,7 @@ use Rattle.link.specs.Responder.{Responder, Parcel, Claim, Answer, refused, acce
 use Rattle.link.specs.Entries.{Entry, Call, starts, ticks, receives, stops, updates, cut, call_at, owner_at, after, runs, reply_at, sent_at, heard_at, setup_in, setup_of, revised, data_at, update_in, update_at}
 use Rattle.link.specs.Premises.{Among}
 use Rattle.link.specs.Holding.{is_and, any_of, responds_for, conflicts_with, writes, hears, holds}
-use Rattle.link.specs.Laws.{Step, data_after, Sent, Rules, out, Lawful}
+use Rattle.link.specs.Laws.{data_after, Sent, Rules, out, Lawful}
 use Rattle.link.specs.Contention.{Tiebreak, wants, FromList}
 use Rattle.link.specs.Candid.{Contradicts, Candid}
 use Rattle.link.proofs.Lists.{clash, and_left, and_right, and_both, any_of_lem, is-from, is-of, message_of_lem}

@@ -11,9 +11,9 @@ use lib.ListN.{length}
 use lib.Dec.{leb, ltb, eqb}
 use borrow.Author.Tests.{leb-true, le-leb, ltb-true, eqb-true, not-true}
 use Rattle.link.specs.Responder.{Responder, Parcel, Claim}
-use Rattle.link.specs.Entries.{Entry, time_at, owner_at, after, is_some, runs, sent_at, heard_at, setup_of, data_at, update_at}
-use Rattle.link.specs.Premises.{Among, delivery_time}
-use Rattle.link.specs.Holding.{is_and, any_of, conflicts_with, hears}
+use Rattle.link.specs.Entries.{Entry, time_at, owner_at, is_some, runs, sent_at, heard_at, setup_of, data_at, update_at}
+use Rattle.link.specs.Premises.{delivery_time}
+use Rattle.link.specs.Holding.{is_and, conflicts_with, hears}
 use Rattle.link.specs.Demand3.{holding_time}
 use Rattle.link.specs.Contention.{Tiebreak, wants, begun, FromList, LeftAlone, Differ, probes_for, NotLater, Latest, SwitchedOn}
 use Rattle.link.specs.Witness.{every, some_below, same_bytes}
@@ -21,7 +21,7 @@ use Rattle.link.specs.ContentionWitness.{hears_from, is_from_list, kept_on, not_
 use Rattle.link.proofs.Lists.{clash, and_left, and_right, and_both, or_either, any_from_lem, is-from}
 use Rattle.link.proofs.States.{passed}
 use Rattle.link.proofs.Order.{setup_in_list, in_list_lem}
-use Rattle.link.proofs.Witness.{below, some-from, if_so, bytes_same, same_bytes_lem}
+use Rattle.link.proofs.Witness.{below, if_so, bytes_same, same_bytes_lem}
 use Rattle.link.proofs.Last.{wanted_setup}
 use Rattle.link.proofs.Alone.{Heard, heard-by}
 

@@ -2,14 +2,14 @@
 -- list's beginning. Assumes nothing.
 use mathlib.Core.Path.{◌≡◌, refl, sym, ◌∙◌, ap, subst}
 use mathlib.Core.Bool.{Bool, true, false}
-use mathlib.Core.Option.{none, some}
+use mathlib.Core.Option.{some}
 use mathlib.Core.List.{List}
 use Prim.Native.Nat.{ℕ, suc, ◌≤◌, ◌<◌}
 use lib.ListN.{length}
 use lib.Dec.{eqb}
 use borrow.Author.Tests.{eq-eqb}
 use Rattle.link.specs.Responder.{Responder, everyone, Parcel, Claim}
-use Rattle.link.specs.Entries.{Entry, owner_at, after, sent_at, data_at, update_at}
+use Rattle.link.specs.Entries.{Entry, owner_at, after, sent_at, data_at}
 use Rattle.link.specs.Holding.{is_and, any_of, responds_for, conflicts_with, writes, holds}
 use Rattle.link.specs.Laws.{held, Unclaimed, Rules, Lawful}
 use Rattle.link.specs.Joined.{PremisesFrom, Unchanged, Two, Hearing, Together, Joined, TwoFloorsJoined}

@@ -3,25 +3,24 @@
 use mathlib.Core.Path.{◌≡◌, refl, sym, ◌∙◌, ap, subst}
 use mathlib.Core.Logic.{◌≢◌, ◌⊎◌, inl, inr, ⊎_elim}
 use mathlib.Core.Bool.{Bool, true, false}
-use mathlib.Core.Option.{Option, none, some}
+use mathlib.Core.Option.{some}
 use mathlib.Core.List.{List}
 use Prim.Native.Nat.{ℕ, zero, suc, ◌+◌, ◌≤◌, ◌<◌}
 use native.Mathlib.Omega.{arith}
 use native.Mathlib.Decide.{dec_lt}
-use lib.ListN.{length}
 use Rattle.link.specs.Responder.{Responder, Claim}
 use Rattle.link.specs.Entries.{Entry, time_at, owner_at, runs, after, setup_of, data_at}
 use Rattle.link.specs.Premises.{Premises}
 use Rattle.link.specs.Holding.{hears, holds}
 use Rattle.link.specs.Demand3.{holding_time}
 use Rattle.link.specs.Laws.{data_after, Rules, Lawful}
-use Rattle.link.specs.Contention.{Tiebreak, wants, begun, FromList, Differ, HeldBefore, OneHolder, probes_for, NotLater, Latest, Last, SwitchedOn, LastExists, OneIsLeft}
+use Rattle.link.specs.Contention.{Tiebreak, wants, begun, FromList, HeldBefore, OneHolder, probes_for, NotLater, Latest, Last, SwitchedOn, LastExists}
 use Rattle.link.specs.Candid.{Probed, Candid}
 use Rattle.link.proofs.Lists.{clash, is-from}
 use Rattle.link.proofs.States.{Calls, hearer, calls_as, after-start, ran_before, is-running}
 use Rattle.link.proofs.Steps.{Act, act, of_state}
 use Rattle.link.proofs.From.{from_first}
-use Rattle.link.proofs.Order.{in_order_lem, in_list_lem, begun-in_list}
+use Rattle.link.proofs.Order.{in_order_lem, in_list_lem}
 use Rattle.link.proofs.Witness.{started-before}
 use Rattle.link.proofs.Alone.{holder-runs, first-data, Heard, heard-by, wants_it, wanted_name, Spoken, spoken}
 use Rattle.link.proofs.Keeping.{kept, keeps, just_one_lem}

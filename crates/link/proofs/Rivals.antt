@@ -10,7 +10,7 @@ use native.Mathlib.Omega.{arith}
 use native.Mathlib.Decide.{ℕ_discrete}
 use lib.ListN.{length}
 use Rattle.link.specs.Responder.{Responder, Destination, everyone, unicast, Claim, instance, Claim-discrete, Answer, refused, accepted}
-use Rattle.link.specs.Entries.{Entry, Call, starts, ticks as ticks-call, receives, stops, updates as updates-call, cut, time_at, clock_at, owner_at, call_at, reply_at, setup_in, setup_of, after, is_some, source_at, revised, data_at, update_in, update_at}
+use Rattle.link.specs.Entries.{Entry, Call, starts, ticks as ticks-call, receives, stops, updates as updates-call, cut, time_at, owner_at, call_at, reply_at, setup_in, setup_of, after, is_some, source_at, revised, data_at, update_in, update_at}
 use Rattle.link.specs.Premises.{delivery_time, Reaches, Delivered}
 use Rattle.link.specs.Laws.{most_draw, Stage, waiting, probing, held, Unclaimed, Step, ticks, hears, serves, updates, data_after, next, Rules, Tells as Answers, Lawful}
 use Rattle.link.proofs.Course.{Probing, Course}
@@ -26,7 +26,6 @@ use Rattle.link.proofs.Order.{taken-before}
 use Rattle.link.proofs.Data.{record_in, Kin, kin}
 use Rattle.link.proofs.Steps.{Sends, Hears, hearer_calls, act, update-step, owned, of_state, sends, data_left, heard-step}
 use Rattle.link.proofs.Stages.{stage_of_lem, ready_as, stage_before, stage_after, yielded, deferred}
-use Rattle.link.proofs.Held as by_packets
 use Rattle.link.proofs.Claims as claims
 
 module _ (D : Responder) (R : Rules D) (L : Lawful D R) (es : List (Entry D)) (base outset : ℕ) (P : PremisesFrom D es base outset) (k : Claim) (type : ℕ) where

@@ -1,9 +1,8 @@
 -- Someone holds the name 1,200 ms after the start of a responder with the latest records: it is not contradicted, and then demand 3's second conclusion
 -- says so; or the sender of the first conflicting response that it hears holds. Assumes nothing.
 use mathlib.Core.Path.{◌≡◌, refl, sym, ◌∙◌, ap, subst}
-use mathlib.Core.Logic.{◌≢◌, ◌⊎◌, inl, inr, ⊎_elim}
+use mathlib.Core.Logic.{◌⊎◌, inl, inr, ⊎_elim}
 use mathlib.Core.Bool.{Bool, true, false}
-use mathlib.Core.Bool as bool
 use mathlib.Core.Option.{none, some}
 use mathlib.Core.List.{List}
 use Prim.Native.Nat.{ℕ, zero, suc, ◌+◌, ◌-◌, ◌≤◌, ◌<◌}
@@ -11,15 +10,15 @@ use native.Mathlib.Omega.{arith}
 use native.Mathlib.Decide.{dec_lt}
 use lib.ListN.{length}
 use Rattle.link.specs.Responder.{Responder, Claim}
-use Rattle.link.specs.Entries.{Entry, time_at, owner_at, runs, after, data_at, update_at, setup_of}
+use Rattle.link.specs.Entries.{Entry, time_at, owner_at, runs, data_at}
 use Rattle.link.specs.Premises.{Premises}
 use Rattle.link.specs.Holding.{conflicts_with, defeats_of, hears, holds}
-use Rattle.link.specs.Demand3.{holding_time, Unopposed}
+use Rattle.link.specs.Demand3.{holding_time}
 use Rattle.link.specs.Laws.{data_after, Rules, Lawful}
 use Rattle.link.specs.Contention.{Tiebreak, wants, begun, FromList, LeftAlone, probes_for, NotLater, Latest, HeldBefore}
-use Rattle.link.specs.Candid.{Probed, Candid}
+use Rattle.link.specs.Candid.{Candid}
 use Rattle.link.proofs.Lists.{clash, is-from, is-of}
-use Rattle.link.proofs.States.{Calls, hearer, calls_as, after-start, starter, running}
+use Rattle.link.proofs.States.{Calls, hearer, calls_as, after-start, starter}
 use Rattle.link.proofs.Steps.{Act, act, of_state}
 use Rattle.link.proofs.From.{from_first}
 use Rattle.link.proofs.Order.{in_order_lem, begun-in_list}

@@ -8,7 +8,7 @@ use borrow.Author.Tests.{le-leb, eq-eqb, ne_eqb, eqb-true, eqb-false}
 use mathlib.Mathlib.Data.Bool.Basic.{and-eq-true-eq-eq-true-and-eq-true as both}
 use lib.Dec.{eqb}
 use lib.ListN.{length, get_or, take, drop, length-append, length-drop, take-append-drop}
-use lib.Seq.{take_at, drop_at, drop-drop, get_or-drop, length-take-le}
+use lib.Seq.{take_at, drop_at, drop-drop, get_or-drop}
 use Rattle.wire.specs.octets.Octets.{word16}
 use Rattle.wire.specs.case_folding.Fold.{same_name}
 use Rattle.wire.specs.names.Names.{Reading, name, malformed, name_at, is_name}

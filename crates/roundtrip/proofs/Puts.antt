@@ -1,10 +1,10 @@
 -- What the general writer says that it has put is read where it was put. Assumes nothing.
-use Prim.Native.Nat.{ℕ, ◌+◌, ◌≤◌}
+use Prim.Native.Nat.{ℕ, ◌≤◌}
 use mathlib.Core.Path.{◌≡◌, refl, sym, ap, ap₂, ◌∙◌, subst}
 use mathlib.Core.List.{List, [], ◌++◌, append-nil}
 use mathlib.Core.Bool.{Bool, true, false}
 use native.Mathlib.Omega.{arith}
-use lib.ListN.{length, take, drop, length-append, length-take}
+use lib.ListN.{length, take, length-append, length-take}
 use lib.Seq.{length-take-le}
 use Rattle.wire.specs.message.Layout.{item, question_at, record_at}
 use Rattle.writer.specs.compression.Compression.{name_bytes}
@@ -17,9 +17,9 @@ use Rattle.writer.specs.Items.{Writing, put_name, put_question, put_record}
 use Rattle.writer.specs.Writer.{held_in, spot_of, placed_of, Placing, Grown}
 use Rattle.writer.proofs.Use.{is-done, is-grown, held-so}
 use Rattle.writer.proofs.Parts.{NameRoom, record_room, question-front}
-use Rattle.wire.specs.message.Message.{Question, Record, Message}
+use Rattle.wire.specs.message.Message.{Question, Record}
 use Rattle.wire.specs.message.Layout.{message_at}
-use Rattle.writer.specs.own_packets.Packets.{put_all, header, packet_of, written}
+use Rattle.writer.specs.own_packets.Packets.{put_all, packet_of, written}
 use Rattle.roundtrip.specs.Writable.{IsQuestion, IsRecord, Each, none, one, Writable}
 use Rattle.roundtrip.specs.Puts.{Buffers, held, QuestionPut, question_put, RecordPut, record_put, AllPut, no_more, one_more}
 use Rattle.roundtrip.specs.Statements.{QuestionPutBack, RecordPutBack, MessagePutBack}

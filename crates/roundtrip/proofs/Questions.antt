@@ -7,7 +7,7 @@ use borrow.Author.Tests.{le-leb}
 use lib.ListN.{length, drop, length-append}
 use lib.Seq.{drop_at}
 use Rattle.wire.specs.octets.Octets.{word16}
-use Rattle.wire.specs.names.Names.{Reading, name, name_at}
+use Rattle.wire.specs.names.Names.{Reading, name_at}
 use Rattle.writer.specs.compression.Compression.{name_bytes}
 use Rattle.wire.specs.message.Message.{Question}
 use Rattle.wire.specs.message.Layout.{question_from, question_read, item, bytes_of, question_meant, question_at}

@@ -5,8 +5,7 @@ use mathlib.Core.List.{List, [], ◌++◌}
 use mathlib.Core.Bool.{Bool, true, false, cond, ◌&&◌}
 use native.Mathlib.Omega.{arith}
 use lib.Dec.{eqb}
-use lib.ListN.{length, take, drop, length-append}
-use lib.Seq.{length-take-le}
+use lib.ListN.{length, take, length-append}
 use Rattle.wire.specs.names.Names.{is_name}
 use Rattle.writer.specs.compression.Compression.{name_bytes}
 use Rattle.writer.specs.compression.Sentence.{Rising, empty}

@@ -1,6 +1,6 @@
 -- What is promised of a goodbye (specification, 'Stops and updates'), as statements. Each is proved in proofs/Goodbye under the name that its comment gives.
 -- Assumes nothing.
-use Rattle.std.specs.Prelude.{ℕ, ◌≤◌, ◌≡◌, [], true, false, length}
+use Rattle.std.specs.Prelude.{◌≤◌, ◌≡◌, [], true, false, length}
 use Rattle.wire.specs.message.Message.{Record}
 use Rattle.wire.specs.message.Layout.{read, message_at}
 use Rattle.claims.specs.declared.records.Set.{Set}

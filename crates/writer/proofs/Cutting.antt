@@ -1,18 +1,16 @@
 -- A name written: the bytes that are kept, and a pointer or the zero byte. Assumes nothing.
 use mathlib.Core.Path.{◌≡◌, refl, sym, ap, ap₂, ◌∙◌}
 use mathlib.Core.List.{List, [], ◌∷◌, ◌++◌}
-use mathlib.Core.Bool.{true}
-use Prim.Native.Nat.{ℕ, suc, ◌+◌, ◌-◌, ◌/◌, ◌%◌, ◌<◌, ◌≤◌}
+use Prim.Native.Nat.{ℕ, ◌+◌, ◌/◌, ◌%◌, ◌<◌, ◌≤◌}
 use native.Mathlib.Omega.{arith}
-use lib.ListN.{length, take, drop, set, length-append, length-take}
+use lib.ListN.{length, take, set, length-append, length-take}
 use lib.Seq.{sets, length-take-le}
-use Rattle.wire.specs.names.Names.{is_name}
 use Rattle.wire.proofs.octets.Sets.{sets-append}
 use Rattle.writer.specs.declared.compression.Place.{Place}
 use Rattle.writer.specs.declared.compression.Place.TheVariants.{At, Nowhere}
 use Rattle.writer.specs.declared.compression.Cut.{Cut}
-use Rattle.writer.specs.compression.Compression.{cut_from, cut_of, pointer_to, end_of, name_bytes, name_places}
-use Rattle.wire.specs.labels.Counted.{starts, labels_in}
+use Rattle.writer.specs.compression.Compression.{cut_of, pointer_to, end_of, name_bytes, name_places}
+use Rattle.wire.specs.labels.Counted.{starts}
 use Rattle.writer.proofs.compression.Written.{name-short, places-few, cut-within, kept-most}
 use Rattle.writer.specs.Items.{u16}
 use Rattle.writer.specs.Writer.{spot_of, Wrote, NameReady}

@@ -1,7 +1,7 @@
 -- Whether a record is fit, and whether there is room for a name or a record, test by test. Assumes nothing.
 use mathlib.Core.Path.{◌≡◌, refl, sym, ap, ◌∙◌}
-use mathlib.Core.List.{List, [], ◌∷◌, ◌++◌}
-use mathlib.Core.Bool.{Bool, true, false, cond, ◌&&◌, and-false, and-true}
+use mathlib.Core.List.{List, ◌++◌}
+use mathlib.Core.Bool.{Bool, true, false, cond, ◌&&◌, and-false}
 use Prim.Native.Nat.{ℕ, ◌+◌, ◌-◌, ◌<◌, ◌≤◌}
 use native.Mathlib.Omega.{arith}
 use borrow.Author.Tests.{le-leb, lt-leb, leb-true, leb-false, lt-ltb, ltb-true, eq-eqb, ne_eqb}
@@ -23,7 +23,6 @@ use Rattle.wire.specs.declared.rdata.Form.{Form}
 use Rattle.wire.specs.labels.Counted.{labels_in, starts}
 use Rattle.writer.specs.declared.Spot.{Spot}
 use Rattle.writer.specs.declared.Room.{Room}
-use Rattle.writer.specs.declared.Placed.{Placed}
 use Rattle.writer.specs.declared.Placed.TheVariants.{Done, Full, Unfit}
 use Rattle.writer.specs.Items.{Writing}
 use Rattle.writer.specs.Writer.{spot_of, labels_for, name_fits, record_fits, Placing, Grown}

@@ -1,11 +1,11 @@
 -- The offsets at which labels start, label by label: noted in a loop. Assumes nothing.
-use mathlib.Core.Path.{◌≡◌, refl, sym, ap, ap₂, ◌∙◌}
-use mathlib.Core.List.{List, [], ◌∷◌, ◌++◌}
-use Prim.Native.Nat.{ℕ, zero, suc, ◌+◌, ◌-◌, ◌<◌, ◌≤◌}
+use mathlib.Core.Path.{◌≡◌, refl, sym, ap, ◌∙◌}
+use mathlib.Core.List.{List, [], ◌∷◌}
+use Prim.Native.Nat.{ℕ, ◌+◌, ◌<◌, ◌≤◌}
 use native.Mathlib.Numerals.{add-one}
 use native.Mathlib.Omega.{arith}
-use lib.ListN.{length, get_or, drop, set, drop_of_length-le}
-use lib.Seq.{sets, drop-cons, drop-drop}
+use lib.ListN.{length, get_or, drop, set}
+use lib.Seq.{sets}
 use Rattle.wire.specs.labels.Counted.{starts}
 use Rattle.wire.proofs.labels.Counted.{starts-end, starts-root, starts-label}
 

@@ -1,7 +1,7 @@
 -- A question and a record as bytes behind a packet (specification, 'Writing a packet': "Every name, SRV and PTR rdata too, is cut at its longest suffix of
 -- whole labels that stands earlier byte for byte in a name of the packet (never in TXT or other data)"; RFC 1035, 4.1.2 and 4.1.3). Both are the
 -- reader's own: names and rdata expanded. Assumes nothing: these are definitions.
-use Rattle.std.specs.Prelude.{ℕ, ◌+◌, ◌/◌, ◌%◌, List, [], ◌∷◌, ◌++◌, Bool, cond, ◌&&◌, length, take, drop, eqb}
+use Rattle.std.specs.Prelude.{ℕ, ◌+◌, ◌/◌, ◌%◌, List, [], ◌∷◌, ◌++◌, Bool, cond, ◌&&◌, length, take, eqb}
 use Rattle.wire.specs.declared.rdata.Form.{Form}
 use Rattle.writer.specs.Fit.{form_for, held_name, held_behind}
 use Rattle.writer.specs.compression.Compression.{name_bytes, name_places}

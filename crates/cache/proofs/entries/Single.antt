@@ -11,9 +11,8 @@ use lib.Dec.{ltb}
 use borrow.Author.Tests.{lt-ltb, le-ltb, le-leb, lt-leb, eq-eqb, ne_eqb}
 use Rattle.wire.specs.case_folding.Fold.{same_name}
 use Rattle.wire.specs.rdata.Answers.{start_in}
-use Rattle.wire.specs.expansion.Equal.{same_bytes}
 use Rattle.wire.proofs.rdata.Forms.{drop-take}
-use Rattle.cache.specs.entries.Entries.{slot_of, is_live, is_free, is_of, live_of, matches, holds, until, lesser, soon, flushed, too_long}
+use Rattle.cache.specs.entries.Entries.{slot_of, is_live, is_free, is_of, live_of, matches, until, lesser, soon, too_long}
 use Rattle.cache.specs.declared.entries.Entry.{Entry}
 
 -- a slot past the store's end has no bytes

@@ -7,14 +7,14 @@ use Prim.Native.Nat.{ℕ, zero, suc, ◌+◌, ◌*◌, ◌^◌, ◌<◌, ◌≤�
 use native.Mathlib.Omega.{arith}
 use lib.ListN.{length, get_or, replicate, length-replicate}
 use lib.Dec.{ltb, leb, eqb}
-use borrow.Author.Tests.{ltb-false, leb-true, leb-false, eqb-true}
+use borrow.Author.Tests.{ltb-false, leb-false, eqb-true}
 use mathlib.Mathlib.Data.Bool.Basic.{and-eq-true-eq-eq-true-and-eq-true as both, or-eq-false-eq-eq-false-and-eq-false as neither}
 use Rattle.wire.specs.Lists.{some}
 use Rattle.wire.specs.case_folding.Fold.{same_name}
 use Rattle.wire.specs.message.Message.{Record, Message, is_response}
 use Rattle.wire.specs.message.Layout.{Reads, read, refused, message_at}
 use Rattle.cache.specs.entries.Entries.{blank, owner_held, is_of, soon, refreshed, heard_ahead}
-use Rattle.cache.specs.entries.Cache.{Cache, at_start, is_cached, rule1, entry_for, after_rule1, take_record, take_records, take_message, take_read, bad_time, bad_table, take_tests, take_refusal, take_in}
+use Rattle.cache.specs.entries.Cache.{Cache, at_start, is_cached, rule1, entry_for, after_rule1, take_record, take_records, take_message, take_read, bad_table, take_tests, take_refusal, take_in}
 use Rattle.cache.specs.declared.entries.Entry.{Entry}
 use Rattle.cache.specs.laws.Slots.{entry_at}
 use Rattle.cache.specs.laws.Ttl.{Call, run, records_read, Among, first, later, Heard, unused, heard, Lasts, whole, cut, TtlHeard, TtlLasts, EndsBy}

@@ -1,11 +1,11 @@
 -- What a lookup shows of the name is right of the owner that it found: as many labels, and a first one as long. Assumes nothing.
 use mathlib.Core.Path.{◌≡◌, refl, sym, ap, ◌∙◌}
 use mathlib.Core.List.{List, [], ◌∷◌}
-use mathlib.Core.Bool.{Bool, true, false, cond, not, ◌&&◌, ◌||◌}
-use Prim.Native.Nat.{ℕ, zero, suc, ◌≤◌}
+use mathlib.Core.Bool.{Bool, true, ◌&&◌}
+use Prim.Native.Nat.{ℕ, zero, suc}
 use native.Mathlib.Omega.{arith}
 use lib.ListN.{length, get_or, replicate}
-use lib.Dec.{ltb, leb, eqb}
+use lib.Dec.{leb, eqb}
 use mathlib.Mathlib.Data.Bool.Basic.{and-eq-true-eq-eq-true-and-eq-true as both}
 use borrow.Author.Tests.{ne_eqb}
 use Rattle.wire.specs.Lists.{some}
@@ -21,7 +21,6 @@ use Rattle.cache.specs.declared.entries.Slot.{Slot}
 use Rattle.cache.specs.declared.entries.Slot.TheVariants as s
 use Rattle.cache.specs.lookup.Answers.{looked_with, looked_of}
 use Rattle.cache.specs.declared.lookup.Met.{Met}
-use Rattle.cache.specs.declared.lookup.Looked.{Looked}
 use Rattle.cache.specs.declared.lookup.Looked.TheVariants as l
 use Rattle.cache.proofs.entries.Searches.{found_at}
 use Rattle.cache.proofs.lookup.Refusing.{look-accepted}

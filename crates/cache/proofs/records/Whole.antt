@@ -7,8 +7,6 @@ use lib.ListN.{length}
 use lib.Dec.{eqb}
 use Rattle.wire.specs.case_folding.Fold.{same_name}
 use Rattle.wire.specs.expansion.Equal.{same_bytes}
-use Rattle.wire.specs.declared.names.Name.TheVariants as nam
-use Rattle.wire.specs.rdata.Rdata.{rdata}
 use Rattle.wire.specs.message.Message.{Record}
 use Rattle.wire.specs.message.Readable.{record_shown}
 use Rattle.wire.specs.declared.message.RecordAt.{RecordAt}

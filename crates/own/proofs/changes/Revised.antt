@@ -1,12 +1,11 @@
 -- A set-up with new data: the names and every other record stay, the updated one has the new rdata, and it keeps the rules exactly where the new data do.
 -- Assumes nothing.
-use Prim.Native.Nat.{ℕ, ◌+◌, ◌-◌, ◌/◌, ◌%◌, ◌≤◌}
-use mathlib.Core.Path.{◌≡◌, refl, sym, ap, ap₂, ◌∙◌}
-use mathlib.Core.List.{List, [], ◌∷◌, ◌++◌}
+use Prim.Native.Nat.{ℕ, ◌+◌, ◌/◌, ◌%◌, ◌≤◌}
+use mathlib.Core.Path.{◌≡◌, refl, sym, ap, ◌∙◌}
+use mathlib.Core.List.{List, ◌∷◌}
 use mathlib.Core.Bool.{Bool, true, false, ◌&&◌}
 use native.Mathlib.Omega.{arith}
-use native.Mathlib.Nat.{zero-add}
-use borrow.Author.Tests.{leb-true, leb-false, le-leb, lt-leb, eq-eqb}
+use borrow.Author.Tests.{leb-true, eq-eqb}
 use lib.ListN.{length, take, drop, replicate, length-replicate}
 use lib.Dec.{leb, eqb}
 use lib.Seq.{sets, sets-eq, length-sets, take_at}
@@ -20,7 +19,7 @@ use Rattle.claims.specs.changes.Changes.{changed_record}
 use Rattle.claims.proofs.records.Sets.{by-record}
 use Rattle.own.specs.declared.records.Setup.{Setup}
 use Rattle.own.specs.declared.records.Strings.{Strings}
-use Rattle.own.specs.records.Setups.{held, txt_fits, valid_setup, service_labels, instance_labels, host_labels, instance_fits, service_fits, protocol_fits, label_fits, domain_fits}
+use Rattle.own.specs.records.Setups.{txt_fits, valid_setup, service_labels, instance_labels, host_labels, instance_fits, service_fits, protocol_fits, label_fits, domain_fits}
 use Rattle.own.specs.records.Records.{has_record, own_labels, own_name, own_rdata, srv_rdata}
 use Rattle.own.specs.changes.Changes.{NewData, new_port, new_txt, strings_of, with_port, with_txt, revised, change_of, valid_data}
 

@@ -2,7 +2,7 @@
 use mathlib.Core.Path.{◌≡◌, refl, sym, ap, ap₂, ◌∙◌}
 use mathlib.Core.List.{List, [], ◌∷◌, ◌++◌, append_assoc, append-nil}
 use mathlib.Core.Bool.{Bool, true, false}
-use Prim.Native.Nat.{ℕ, ◌+◌, ◌-◌, ◌/◌, ◌%◌, ◌<◌, ◌≤◌}
+use Prim.Native.Nat.{ℕ, ◌+◌, ◌-◌, ◌/◌, ◌%◌, ◌≤◌}
 use native.Mathlib.Nat.{zero-add}
 use native.Mathlib.Numerals.{add-one}
 use native.Mathlib.Omega.{arith}
@@ -14,7 +14,7 @@ use Rattle.wire.specs.expansion.Equal.{same_bytes}
 use Rattle.own.specs.declared.records.Setup.{Setup}
 use Rattle.own.specs.declared.records.OwnBytes.{OwnBytes}
 use Rattle.own.specs.records.Setups.{tcp, udp, local, label_held, service_held, protocol_label, service_labels, instance_labels, host_labels}
-use Rattle.own.specs.records.Records.{label_bytes, Laid, own_of, srv_rdata, instance_types, host_types}
+use Rattle.own.specs.records.Records.{label_bytes, Laid, own_of, srv_rdata, host_types}
 
 -- one part after the other
 pub then : (at a r : ℕ) (xs ys o o₁ o₂ : List ℕ) (m n : ℕ) → Laid at xs m o a o₁ → Laid a ys n o₁ r o₂ → Laid at (xs ++ ys) (m + n) o r o₂

@@ -1,12 +1,12 @@
 -- What a set-up that keeps the rules has: an instance label that a screen can show, own names that are names, of few bytes, different for each kind, and rdata
 -- as its type asks. Assumes nothing.
-use mathlib.Core.Path.{◌≡◌, refl, sym, ap, ◌∙◌}
-use mathlib.Core.List.{List, [], ◌∷◌, ◌++◌}
-use mathlib.Core.Bool.{Bool, true, false, cond, ◌&&◌, ◌||◌}
-use Prim.Native.Nat.{ℕ, suc, ◌+◌, ◌<◌, ◌≤◌}
+use mathlib.Core.Path.{◌≡◌, refl}
+use mathlib.Core.List.{List, [], ◌∷◌}
+use mathlib.Core.Bool.{Bool, true, false, cond, ◌&&◌}
+use Prim.Native.Nat.{ℕ, ◌<◌, ◌≤◌}
 use native.Mathlib.Omega.{arith}
 use borrow.Author.Tests.{leb-true, eqb-true}
-use lib.ListN.{length, take, length-append, length-take}
+use lib.ListN.{length, take, length-append}
 use lib.Seq.{length-take-le}
 use lib.Dec.{leb, eqb}
 use mathlib.Mathlib.Data.Bool.Basic.{and-eq-true-eq-eq-true-and-eq-true as both}
@@ -23,7 +23,7 @@ use Rattle.own.specs.utf8.Utf8.{is_shown}
 use Rattle.own.specs.utf8.Grammar.{Octets, NoControl}
 use Rattle.own.proofs.utf8.Grammar.{shown-exactly}
 use Rattle.own.specs.records.Setups.{tcp, udp, local, held, label_fits, instance_fits, service_rule, service_fits, protocol_fits, domain_fits, txt_fits, valid_setup, label_held, service_held, protocol_label, service_labels, instance_labels, host_labels}
-use Rattle.own.specs.records.Records.{own_labels, own_name, own_rdata}
+use Rattle.own.specs.records.Records.{own_labels, own_name}
 
 -- the facts behind the test
 pub record Valid (s : Setup) : Type 0 where

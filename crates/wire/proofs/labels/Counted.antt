@@ -1,12 +1,12 @@
 -- The offsets at which labels start, label by label, and how many there are. Assumes nothing.
 use mathlib.Core.Path.{◌≡◌, refl, sym, ap, ap₂, ◌∙◌}
 use mathlib.Core.List.{List, [], ◌∷◌, ◌++◌}
-use Prim.Native.Nat.{ℕ, zero, suc, ◌+◌, ◌-◌, ◌<◌, ◌≤◌}
+use Prim.Native.Nat.{ℕ, zero, suc, ◌+◌, ◌<◌, ◌≤◌}
 use native.Mathlib.Numerals.{add-one}
 use native.Mathlib.Omega.{arith}
 use lib.ListN.{length, get_or, drop, drop_of_length-le}
 use lib.Seq.{drop-cons, drop-drop}
-use Rattle.wire.specs.labels.Counted.{starts, labels_in, first_in}
+use Rattle.wire.specs.labels.Counted.{starts, labels_in}
 
 -- the bytes of a label are passed over, also where it runs past the end
 past : (a k : ℕ) (bs : List ℕ) → starts a k bs ≡ starts (a + k) 0 (drop k bs)

@@ -1,7 +1,7 @@
 -- What the two numbers of a name are: at most 127 labels, of which the first has at most 63 bytes; 0 and 0 for the root and only for it; and names that are
 -- equal, letters folded, have the same two. Assumes nothing; Witnesses.antt has names for which each premise holds.
 use mathlib.Core.Path.{◌≡◌, refl, sym, ap, ◌∙◌}
-use mathlib.Core.List.{List, [], ◌∷◌, ◌++◌}
+use mathlib.Core.List.{List, [], ◌∷◌}
 use mathlib.Core.Bool.{Bool, true, false, cond, ◌&&◌}
 use Prim.Native.Nat.{ℕ, zero, suc, ◌+◌, ◌*◌, ◌<◌, ◌≤◌}
 use native.Mathlib.Omega.{arith}
@@ -10,9 +10,9 @@ use lib.ListN.{length, length-append}
 use lib.Dec.{ltb, leb, eqb}
 use mathlib.Mathlib.Data.Bool.Basic.{and-eq-true-eq-eq-true-and-eq-true as both}
 use Rattle.wire.specs.case_folding.Fold.{lower, same_name}
-use Rattle.wire.specs.names.Names.{Reading, name, name_at, labels_fill, is_name}
+use Rattle.wire.specs.names.Names.{name, name_at, labels_fill, is_name}
 use Rattle.wire.specs.labels.Counted.{starts, labels_in, first_in}
-use Rattle.wire.specs.labels.Labels.{encode, Labels, none, one, IsName}
+use Rattle.wire.specs.labels.Labels.{encode, Labels, none, one}
 use Rattle.wire.proofs.labels.Counted.{label-before}
 use Rattle.wire.proofs.labels.Encoded.{made_of}
 use Rattle.wire.proofs.names.Plain.{expanded-is_name}

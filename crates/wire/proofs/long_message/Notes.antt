@@ -13,7 +13,7 @@ use Rattle.wire.specs.name_pieces.Pieces.{piece_at}
 use Rattle.wire.specs.names.Names.{Reading, name, malformed, before, ending, from_run, name_at}
 use Rattle.wire.specs.long_message.Noted.{Noted, length_of}
 use Rattle.wire.specs.declared.name_pieces.Piece.{Piece}
-use Rattle.wire.specs.declared.name_pieces.Piece.TheVariants.{Root, Label, Pointer, Bad}
+use Rattle.wire.specs.declared.name_pieces.Piece.TheVariants.{Label, Pointer}
 use Rattle.wire.proofs.name_pieces.Pieces.{label-in}
 use Rattle.wire.proofs.names.Rest.{read_at}
 use Rattle.wire.proofs.names.Walked.{label-long}

@@ -10,9 +10,9 @@ use lib.ListN.{length, take, drop, length-drop}
 use lib.Seq.{length-take-le}
 use Rattle.wire.specs.octets.Octets.{word16, word32}
 use Rattle.wire.specs.names.Names.{Reading, name, malformed, name_at}
-use Rattle.wire.specs.rdata.Rdata.{Rdata, rdata, unfit, strings_fill, ending_name, with_name, form_in, rdata_in, rdata_at}
+use Rattle.wire.specs.rdata.Rdata.{rdata, unfit, strings_fill, ending_name, with_name, form_in, rdata_in, rdata_at}
 use Rattle.wire.specs.rdata.Answers.{fits}
-use Rattle.wire.specs.message.Layout.{question_read, record_read, question_at, record_at, record_meant, with_rdata, bytes_of}
+use Rattle.wire.specs.message.Layout.{question_read, record_read, question_at, record_at}
 use Rattle.wire.specs.names.Answers.{span_of}
 use Rattle.wire.specs.message.Message.{ttl_of}
 use Rattle.wire.specs.message.Places.{past_item}

@@ -1,8 +1,7 @@
 -- How far a name has been read while its length and its end are looked for. Assumes nothing.
 use mathlib.Core.Path.{◌≡◌, refl, sym, ap, ◌∙◌}
 use mathlib.Core.Logic.{◌⊎◌, inl, inr}
-use mathlib.Core.List.{List, []}
-use mathlib.Core.Bool.{cond}
+use mathlib.Core.List.{List}
 use Prim.Native.Nat.{ℕ, ◌+◌, ◌<◌, ◌≤◌}
 use native.Mathlib.Omega.{arith}
 use borrow.Author.Tests.{eq-eqb, ne_eqb}
@@ -18,9 +17,7 @@ use Rattle.wire.specs.declared.names.Copied.{Copied}
 use Rattle.wire.specs.declared.names.Copied.TheVariants as copied
 use Rattle.wire.specs.declared.names.Name.{Name}
 use Rattle.wire.specs.declared.names.Name.TheVariants as nam
-use Rattle.wire.specs.declared.message.Place.{Place}
 use Rattle.wire.specs.declared.message.Place.TheVariants.{At, Malformed}
-use Rattle.wire.proofs.names.Rest.{read_at}
 use Rattle.wire.proofs.names.Walked.{seen_root, seen_root_after, seen_label, seen_pointer, seen_bad, passed_first, passed_later}
 use Rattle.wire.proofs.long_message.Notes.{moved, fits-255}
 

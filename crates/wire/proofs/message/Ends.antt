@@ -1,7 +1,7 @@
 -- Where a section ends, an item at a time. One law for questions and records. Assumes nothing.
 use mathlib.Core.Path.{◌≡◌, refl, sym, ap, ◌∙◌}
-use mathlib.Core.List.{List, []}
-use Prim.Native.Nat.{ℕ, zero, suc, ◌+◌, ◌-◌, ◌<◌, ◌≤◌}
+use mathlib.Core.List.{[]}
+use Prim.Native.Nat.{ℕ, zero, suc, ◌-◌, ◌<◌, ◌≤◌}
 use native.Mathlib.Omega.{arith}
 use Rattle.wire.specs.message.Layout.{Item, item, broken, Listing, listing, cut, first, and_on, list_from}
 use Rattle.wire.specs.message.Places.{past_item, past_list}

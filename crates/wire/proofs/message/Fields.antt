@@ -7,7 +7,7 @@ use native.Mathlib.Omega.{arith}
 use borrow.Author.Tests.{le-leb, lt-leb}
 use lib.ListN.{length}
 use Rattle.wire.specs.octets.Octets.{word16, word32}
-use Rattle.wire.specs.names.Names.{Reading, name, malformed, name_at}
+use Rattle.wire.specs.names.Names.{name, malformed, name_at}
 use Rattle.wire.specs.names.Answers.{span_of, found_of}
 use Rattle.wire.specs.declared.names.Span.{Span}
 use Rattle.wire.specs.declared.names.Name.{Name}
@@ -16,9 +16,8 @@ use Rattle.wire.proofs.names.Use.{as_name, as_malformed}
 use Rattle.wire.specs.rdata.Rdata.{Rdata, rdata, unfit, rdata_at}
 use Rattle.wire.specs.rdata.Answers.{fits}
 use Rattle.wire.specs.message.Message.{ttl_of}
-use Rattle.wire.specs.message.Layout.{question_read, record_behind, record_from, record_read, question_at, record_at, question_meant, record_meant, with_rdata, bytes_of}
+use Rattle.wire.specs.message.Layout.{question_read, record_behind, record_from, record_read, question_at, record_at, with_rdata, bytes_of}
 use Rattle.wire.specs.message.Places.{past_item}
-use Rattle.wire.specs.declared.message.Place.{Place}
 use Rattle.wire.specs.declared.message.Place.TheVariants.{At, Malformed}
 use Rattle.wire.specs.declared.message.QuestionAt.{QuestionAt}
 use Rattle.wire.specs.declared.message.QuestionRead.{QuestionRead}

@@ -8,7 +8,7 @@ use lib.ListN.{length}
 use lib.Dec.{eqb}
 use borrow.Author.Tests.{lt-ltb, le-ltb, lt-leb, le-leb, eq-eqb, ne_eqb, eqb-true, eqb-false}
 use Rattle.wire.specs.octets.Octets.{word16}
-use Rattle.wire.specs.message.Message.{Question, Record, Message}
+use Rattle.wire.specs.message.Message.{Message}
 use Rattle.wire.specs.message.Layout.{Listing, listing, cut, question_at, record_at, list_from, Reads, read, refused, and_then, sections_of, wrong_length, wrong_header, message_at, read_of, refusal_of}
 use Rattle.wire.specs.message.Refusals.{wrong_port, is_refused, is_malformed, packet_refusal, message_refusal, or_refused, message_from}
 use Rattle.wire.specs.declared.message.Layout.{Layout}

@@ -1,14 +1,13 @@
 -- The four sections of a message one after the other. Assumes nothing.
 use mathlib.Core.Path.{◌≡◌, refl, sym, ap, ◌∙◌}
 use mathlib.Core.List.{List}
-use mathlib.Core.Bool.{Bool, true, false, ◌||◌, or-true}
+use mathlib.Core.Bool.{Bool, true, false}
 use Prim.Native.Nat.{ℕ, zero, suc, ◌+◌, ◌*◌, ◌<◌, ◌≤◌}
 use native.Mathlib.Omega.{arith}
 use borrow.Author.Tests.{lt-ltb, le-ltb}
 use lib.ListN.{length}
 use Rattle.wire.specs.octets.Octets.{word16}
-use Rattle.wire.specs.message.Message.{Question, Record}
-use Rattle.wire.specs.message.Layout.{Item, Listing, listing, cut, list_from, question_at, record_at, Reads, read, refused, and_then, sections_of, plain_header, message_at, read_of}
+use Rattle.wire.specs.message.Layout.{Item, Listing, listing, cut, list_from, question_at, record_at, and_then, sections_of, plain_header, message_at, read_of}
 use Rattle.wire.specs.message.Places.{past_list}
 use Rattle.wire.specs.declared.message.Place.{Place}
 use Rattle.wire.specs.declared.message.Place.TheVariants.{At, Malformed}

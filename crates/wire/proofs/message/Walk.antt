@@ -14,7 +14,7 @@ use Rattle.wire.specs.labels.Counted.{labels_in, first_in}
 use Rattle.wire.specs.declared.names.Span.{Span}
 use Rattle.wire.specs.rdata.Rdata.{Rdata, rdata, unfit, rdata_at}
 use Rattle.wire.specs.rdata.Answers.{fits, data_of}
-use Rattle.wire.specs.message.Message.{Question, Record, record_of, Message}
+use Rattle.wire.specs.message.Message.{record_of, Message}
 use Rattle.wire.specs.message.Layout.{Item, item, broken, Listing, listing, cut, first, and_on, list_from, bytes_of, question_read, question_meant, question_at, record_read, with_rdata, record_meant, record_at, read, message_at}
 use Rattle.wire.specs.message.Readable.{and_more, readable, message_in, whole_from, whole_read, question_shown, record_shown}
 use Rattle.wire.specs.declared.message.QuestionAt.{QuestionAt}

@@ -3,16 +3,16 @@
 -- Assumes nothing.
 use Prim.Native.Nat.{ℕ, zero, suc, ◌+◌, ◌*◌, ◌%◌, ◌<◌, ◌≤◌}
 use mathlib.Core.Path.{◌≡◌, refl, sym, ap, ap₂, ◌∙◌}
-use mathlib.Core.List.{List, [], ◌∷◌, ◌++◌}
-use mathlib.Core.Bool.{Bool, true, false, cond, ◌&&◌}
+use mathlib.Core.List.{List, ◌++◌}
+use mathlib.Core.Bool.{Bool, true, false}
 use native.Mathlib.Omega.{arith}
-use borrow.Author.Tests.{ltb-true, ltb-false, leb-true, eqb-true, eqb-false}
-use lib.ListN.{length, get_or, take, drop, length-append, length-drop, length-take, get_or-append}
+use borrow.Author.Tests.{ltb-true, ltb-false}
+use lib.ListN.{length, get_or, take, drop, length-append, length-drop, get_or-append}
 use lib.Seq.{take-append-le, drop-append-le, length-take-le}
-use lib.Dec.{ltb, leb, eqb}
+use lib.Dec.{ltb}
 use Rattle.wire.specs.declared.name_pieces.Piece.{Piece}
 use Rattle.wire.specs.declared.name_pieces.Piece.TheVariants.{Root, Label, Pointer, Bad}
-use Rattle.wire.specs.name_pieces.Pieces.{piece_at, target, good_label, good_pointer}
+use Rattle.wire.specs.name_pieces.Pieces.{piece_at, target}
 use Rattle.wire.specs.names.Names.{Reading, name, malformed, before, ending, read_piece, read_from, from_run, name_at}
 use Rattle.wire.proofs.names.Rest.{unroll}
 use Rattle.wire.proofs.name_pieces.Pieces.{is-root, is-label, is_pointer_lem, piece_past, piece_root, piece_label, piece_pointer}

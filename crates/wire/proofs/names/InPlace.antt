@@ -6,17 +6,17 @@ use mathlib.Core.List.{List, [], ◌∷◌, ◌++◌, append_assoc}
 use mathlib.Core.Bool.{Bool, true, false, cond, ◌&&◌}
 use native.Mathlib.Numerals.{add-one}
 use native.Mathlib.Omega.{arith}
-use borrow.Author.Tests.{lt-ltb, leb-true, ltb-true}
+use borrow.Author.Tests.{leb-true, ltb-true}
 use mathlib.Mathlib.Data.Bool.Basic.{and-eq-true-eq-eq-true-and-eq-true as both}
 use lib.ListN.{length, get_or, take, drop, length-append, length-drop, take-append-drop}
 use lib.Seq.{take_at, drop_at, drop-drop, drop-cons, take-add, length-take-le}
-use lib.Dec.{leb, ltb, eqb}
+use lib.Dec.{leb, ltb}
 use Rattle.wire.specs.declared.name_pieces.Piece.{Piece}
 use Rattle.wire.specs.declared.name_pieces.Piece.TheVariants.{Root, Label, Pointer, Bad}
 use Rattle.wire.specs.name_pieces.Pieces.{piece_at}
 use Rattle.wire.specs.case_folding.Fold.{lower, same_name}
 use Rattle.wire.specs.names.Names.{Reading, name, malformed, before, ending, read_piece, read_from, from_run, name_at, labels_fill, is_name}
-use Rattle.wire.specs.labels.Labels.{encode, Labels, none, one, IsName}
+use Rattle.wire.specs.labels.Labels.{encode, Labels, none, one}
 use Rattle.wire.proofs.labels.Encoded.{encode-pos, made_of}
 use Rattle.wire.proofs.case_folding.Equal.{heads, same_length}
 use Rattle.wire.proofs.name_pieces.Pieces.{is-root, is-label, pointer_back, pointer_far, piece_root, piece_label}

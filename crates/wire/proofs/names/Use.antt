@@ -1,9 +1,9 @@
 -- What a caller of this module's functions learns of the reading from the answer that it matched. Assumes nothing.
 use mathlib.Core.Path.{◌≡◌, refl, sym, ap, ◌∙◌}
-use mathlib.Core.List.{List, ◌++◌}
+use mathlib.Core.List.{List}
 use Prim.Native.Nat.{ℕ, ◌+◌, ◌-◌, ◌≤◌}
 use native.Mathlib.Omega.{arith}
-use lib.ListN.{length, take, replicate, length-append}
+use lib.ListN.{length, take, replicate}
 use lib.Seq.{take_at}
 use Rattle.wire.specs.names.Names.{Reading, name, malformed, name_at, from_run}
 use Rattle.wire.specs.names.Answers.{span_of, found_of, expanded}

@@ -1,9 +1,9 @@
 -- What each piece of a name makes of the walk: what is then read and written. Assumes nothing.
 use mathlib.Core.Path.{◌≡◌, refl, sym, ap, ◌∙◌}
-use mathlib.Core.List.{List, [], ◌∷◌, ◌++◌}
+use mathlib.Core.List.{List, ◌∷◌, ◌++◌}
 use mathlib.Core.Bool.{Bool, true, false, cond}
 use Prim.Native.Nat.{ℕ, zero, suc, ◌+◌, ◌-◌, ◌<◌, ◌≤◌}
-use native.Mathlib.Nat.{add_assoc, zero-add}
+use native.Mathlib.Nat.{zero-add}
 use native.Mathlib.Omega.{arith}
 use borrow.Author.Tests.{eq-eqb, ne_eqb, eqb-true}
 use lib.Dec.{eqb}
@@ -13,15 +13,13 @@ use native.Mathlib.Numerals.{add-one}
 use Rattle.wire.proofs.octets.Sets.{sets-append}
 use Rattle.wire.specs.name_pieces.Pieces.{piece_at}
 use Rattle.wire.specs.names.Names.{Reading, name, malformed, before, ending, from_run, name_at}
-use Rattle.wire.specs.names.Answers.{reach_of, answer_of, Filled, Wrote, is_pointer, Chased, or_later, seen_of, found_of}
+use Rattle.wire.specs.names.Answers.{reach_of, Wrote, is_pointer, Chased, or_later, seen_of, found_of}
 use Rattle.wire.specs.declared.name_pieces.Piece.{Piece}
 use Rattle.wire.specs.declared.name_pieces.Piece.TheVariants.{Root, Label, Pointer, Bad}
 use Rattle.wire.specs.labels.Counted.{starts, labels_in, first_in}
-use Rattle.wire.specs.declared.names.Span.{Span}
 use Rattle.wire.specs.declared.names.Reach.{Reach}
 use Rattle.wire.specs.declared.names.Copied.{Copied}
 use Rattle.wire.specs.declared.names.Copied.TheVariants as copied
-use Rattle.wire.specs.declared.names.Name.{Name}
 use Rattle.wire.specs.declared.names.Name.TheVariants.{Found, Malformed}
 use Rattle.wire.proofs.names.Rest.{read_at}
 use Rattle.wire.proofs.name_pieces.Pieces.{is-label, label-in, pointer_back}

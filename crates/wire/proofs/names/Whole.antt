@@ -1,22 +1,21 @@
 -- A whole name: it has at most 255 bytes, so the buffer of zeros in which it is written holds it and zeros.
 -- Assumes nothing.
 use mathlib.Core.Path.{◌≡◌, refl, sym, ap, ◌∙◌}
-use mathlib.Core.List.{List, [], ◌∷◌, ◌++◌}
+use mathlib.Core.List.{List, ◌++◌}
 use Prim.Native.Nat.{ℕ, zero, suc, ◌+◌, ◌-◌, ◌<◌, ◌≤◌}
 use native.Mathlib.Nat.{zero-add}
 use native.Mathlib.Omega.{arith}
 use lib.ListN.{length, take, drop, replicate, length-append, length-take}
-use lib.Seq.{sets, take_at, length-take-le}
+use lib.Seq.{take_at, length-take-le}
 use Rattle.wire.specs.declared.name_pieces.Piece.{Piece}
 use Rattle.wire.specs.declared.name_pieces.Piece.TheVariants.{Root, Label, Pointer, Bad}
 use Rattle.wire.specs.name_pieces.Pieces.{piece_at}
 use Rattle.wire.specs.names.Names.{Reading, name, malformed, before, ending, read_piece, read_from, from_run, name_at}
-use Rattle.wire.specs.names.Answers.{span_of, reach_of, answer_of, Filled, Wrote, expanded, found_of}
+use Rattle.wire.specs.names.Answers.{span_of, reach_of, Wrote, expanded}
 use Rattle.wire.specs.declared.names.Reach.{Reach}
 use Rattle.wire.specs.declared.names.Copied.{Copied}
 use Rattle.wire.specs.declared.names.Copied.TheVariants as copied
 use Rattle.wire.specs.declared.names.Span.{Span}
-use Rattle.wire.specs.declared.names.Name.{Name}
 use Rattle.wire.specs.declared.names.Name.TheVariants.{Found, Malformed}
 use Rattle.wire.specs.declared.names.Expanded.{Expanded}
 use Rattle.wire.proofs.name_pieces.Pieces.{label-room}

@@ -1,6 +1,6 @@
 -- The rdata of each type, and a part of a packet. Assumes nothing.
 use mathlib.Core.Path.{◌≡◌, refl, sym, ap, ◌∙◌}
-use mathlib.Core.List.{List, [], ◌++◌}
+use mathlib.Core.List.{List}
 use mathlib.Core.Bool.{Bool, true, false, cond, ◌||◌}
 use Prim.Native.Nat.{ℕ, ◌+◌, ◌-◌, ◌<◌, ◌≤◌}
 use native.Mathlib.Nat.{add-sub_cancel_left, le_of_lt}
@@ -8,15 +8,9 @@ use native.Mathlib.Omega.{arith}
 use borrow.Author.Tests.{le-leb, lt-leb, ne_eqb, eqb-true}
 use lib.ListN.{length, take, drop, length-drop, drop_of_length-le}
 use lib.Seq.{take-nil, take_all}
-use lib.Dec.{eqb, leb}
-use Rattle.wire.specs.names.Names.{Reading, name, malformed, name_at}
-use Rattle.wire.specs.names.Answers.{found_of, expanded}
-use Rattle.wire.specs.declared.names.Span.{Span}
-use Rattle.wire.specs.declared.names.Name.{Name}
-use Rattle.wire.specs.declared.names.Name.TheVariants as nam
-use Rattle.wire.proofs.names.Use.{as_name, as_malformed}
-use Rattle.wire.proofs.names.Extend.{within}
-use Rattle.wire.specs.rdata.Rdata.{Rdata, rdata, unfit, strings_fill, form_of, next_form, form_in, with_name, rdata_in, rdata_at}
+use lib.Dec.{eqb}
+use Rattle.wire.specs.names.Names.{name_at}
+use Rattle.wire.specs.rdata.Rdata.{rdata, unfit, strings_fill, form_of, next_form, form_in, with_name, rdata_in, rdata_at}
 use Rattle.wire.specs.rdata.Answers.{fits, start_in}
 use Rattle.wire.specs.declared.rdata.Form.{Form}
 use Rattle.wire.specs.declared.message.RecordAt.{RecordAt}

@@ -1,28 +1,25 @@
 -- The form of a record's rdata: how many bytes stand around a name, and the NSEC of the restricted kind. Assumes nothing.
 use mathlib.Core.Path.{◌≡◌, refl, sym, ap, ap₂, ◌∙◌}
-use mathlib.Core.List.{List, [], ◌∷◌, ◌++◌}
-use mathlib.Core.Bool.{Bool, true, false, cond, not, ◌&&◌, ◌||◌}
+use mathlib.Core.List.{List, [], ◌∷◌}
+use mathlib.Core.Bool.{Bool, true, false, cond, ◌&&◌}
 use Prim.Native.Nat.{ℕ, zero, suc, ◌+◌, ◌-◌, ◌<◌, ◌≤◌}
 use native.Mathlib.Nat.{sub-zero, suc-sub-suc, zero-sub}
 use native.Mathlib.Omega.{arith}
-use borrow.Author.Tests.{le-leb, lt-leb, eq-eqb, ne_eqb, eqb-true, leb-true}
+use borrow.Author.Tests.{eq-eqb, ne_eqb}
 use mathlib.Mathlib.Data.Bool.Basic.{and-eq-true-eq-eq-true-and-eq-true as both}
-use lib.ListN.{length, get_or, take, drop, length-drop, length-take, length-append, drop_of_length-le, take-append-drop}
-use lib.Seq.{take_all, take_at, drop_at, length-take-le, drop-drop, take-nil}
-use lib.Dec.{leb, eqb}
-use Rattle.wire.specs.octets.Octets.{byte_at}
-use Rattle.wire.specs.case_folding.Fold.{same_name}
-use Rattle.wire.specs.names.Names.{Reading, name, malformed, name_at, is_name}
-use Rattle.wire.specs.names.Answers.{expanded, same_as, name_is}
-use Rattle.wire.specs.nsec.Nsec.{names, is_block, is_nsec}
+use lib.ListN.{length, take, drop, length-drop, length-take, drop_of_length-le}
+use lib.Seq.{take_all, take-nil}
+use lib.Dec.{eqb}
+use Rattle.wire.specs.names.Names.{Reading, name, malformed, name_at}
+use Rattle.wire.specs.names.Answers.{expanded, name_is}
+use Rattle.wire.specs.nsec.Nsec.{is_block}
 use Rattle.wire.specs.declared.names.Span.{Span}
-use Rattle.wire.specs.declared.names.Name.{Name}
 use Rattle.wire.specs.declared.names.Name.TheVariants as nam
 use Rattle.wire.specs.declared.names.Expanded.{Expanded}
 use Rattle.wire.specs.declared.rdata.Form.{Form}
 use Rattle.wire.specs.declared.message.RecordAt.{RecordAt}
 use Rattle.wire.specs.rdata.Rdata.{plain_form, form_of, block_form, next_form, form_in}
-use Rattle.wire.proofs.names.Use.{as_expanded, as_unexpanded, at_most-255}
+use Rattle.wire.proofs.names.Use.{as_expanded, as_unexpanded}
 use Rattle.wire.proofs.names.InPlace.{ends_behind}
 use Rattle.wire.proofs.nsec.Blocks.{block-long}
 

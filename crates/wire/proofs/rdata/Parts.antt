@@ -14,11 +14,10 @@ use Rattle.wire.specs.declared.names.Span.{Span}
 use Rattle.wire.specs.declared.names.Name.{Name}
 use Rattle.wire.specs.declared.names.Name.TheVariants as nam
 use Rattle.wire.proofs.names.Use.{as_name, as_malformed}
-use Rattle.wire.specs.rdata.Rdata.{Rdata, rdata, unfit, ending_name, with_name}
+use Rattle.wire.specs.rdata.Rdata.{rdata, unfit, ending_name, with_name}
 use Rattle.wire.specs.rdata.Answers.{fits}
 use Rattle.wire.specs.rdata.Readers.{address_bytes, address_in, string_at, name_ending, name_in, srv_with, srv_in}
 use Rattle.wire.specs.declared.rdata.StringAt.{StringAt}
-use Rattle.wire.specs.declared.rdata.StringRead.{StringRead}
 use Rattle.wire.specs.declared.rdata.StringRead.TheVariants as str
 use Rattle.wire.specs.declared.rdata.SrvAt.{SrvAt}
 use Rattle.wire.specs.declared.rdata.SrvRead.{SrvRead}

@@ -9,14 +9,14 @@ use native.Mathlib.Omega.{arith}
 use borrow.Author.Tests.{le-leb, eq-eqb}
 use mathlib.Mathlib.Data.Bool.Basic.{and-eq-true-eq-eq-true-and-eq-true as both}
 use lib.ListN.{length, take, drop, length-drop, length-take, length-append, take-append-drop}
-use lib.Seq.{take_at, drop_at, take-take, length-take-le}
-use lib.Dec.{leb, eqb}
+use lib.Seq.{take_at, drop_at, take-take}
+use lib.Dec.{eqb}
 use Rattle.wire.specs.case_folding.Fold.{same_name}
 use Rattle.wire.specs.names.Names.{Reading, name, malformed, name_at, is_name}
 use Rattle.wire.specs.names.Answers.{same_as, name_is}
 use Rattle.wire.specs.nsec.Nsec.{is_block, is_nsec}
-use Rattle.wire.specs.rdata.Restricted.{Block, Restricted}
-use Rattle.wire.specs.rdata.Rdata.{Rdata, rdata, unfit, ending_name, plain_form, next_form, form_in, form_at, with_name, rdata_in, rdata_at}
+use Rattle.wire.specs.rdata.Restricted.{Restricted}
+use Rattle.wire.specs.rdata.Rdata.{rdata, unfit, ending_name, plain_form, next_form, form_at, with_name, rdata_in, rdata_at}
 use Rattle.wire.specs.rdata.Answers.{fits, data_of}
 use Rattle.wire.specs.declared.rdata.Form.{Form}
 use Rattle.wire.specs.declared.message.RecordAt.{RecordAt}

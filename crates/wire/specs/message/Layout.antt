@@ -8,13 +8,11 @@ use Rattle.wire.specs.names.Answers.{span_of}
 use Rattle.wire.specs.rdata.Rdata.{Rdata, rdata, unfit, rdata_at}
 use Rattle.wire.specs.message.Message.{Question, Record, record_of, Message, ttl_of}
 use Rattle.wire.specs.declared.names.Span.{Span}
-use Rattle.wire.specs.declared.message.QuestionAt.{QuestionAt}
 use Rattle.wire.specs.declared.message.QuestionRead.{QuestionRead}
 use Rattle.wire.specs.declared.message.QuestionRead.TheVariants as q
 use Rattle.wire.specs.declared.message.RecordAt.{RecordAt}
 use Rattle.wire.specs.declared.message.RecordRead.{RecordRead}
 use Rattle.wire.specs.declared.message.RecordRead.TheVariants as r
-use Rattle.wire.specs.declared.message.Section.{Section}
 use Rattle.wire.specs.declared.message.Layout.{Layout}
 use Rattle.wire.specs.declared.message.MessageRead.{MessageRead}
 use Rattle.wire.specs.declared.message.MessageRead.TheVariants as m

@@ -1,6 +1,6 @@
 -- What a message says: questions and records as lists, names and rdata expanded. Callers reason about these; where the bytes of each lie is in
 -- Layout.antt. Assumes nothing: these are definitions.
-use Rattle.std.specs.Prelude.{ℕ, zero, suc, ◌/◌, ◌%◌, List, [], ◌∷◌, ◌++◌, Bool, cond, leb, eqb}
+use Rattle.std.specs.Prelude.{ℕ, ◌%◌, List, ◌++◌, Bool, cond, leb}
 
 -- a question: the name asked for, uncompressed, its type, and its class as on the wire
 pub record Question : Type 0 where

@@ -1,5 +1,4 @@
 -- Where an item of a section, or a section, ends. Assumes nothing: these are definitions.
-use Rattle.std.specs.Prelude.{ℕ}
 use Rattle.wire.specs.message.Layout.{Item, item, broken, Listing, listing, cut}
 use Rattle.wire.specs.declared.message.Place.{Place}
 use Rattle.wire.specs.declared.message.Place.TheVariants.{At, Malformed}

@@ -14,7 +14,7 @@ use Rattle.wire.specs.labels.Labels.{encode, Labels}
 use Rattle.writer.specs.declared.compression.Place.{Place}
 use Rattle.writer.specs.declared.compression.Place.TheVariants.{At, Nowhere}
 use Rattle.writer.specs.compression.Compression.{is_read, stands_at, place_of, pointer_to, name_bytes, name_places}
-use Rattle.writer.specs.compression.Sentence.{Among, first, later, Stands, label_bytes, starts_at, Rising, empty, next, Cuts, whole, cut}
+use Rattle.writer.specs.compression.Sentence.{Among, first, later, Stands, label_bytes, Rising, empty, next, Cuts, whole, cut}
 use Rattle.writer.proofs.compression.ByLabels.{cut_at, none_at, by_labels, places_by, by-labels, places-by}
 
 above : {m n o : ℕ} {os : List ℕ} → Rising m n os → Among o os → m ≤ o

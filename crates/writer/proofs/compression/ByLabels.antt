@@ -1,13 +1,12 @@
 -- The bytes of a name label by label: what the definition, which goes byte by byte, gives for a name that is made of labels. Assumes nothing.
-use mathlib.Core.Path.{◌≡◌, refl, sym, ap, ap₂, ◌∙◌}
+use mathlib.Core.Path.{◌≡◌, refl, ap, ap₂, ◌∙◌}
 use mathlib.Core.List.{List, [], ◌∷◌, ◌++◌, append_assoc}
-use Prim.Native.Nat.{ℕ, zero, suc, ◌+◌, ◌<◌, ◌≤◌}
+use Prim.Native.Nat.{ℕ, suc, ◌+◌}
 use native.Mathlib.Omega.{arith}
 use lib.ListN.{length, take}
 use Rattle.wire.specs.labels.Labels.{encode, Labels, none, one}
 use Rattle.writer.specs.declared.compression.Place.{Place}
 use Rattle.writer.specs.declared.compression.Place.TheVariants.{At, Nowhere}
-use Rattle.writer.specs.declared.compression.Cut.{Cut}
 use Rattle.writer.specs.compression.Compression.{place_of, onward, cut_here, cut_from, cut_of, pointer_to, end_of, name_bytes, name_places}
 use Rattle.wire.specs.labels.Counted.{starts}
 

@@ -1,12 +1,11 @@
 -- Offsets at which labels start: those of a packet rise, and none is in the header. Assumes nothing.
-use Prim.Native.Nat.{ℕ, suc, ◌+◌, ◌<◌, ◌≤◌}
-use mathlib.Core.Path.{◌≡◌, refl}
+use Prim.Native.Nat.{ℕ, suc, ◌+◌, ◌≤◌}
 use mathlib.Core.List.{List, [], ◌∷◌, ◌++◌}
 use native.Mathlib.Omega.{arith}
 use lib.ListN.{length, length-append}
 use Rattle.writer.specs.declared.compression.Place.{Place}
 use Rattle.writer.specs.declared.compression.Place.TheVariants.{At, Nowhere}
-use Rattle.wire.specs.labels.Labels.{encode, Labels, none, one, IsName}
+use Rattle.wire.specs.labels.Labels.{encode}
 use Rattle.writer.specs.compression.Compression.{place_of}
 use Rattle.writer.specs.compression.Sentence.{Rising, empty, next}
 use Rattle.writer.proofs.compression.ByLabels.{cut_at, none_at, by_labels, places_by}

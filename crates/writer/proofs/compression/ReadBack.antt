@@ -1,24 +1,21 @@
 -- What was written as a name is read as that name, byte for byte, whatever stands between the names and whatever follows.
 -- Assumes nothing.
-use Prim.Native.Nat.{ℕ, zero, suc, ◌+◌, ◌*◌, ◌/◌, ◌%◌, ◌<◌, ◌≤◌}
+use Prim.Native.Nat.{ℕ, suc, ◌+◌, ◌*◌, ◌/◌, ◌%◌, ◌<◌, ◌≤◌}
 use mathlib.Core.Path.{◌≡◌, refl, sym, ap, ap₂, ◌∙◌}
-use mathlib.Core.List.{List, [], ◌∷◌, ◌++◌, append_assoc}
-use mathlib.Core.Bool.{Bool, true, false, cond, ◌&&◌}
+use mathlib.Core.List.{List, [], ◌∷◌, ◌++◌}
+use mathlib.Core.Bool.{Bool, true, false, cond}
 use native.Mathlib.Numerals.{add-one}
 use native.Mathlib.Omega.{arith}
-use borrow.Author.Tests.{eqb-true}
-use lib.ListN.{length, get_or, take, drop, length-append, length-drop}
-use lib.Seq.{take_at, drop_at, drop-drop}
-use lib.Dec.{eqb}
-use Rattle.wire.specs.declared.name_pieces.Piece.TheVariants.{Root, Label, Pointer}
+use lib.ListN.{length, get_or, drop, length-append}
+use lib.Seq.{drop_at, drop-drop}
+use Rattle.wire.specs.declared.name_pieces.Piece.TheVariants.{Pointer}
 use Rattle.wire.specs.name_pieces.Pieces.{piece_at, target}
-use Rattle.wire.specs.names.Names.{Reading, name, malformed, before, ending, read_piece, from_run, name_at}
+use Rattle.wire.specs.names.Names.{Reading, name, malformed, ending, read_piece, from_run, name_at}
 use Rattle.wire.proofs.names.Rest.{unroll}
-use Rattle.wire.proofs.name_pieces.Pieces.{piece_root, piece_label, piece_pointer}
+use Rattle.wire.proofs.name_pieces.Pieces.{piece_root, piece_pointer}
 use Rattle.writer.specs.declared.compression.Place.{Place}
 use Rattle.writer.specs.declared.compression.Place.TheVariants.{At, Nowhere}
 use Rattle.wire.specs.labels.Labels.{encode, Labels, none, one, IsName}
-use Rattle.wire.specs.expansion.Equal.{same_bytes}
 use Rattle.wire.proofs.expansion.Bytes.{same_equal}
 use Rattle.wire.proofs.labels.Encoded.{encode-pos}
 use Rattle.writer.specs.compression.Compression.{is_read, stands_at, place_of, pointer_to}

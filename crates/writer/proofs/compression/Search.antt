@@ -1,15 +1,15 @@
 -- The search for an earlier suffix: the front of an expanded name, the offsets one after the other, and the suffixes one after the other.
 -- Assumes nothing.
 use mathlib.Core.Path.{◌≡◌, refl, sym, ap, ◌∙◌}
-use mathlib.Core.List.{List, [], ◌∷◌, ◌++◌}
+use mathlib.Core.List.{List, [], ◌∷◌}
 use mathlib.Core.Bool.{Bool, true, false, cond}
 use Prim.Native.Nat.{ℕ, zero, suc, ◌+◌, ◌-◌, ◌<◌, ◌≤◌}
 use native.Mathlib.Nat.{zero-add}
 use native.Mathlib.Numerals.{add-one}
 use native.Mathlib.Omega.{arith}
 use lib.ListN.{length, get_or, take, drop, length-drop, length-take, drop_of_length-le}
-use lib.Seq.{drop-cons, drop-drop, take_all, length-take-le}
-use Rattle.wire.specs.names.Names.{name, malformed, name_at}
+use lib.Seq.{drop-cons, drop-drop, take_all}
+use Rattle.wire.specs.names.Names.{name, name_at}
 use Rattle.wire.specs.names.Answers.{expanded}
 use Rattle.wire.specs.declared.names.Expanded.{Expanded}
 use Rattle.wire.specs.declared.names.Span.{Span}

@@ -5,16 +5,16 @@ use mathlib.Core.Path.{◌≡◌, refl, sym, ap, ap₂, ◌∙◌}
 use mathlib.Core.List.{List, [], ◌∷◌, ◌++◌}
 use mathlib.Core.Bool.{Bool, true, false, cond}
 use native.Mathlib.Omega.{arith}
-use lib.ListN.{length, take, length-append, length-take}
+use lib.ListN.{length, take, length-append}
 use Rattle.wire.proofs.names.Extend.{within}
-use Rattle.wire.specs.names.Names.{Reading, name, name_at, is_name}
+use Rattle.wire.specs.names.Names.{name, name_at, is_name}
 use Rattle.wire.specs.labels.Labels.{encode, Labels, none, one, IsName}
 use Rattle.wire.proofs.labels.Encoded.{encode-pos, made_of}
 use Rattle.writer.specs.declared.compression.Place.{Place}
 use Rattle.writer.specs.declared.compression.Place.TheVariants.{At, Nowhere}
-use Rattle.writer.specs.compression.Compression.{stands_at, place_of, onward, cut_here, cut_from, cut_of, end_of, name_bytes, name_places}
+use Rattle.writer.specs.compression.Compression.{stands_at, place_of, onward, cut_here, cut_from, cut_of, name_bytes, name_places}
 use Rattle.wire.specs.labels.Counted.{starts, labels_in}
-use Rattle.writer.specs.compression.Sentence.{Rising, empty, next}
+use Rattle.writer.specs.compression.Sentence.{Rising}
 use Rattle.writer.proofs.compression.ByLabels.{starts-on, cut_at, by_labels, places_by, by-labels, places-by}
 use Rattle.writer.proofs.compression.Places.{name-rising}
 use Rattle.writer.proofs.compression.ReadBack as labelled

@@ -1,6 +1,5 @@
 use Rattle.writer.proofs.Fitting.{unnamed, misshaped, too_long_lem, by-ttl}
 use native.Mathlib.Omega.{arith}
-use borrow.Author.Tests.{not-true, not-false}
 use Rattle.writer.proofs.fit_record.Goals as goal
 
 pub returns-then-not-is_name : goal.returns-then-not-is_name

@@ -1,5 +1,4 @@
 use mathlib.Core.Path.{sym, ◌∙◌}
-use borrow.Author.Tests.{not-true, not-false}
 use Rattle.wire.proofs.nsec.Blocks.{nsec_long}
 use Rattle.writer.proofs.Fitting.{form_typed, form_other, form_nsec}
 use Rattle.writer.proofs.form_for.Goals as goal

@@ -1,8 +1,6 @@
-use Prim.Native.Nat.{◌≤◌, ◌+◌, ◌-◌}
-use mathlib.Core.Path.{◌≡◌, refl}
-use lib.ListN.{length, drop, length-set}
+use lib.ListN.{length-set}
 use native.Mathlib.Omega.{arith}
-use Rattle.writer.proofs.Starts.{Noting, noting, noted_end, noted_root, noted_room, noted_on}
+use Rattle.writer.proofs.Starts.{noting, noted_end, noted_root, noted_room, noted_on}
 use Rattle.writer.proofs.note_starts.Goals as goal
 
 pub loop-i-init : goal.loop-i-init

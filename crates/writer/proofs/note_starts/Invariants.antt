@@ -1,8 +1,6 @@
 use Prim.Native.Nat.{◌≤◌, ◌+◌, ◌-◌}
-use mathlib.Core.Path.{◌≡◌, refl}
-use lib.ListN.{length, drop, length-set}
-use native.Mathlib.Omega.{arith}
-use Rattle.writer.proofs.Starts.{Noting, noting, noted_end, noted_root, noted_room, noted_on}
+use lib.ListN.{length}
+use Rattle.writer.proofs.Starts.{Noting}
 use Rattle.writer.proofs.note_starts.Given as goal
 
 abbrev pub invariant-loop-i : goal.invariant-loop-i

@@ -7,7 +7,7 @@ use native.Mathlib.Numerals.{add-one}
 use native.Mathlib.Omega.{arith}
 use lib.ListN.{length, take, drop, set, replicate, length-set, length-replicate, drop_of_length-le}
 use lib.Seq.{take-suc-set}
-use Rattle.claims.specs.records.Own.{all, records, index_of, record_at, first_of, second_of, claimed, has}
+use Rattle.claims.specs.records.Own.{all, records, index_of, record_at, first_of, second_of, has}
 use Rattle.claims.specs.records.Sets.{picked}
 use Rattle.claims.specs.declared.records.Claim.{Claim}
 use Rattle.claims.specs.declared.records.Claim.TheVariants.{Instance, Host}
@@ -18,7 +18,6 @@ use Rattle.claims.proofs.records.Searched.{rest}
 use Rattle.claims.proofs.records.Sets.{at-index}
 use Rattle.own.specs.declared.records.Setup.{Setup}
 use Rattle.own.specs.records.Records.{has_record}
-use Rattle.writer.specs.declared.own_packets.Picked.{Picked}
 use Rattle.writer.specs.own_packets.Own.{response_records, probe_records}
 use Rattle.writer.specs.own_packets.Ready.{Picks}
 

@@ -2,7 +2,7 @@
 use mathlib.Core.Path.{◌≡◌, refl, ap, ap₂, ◌∙◌}
 use mathlib.Core.List.{List, [], ◌∷◌}
 use mathlib.Core.Bool.{Bool, true, false, cond, ◌&&◌}
-use Prim.Native.Nat.{ℕ, ◌+◌, ◌-◌, ◌≤◌}
+use Prim.Native.Nat.{ℕ, ◌+◌, ◌≤◌}
 use native.Mathlib.Omega.{arith}
 use lib.ListN.{length, length-append}
 use Rattle.wire.specs.labels.Labels.{encode}
@@ -10,7 +10,7 @@ use Rattle.wire.specs.labels.Counted.{labels_in}
 use Rattle.wire.specs.nsec.Nsec.{names, is_block}
 use Rattle.wire.proofs.labels.Encoded.{is_name_lem}
 use Rattle.writer.proofs.compression.Written.{labels_in_lem}
-use Rattle.claims.specs.records.Own.{all, own_type, first_of, claimed, has}
+use Rattle.claims.specs.records.Own.{all, first_of, claimed, has}
 use Rattle.claims.specs.records.Sets.{picked, with_data}
 use Rattle.claims.specs.declared.records.Claim.{Claim}
 use Rattle.claims.specs.declared.records.Claim.TheVariants.{Instance, Host}

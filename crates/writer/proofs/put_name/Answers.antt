@@ -1,8 +1,7 @@
 use native.Mathlib.Omega.{arith}
-use mathlib.Core.Path.{◌≡◌, sym, ap, ◌∙◌}
+use mathlib.Core.Path.{sym, ap, ◌∙◌}
 use lib.ListN.{length, take}
 use lib.Seq.{length-take-le, length-sets}
-use Rattle.writer.specs.declared.compression.Place.TheVariants.{At, Nowhere}
 use Rattle.writer.proofs.Cutting.{kept-fits, kept-long, room-kept, room_noted, room-end, pointer_small, wrote_pointer, wrote_root}
 use Rattle.writer.proofs.put_name.Goals as goal
 
@@ -32,103 +31,103 @@ slice_bounds-note_starts-end c = kept-long c.args.known c.args.at c.args.count
 
 pub note_starts-noted-requires : goal.note_starts-noted-requires
 note_starts-noted-requires c = (
-      room_noted c.args.known c.args.at c.args.count
-          c.args.tried c.args.name.now c.args.out.now
-          c.args.places.now c.requires
-          c.cut_of-cut.result
-          c.cut_of-cut.ensures,
-      omega (
-        arith,
-        room-kept c.args.known c.args.at c.args.count
-            c.args.tried c.args.name.now c.args.out.now
-            c.args.places.now c.requires
-            c.cut_of-cut.result
-            c.cut_of-cut.ensures,
-      ),
-    )
+  room_noted c.args.known c.args.at c.args.count
+      c.args.tried c.args.name.now c.args.out.now
+      c.args.places.now c.requires
+      c.cut_of-cut.result
+      c.cut_of-cut.ensures,
+  omega (
+    arith,
+    room-kept c.args.known c.args.at c.args.count
+        c.args.tried c.args.name.now c.args.out.now
+        c.args.places.now c.requires
+        c.cut_of-cut.result
+        c.cut_of-cut.ensures,
+  ),
+)
 
 pub overflow_add-end : goal.overflow_add-end
 overflow_add-end c = omega (
-      arith,
-      kept-fits c.args.known c.args.at
-          c.args.count c.args.tried
-          c.args.name.now c.args.out.now
-          c.args.places.now
-          c.requires c.cut_of-cut.result
-          c.cut_of-cut.ensures,
-      c.requires.room,
-    )
+  arith,
+  kept-fits c.args.known c.args.at
+      c.args.count c.args.tried
+      c.args.name.now c.args.out.now
+      c.args.places.now
+      c.requires c.cut_of-cut.result
+      c.cut_of-cut.ensures,
+  c.requires.room,
+)
 
 pub overflow_add-o : goal.overflow_add-o
 overflow_add-o c = omega (
-      arith,
-      pointer_small c.args.known c.args.at c.args.count c.args.tried c.args.name.now
-          c.args.out.now c.args.places.now c.requires c.cut_of-cut.result
-          c.cut_of-cut.ensures _ c.in-At.is,
-    )
+  arith,
+  pointer_small c.args.known c.args.at c.args.count c.args.tried c.args.name.now
+      c.args.out.now c.args.places.now c.requires c.cut_of-cut.result
+      c.cut_of-cut.ensures _ c.in-At.is,
+)
 
 pub put_u16-requires : goal.put_u16-requires
 put_u16-requires c = (
-      omega (
-        arith,
-        room-end c.args.known c.args.at c.args.count c.args.tried c.args.name.now
-            c.args.out.now c.args.places.now c.requires c.cut_of-cut.result
-            c.cut_of-cut.ensures _ c.in-At.is,
-        ap length c.put.ensures ∙ length-sets
-            c.args.out.now c.args.at (take c.cut_of-cut.result.kept c.args.name.now),
-      ),
-      omega (
-        arith,
-        pointer_small c.args.known c.args.at c.args.count c.args.tried c.args.name.now
-            c.args.out.now c.args.places.now c.requires c.cut_of-cut.result
-            c.cut_of-cut.ensures _ c.in-At.is,
-      ),
-    )
+  omega (
+    arith,
+    room-end c.args.known c.args.at c.args.count c.args.tried c.args.name.now
+        c.args.out.now c.args.places.now c.requires c.cut_of-cut.result
+        c.cut_of-cut.ensures _ c.in-At.is,
+    ap length c.put.ensures ∙ length-sets
+        c.args.out.now c.args.at (take c.cut_of-cut.result.kept c.args.name.now),
+  ),
+  omega (
+    arith,
+    pointer_small c.args.known c.args.at c.args.count c.args.tried c.args.name.now
+        c.args.out.now c.args.places.now c.requires c.cut_of-cut.result
+        c.cut_of-cut.ensures _ c.in-At.is,
+  ),
+)
 
 pub overflow_add-result : goal.overflow_add-result
 overflow_add-result c = omega (
-      arith,
-      room-end c.args.known c.args.at
-          c.args.count c.args.tried c.args.name.now
-          c.args.out.now c.args.places.now c.requires
-          c.cut_of-cut.result
-          c.cut_of-cut.ensures
-          _ c.in-At.is,
-    )
+  arith,
+  room-end c.args.known c.args.at
+      c.args.count c.args.tried c.args.name.now
+      c.args.out.now c.args.places.now c.requires
+      c.cut_of-cut.result
+      c.cut_of-cut.ensures
+      _ c.in-At.is,
+)
 
 pub bounds-out-end : goal.bounds-out-end
 bounds-out-end c = omega (
-      arith,
-      room-end c.args.known
-          c.args.at
-          c.args.count
-          c.args.tried
-          c.args.name.now
-          c.args.out.now
-          c.args.places.now
-          c.requires c.cut_of-cut.result
-          c.cut_of-cut.ensures _
-          c.in-Nowhere.is,
-      ap length c.put.ensures ∙ length-sets
-          c.args.out.now
-          c.args.at
-          (take c.cut_of-cut.result.kept c.args.name.now),
-    )
+  arith,
+  room-end c.args.known
+      c.args.at
+      c.args.count
+      c.args.tried
+      c.args.name.now
+      c.args.out.now
+      c.args.places.now
+      c.requires c.cut_of-cut.result
+      c.cut_of-cut.ensures _
+      c.in-Nowhere.is,
+  ap length c.put.ensures ∙ length-sets
+      c.args.out.now
+      c.args.at
+      (take c.cut_of-cut.result.kept c.args.name.now),
+)
 
 pub overflow_add-result-in-Nowhere : goal.overflow_add-result-in-Nowhere
 overflow_add-result-in-Nowhere c = omega (
-      arith,
-      room-end c.args.known
-          c.args.at
-          c.args.count
-          c.args.tried
-          c.args.name.now
-          c.args.out.now
-          c.args.places.now
-          c.requires c.cut_of-cut.result
-          c.cut_of-cut.ensures _
-          c.in-Nowhere.is,
-    )
+  arith,
+  room-end c.args.known
+      c.args.at
+      c.args.count
+      c.args.tried
+      c.args.name.now
+      c.args.out.now
+      c.args.places.now
+      c.requires c.cut_of-cut.result
+      c.cut_of-cut.ensures _
+      c.in-Nowhere.is,
+)
 
 pub returns-in-At : goal.returns-in-At
 returns-in-At c = wrote_pointer c.args.known c.args.at c.args.count

@@ -1,6 +1,5 @@
 use Rattle.writer.proofs.Fitting.{fit_parts, placed-unfit, placed-full, placed-done}
 use mathlib.Core.Path.{sym, ◌∙◌}
-use borrow.Author.Tests.{not-true, not-false}
 use Rattle.writer.proofs.put_record.Goals as goal
 
 pub returns-then-not-fit_record : goal.returns-then-not-fit_record
@@ -15,10 +14,10 @@ returns-then-not-record_fits c = placed-full _ _ _ _ _ _ c.fit_record.ensures (c
 
 pub write_record-requires : goal.write_record-requires
 write_record-requires c = record {
-      fit = sym c.fit_record.ensures ∙ c.if-not-fit_record.false;
-      fits = sym
-          c.record_fits.ensures ∙ c.if-not-record_fits.false;
-    }
+  fit = sym c.fit_record.ensures ∙ c.if-not-fit_record.false;
+  fits = sym
+      c.record_fits.ensures ∙ c.if-not-record_fits.false;
+}
 
 pub returns : goal.returns
 returns c = placed-done _ _ _ _ _ _ c.fit_record.ensures (c.if-not-fit_record.false) _

@@ -1,4 +1,3 @@
-use borrow.Author.Tests.{not-true, not-false}
 use Rattle.writer.proofs.Parts.{tried_all, tried_none, tried_other}
 use Rattle.writer.proofs.tried_for.Goals as goal
 

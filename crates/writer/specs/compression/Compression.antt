@@ -1,7 +1,7 @@
 -- How a name is written into a packet (specification, 'Writing a packet'): "Every name .. is cut at its longest suffix of whole labels that stands
 -- earlier byte for byte in a name of the packet .., pointers there followed, and points to the smallest such offset; the root alone is never
 -- pointed to." A packet is the list of its bytes, a name that of its uncompressed ones. Assumes nothing: these are definitions.
-use Rattle.std.specs.Prelude.{ℕ, zero, suc, ◌+◌, ◌/◌, ◌%◌, List, [], ◌∷◌, ◌++◌, Bool, true, false, cond, length, take}
+use Rattle.std.specs.Prelude.{ℕ, zero, suc, ◌+◌, ◌/◌, ◌%◌, List, [], ◌∷◌, ◌++◌, Bool, false, cond, take}
 use Rattle.wire.specs.labels.Counted.{starts}
 use Rattle.wire.specs.names.Names.{Reading, name, malformed, name_at}
 use Rattle.wire.specs.expansion.Equal.{same_bytes}

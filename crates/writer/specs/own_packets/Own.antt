@@ -1,5 +1,5 @@
 -- The packets of own records (specification, 'Writing a packet'): a response of any of them, a claim's probe, and a reply to a plain resolver. Assumes nothing: these are definitions.
-use Rattle.std.specs.Prelude.{ℕ, List, [], ◌∷◌, ◌++◌, map, Bool, cond, not, ◌&&◌, length, drop, ltb, eqb}
+use Rattle.std.specs.Prelude.{ℕ, List, [], ◌∷◌, ◌++◌, Bool, cond, not, ◌&&◌, length, drop, ltb, eqb}
 use Rattle.claims.specs.records.Own.{all, first_of, claimed, has}
 use Rattle.claims.specs.records.Sets.{picked, with_data}
 use Rattle.claims.specs.declared.records.Claim.{Claim}

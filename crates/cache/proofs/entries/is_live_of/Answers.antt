@@ -1,5 +1,4 @@
 use mathlib.Core.Path.{sym, ◌∙◌}
-use borrow.Author.Tests.{not-true, not-false}
 use Rattle.cache.proofs.entries.Single.{live_type, live_not, live_of_lem}
 use Rattle.cache.proofs.entries.is_live_of.Goals as goal
 

@@ -1,6 +1,5 @@
 use mathlib.Core.Path.{sym, ◌∙◌}
 use native.Mathlib.Omega.{arith}
-use borrow.Author.Tests.{not-true, not-false}
 use Rattle.cache.proofs.lookup.Looking.{no_store, a-store}
 use Rattle.cache.proofs.lookup.Refusing.{size_most}
 use Rattle.cache.proofs.lookup.is_store_of.Goals as goal

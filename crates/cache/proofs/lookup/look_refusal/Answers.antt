@@ -1,6 +1,5 @@
 use mathlib.Core.Path.{sym, ◌∙◌}
 use native.Mathlib.Omega.{arith}
-use borrow.Author.Tests.{not-true, not-false}
 use Rattle.cache.proofs.lookup.Looking.{look-entries, look-store, look-name, look-passes}
 use Rattle.cache.proofs.lookup.look_refusal.Goals as goal
 

@@ -1,4 +1,3 @@
-
 use Rattle.cache.proofs.lookup.met_at.Goals as goal
 
 pub returns : goal.returns

@@ -1,6 +1,5 @@
 use mathlib.Core.Path.{sym, ◌∙◌}
 use native.Mathlib.Omega.{arith}
-use borrow.Author.Tests.{not-true, not-false}
 use Rattle.cache.proofs.records.Tests.{chosen_none, chosen_over, chosen_end, chosen_more, chosen_gone, chosen_fill, chosen_away}
 use Rattle.cache.proofs.records.chosen.Goals as goal
 

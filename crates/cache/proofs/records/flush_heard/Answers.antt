@@ -1,6 +1,5 @@
 use mathlib.Core.Path.{sym, ◌∙◌}
 use native.Mathlib.Omega.{arith}
-use borrow.Author.Tests.{not-true, not-false}
 use Rattle.cache.proofs.records.Tests.{flush_young, flush_other, flush_not, flush_old}
 use Rattle.cache.proofs.records.flush_heard.Goals as goal
 

@@ -1,5 +1,4 @@
 use mathlib.Core.Path.{sym, ◌∙◌}
-use borrow.Author.Tests.{not-true, not-false}
 use Rattle.cache.proofs.records.Tests.{bytes_other, bytes_owner}
 use Rattle.cache.proofs.records.has_bytes.Goals as goal
 

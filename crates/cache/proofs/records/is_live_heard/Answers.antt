@@ -1,5 +1,4 @@
 use mathlib.Core.Path.{sym, ◌∙◌}
-use borrow.Author.Tests.{not-true, not-false}
 use Rattle.cache.proofs.records.Tests.{live_not, live_is}
 use Rattle.cache.proofs.records.is_live_heard.Goals as goal
 

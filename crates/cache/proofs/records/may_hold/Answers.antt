@@ -1,5 +1,4 @@
 use mathlib.Core.Path.{sym, ◌∙◌}
-use borrow.Author.Tests.{not-true, not-false}
 use Rattle.cache.proofs.records.Tests.{may_not, may_is}
 use Rattle.cache.proofs.records.may_hold.Goals as goal
 

@@ -1,4 +1,3 @@
-
 use Rattle.own.proofs.changes.with_txt.Goals as goal
 
 pub returns : goal.returns

@@ -1,5 +1,4 @@
 use native.Mathlib.Omega.{arith}
-use Rattle.own.proofs.records.Arrays.{sized}
 use Rattle.own.proofs.records.Laying.{held_in_lem, laid-host}
 use Rattle.own.proofs.records.put_host_name.Goals as goal
 

@@ -1,5 +1,4 @@
 use native.Mathlib.Omega.{arith}
-use Rattle.own.proofs.records.Arrays.{sized}
 use Rattle.own.proofs.records.Laying.{held_in_lem, laid-service}
 use Rattle.own.proofs.records.put_service_name.Goals as goal
 

@@ -2,7 +2,6 @@ use lib.ListN.{take, length-take}
 use native.Mathlib.Omega.{arith}
 use mathlib.Core.Path.{sym}
 use lib.Seq.{length-take-le}
-use Rattle.own.proofs.records.Arrays.{sized}
 use Rattle.own.proofs.records.Laying.{own_full, own_of_lem}
 use Rattle.own.proofs.records.txt_rdata.Goals as goal
 

@@ -1,9 +1,5 @@
-use borrow.Author.Tests.{not-true, not-false}
-use Prim.Native.Nat.{◌≤◌, ◌-◌}
-use mathlib.Core.Path.{◌≡◌, refl}
-use lib.ListN.{length, drop}
+use mathlib.Core.Path.{refl}
 use native.Mathlib.Omega.{arith}
-use Rattle.own.specs.records.Setups.{all_name_bytes}
 use Rattle.own.proofs.setups.Rules.{bytes_end, bytes_stop, bytes_on}
 use Rattle.own.proofs.setups.all_name_bytes.Goals as goal
 

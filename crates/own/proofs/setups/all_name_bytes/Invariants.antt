@@ -1,10 +1,7 @@
-use borrow.Author.Tests.{not-true, not-false}
 use Prim.Native.Nat.{◌≤◌, ◌-◌}
-use mathlib.Core.Path.{◌≡◌, refl}
+use mathlib.Core.Path.{◌≡◌}
 use lib.ListN.{length, drop}
-use native.Mathlib.Omega.{arith}
 use Rattle.own.specs.records.Setups.{all_name_bytes}
-use Rattle.own.proofs.setups.Rules.{bytes_end, bytes_stop, bytes_on}
 use Rattle.own.proofs.setups.all_name_bytes.Given as goal
 
 abbrev pub invariant-loop-i : goal.invariant-loop-i

@@ -1,6 +1,4 @@
-use borrow.Author.Tests.{not-true, not-false}
 use Rattle.own.proofs.setups.Rules.{not-instance, not-service, not-protocol, not-host, not-domain, all-but_txt}
-use Rattle.own.proofs.records.Arrays.{sized}
 use Rattle.own.proofs.setups.check_setup.Goals as goal
 
 pub returns-then-not-instance_fits : goal.returns-then-not-instance_fits

@@ -1,12 +1,5 @@
-use mathlib.Core.Path.{sym, ap, ◌∙◌}
-use mathlib.Core.Bool.{Bool}
-use mathlib.Core.Logic.{⊎_elim}
-use Prim.Native.Nat.{◌≤◌, ◌-◌}
-use mathlib.Core.Path.{◌≡◌, refl}
-use mathlib.Core.Bool.{true}
-use lib.ListN.{length, drop}
+use mathlib.Core.Path.{refl}
 use native.Mathlib.Omega.{arith}
-use Rattle.own.specs.records.Setups.{hyphens_apart}
 use Rattle.own.proofs.setups.Rules.{hyphens_end, hyphen_barred, hyphen_on, other-on}
 use Rattle.own.proofs.setups.hyphens_apart.Goals as goal
 use Rattle.own.proofs.setups.hyphens_apart.Goals.{then-s-i-eq45+else-barred, else-s-i-eq45}
@@ -21,8 +14,9 @@ pub loop-i-preserved : goal.loop-i-preserved
 loop-i-preserved c = (
   omega arith,
   elim c.if-s-i-eq45.branch [
-      then-s-i-eq45+else-barred w ↦ hyphen_on _ c.loop-i.i (omega arith) _ c.loop-i.invariant.1 w.if-s-i-eq45.true w.if-barred.false _ w.barred-is
-      | else-s-i-eq45 w ↦ other-on _ c.loop-i.i (omega arith) _ c.loop-i.invariant.1 w.if-s-i-eq45.false _ w.barred-is ],
+    | then-s-i-eq45+else-barred w ↦ hyphen_on _ c.loop-i.i (omega arith) _ c.loop-i.invariant.1 w.if-s-i-eq45.true w.if-barred.false _ w.barred-is
+    | else-s-i-eq45 w ↦ other-on _ c.loop-i.i (omega arith) _ c.loop-i.invariant.1 w.if-s-i-eq45.false _ w.barred-is
+  ],
 )
 
 pub returns : goal.returns

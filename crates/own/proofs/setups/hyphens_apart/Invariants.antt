@@ -1,13 +1,8 @@
-use mathlib.Core.Path.{sym, ap, ◌∙◌}
-use mathlib.Core.Bool.{Bool}
-use mathlib.Core.Logic.{⊎_elim}
 use Prim.Native.Nat.{◌≤◌, ◌-◌}
-use mathlib.Core.Path.{◌≡◌, refl}
+use mathlib.Core.Path.{◌≡◌}
 use mathlib.Core.Bool.{true}
 use lib.ListN.{length, drop}
-use native.Mathlib.Omega.{arith}
 use Rattle.own.specs.records.Setups.{hyphens_apart}
-use Rattle.own.proofs.setups.Rules.{hyphens_end, hyphen_barred, hyphen_on, other-on}
 use Rattle.own.proofs.setups.hyphens_apart.Given as goal
 
 abbrev pub invariant-loop-i : goal.invariant-loop-i

@@ -1,4 +1,3 @@
-use Rattle.own.proofs.records.Arrays.{sized}
 use native.Mathlib.Omega.{arith}
 use lib.Seq.{length-take-le}
 use mathlib.Core.Path.{sym}

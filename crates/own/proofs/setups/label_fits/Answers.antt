@@ -1,5 +1,3 @@
-use Rattle.own.proofs.records.Arrays.{sized}
-use Prim.Native.Nat.{ℕ}
 use native.Mathlib.Omega.{arith}
 use Rattle.own.proofs.setups.Rules.{label-empty, label-most}
 use Rattle.own.proofs.setups.label_fits.Goals as goal

@@ -1,4 +1,3 @@
-use native.Mathlib.Omega.{arith}
 use Rattle.own.proofs.setups.Rules.{byte_letter, byte_hyphen, byte_low, byte_digit}
 use Rattle.own.proofs.setups.name_byte.Goals as goal
 

@@ -2,7 +2,6 @@ use native.Mathlib.Omega.{arith}
 use lib.Seq.{length-take-le}
 use mathlib.Core.Path.{sym}
 use Rattle.own.proofs.setups.Rules.{service-few, service-many, service-so}
-use Rattle.own.proofs.records.Arrays.{sized}
 use Rattle.own.proofs.setups.service_fits.Goals as goal
 
 pub returns-then-len-lt2 : goal.returns-then-len-lt2

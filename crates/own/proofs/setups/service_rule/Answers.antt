@@ -1,4 +1,3 @@
-use borrow.Author.Tests.{not-true, not-false}
 use Rattle.own.proofs.setups.Rules.{rule_empty, rule_first, rule_bytes, rule_letter, rule_hyphens}
 use Rattle.own.proofs.setups.service_rule.Goals as goal
 

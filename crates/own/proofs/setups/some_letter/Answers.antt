@@ -1,8 +1,5 @@
-use Prim.Native.Nat.{◌≤◌, ◌-◌}
-use mathlib.Core.Path.{◌≡◌, refl}
-use lib.ListN.{length, drop}
+use mathlib.Core.Path.{refl}
 use native.Mathlib.Omega.{arith}
-use Rattle.own.specs.records.Setups.{some_letter}
 use Rattle.own.proofs.setups.Rules.{letters_end, letters_stop, letters_on}
 use Rattle.own.proofs.setups.some_letter.Goals as goal
 

@@ -1,9 +1,7 @@
 use Prim.Native.Nat.{◌≤◌, ◌-◌}
-use mathlib.Core.Path.{◌≡◌, refl}
+use mathlib.Core.Path.{◌≡◌}
 use lib.ListN.{length, drop}
-use native.Mathlib.Omega.{arith}
 use Rattle.own.specs.records.Setups.{some_letter}
-use Rattle.own.proofs.setups.Rules.{letters_end, letters_stop, letters_on}
 use Rattle.own.proofs.setups.some_letter.Given as goal
 
 abbrev pub invariant-loop-i : goal.invariant-loop-i

@@ -1,11 +1,5 @@
-use borrow.Author.Tests.{not-true, not-false}
 use native.Mathlib.Omega.{arith}
-use mathlib.Core.Path.{◌≡◌, refl}
-use mathlib.Core.Bool.{◌&&◌}
-use mathlib.Core.Logic.{⊎_elim}
-use Prim.Native.Nat.{◌≤◌, ◌-◌}
-use lib.ListN.{length, drop}
-use Rattle.own.specs.utf8.Utf8.{all_plain}
+use mathlib.Core.Path.{refl}
 use Rattle.own.proofs.utf8.Bytes.{plain-on, plain-lost, plain_end}
 use Rattle.own.proofs.utf8.all_plain.Goals as goal
 use Rattle.own.proofs.utf8.all_plain.Goals.{then-not-is_within, else-not-is_within}
@@ -17,8 +11,9 @@ pub loop-i-preserved : goal.loop-i-preserved
 loop-i-preserved c = (
   omega arith,
   elim c.if-not-is_within.branch [
-      then-not-is_within w ↦ plain-lost _ c.loop-i.i (omega arith) c.loop-i.plain c.loop-i.invariant.1 _ c.is_within.ensures w.if-not-is_within.true _ w.plain-is
-      | else-not-is_within w ↦ plain-on _ c.loop-i.i (omega arith) c.loop-i.plain c.loop-i.invariant.1 _ c.is_within.ensures w.if-not-is_within.false _ w.plain-is ],
+    | then-not-is_within w ↦ plain-lost _ c.loop-i.i (omega arith) c.loop-i.plain c.loop-i.invariant.1 _ c.is_within.ensures w.if-not-is_within.true _ w.plain-is
+    | else-not-is_within w ↦ plain-on _ c.loop-i.i (omega arith) c.loop-i.plain c.loop-i.invariant.1 _ c.is_within.ensures w.if-not-is_within.false _ w.plain-is
+  ],
 )
 
 pub returns : goal.returns

@@ -1,12 +1,8 @@
-use borrow.Author.Tests.{not-true, not-false}
-use native.Mathlib.Omega.{arith}
-use mathlib.Core.Path.{◌≡◌, refl}
+use mathlib.Core.Path.{◌≡◌}
 use mathlib.Core.Bool.{◌&&◌}
-use mathlib.Core.Logic.{⊎_elim}
 use Prim.Native.Nat.{◌≤◌, ◌-◌}
 use lib.ListN.{length, drop}
 use Rattle.own.specs.utf8.Utf8.{all_plain}
-use Rattle.own.proofs.utf8.Bytes.{plain-on, plain-lost, plain_end}
 use Rattle.own.proofs.utf8.all_plain.Given as goal
 
 abbrev pub invariant-loop-i : goal.invariant-loop-i

@@ -1,6 +1,5 @@
 use mathlib.Core.Path.{sym, ◌∙◌}
 use native.Mathlib.Omega.{arith}
-use borrow.Author.Tests.{not-true, not-false}
 use lib.ListN.{get_or}
 use Rattle.own.proofs.utf8.Bytes.{within-true, follows-2, follows-3, follows-4, follows-E0, follows-ED, follows-F0, follows-F4}
 use Rattle.own.proofs.utf8.Characters.{owed_by, alone, unstarted, led}
@@ -20,9 +19,9 @@ returns-then-is_within-2 c = let a = c.args in
 
 pub returns-then-not-is_within : goal.returns-then-not-is_within
 returns-then-not-is_within c = let a = c.args in (
-      omega arith,
-      unstarted a.s.now a.i (omega arith) (sym c.is_within-2.ensures ∙ c.if-is_within-2.false) (sym c.is_within-3.ensures ∙ c.if-not-is_within.true),
-    )
+  omega arith,
+  unstarted a.s.now a.i (omega arith) (sym c.is_within-2.ensures ∙ c.if-is_within-2.false) (sym c.is_within-3.ensures ∙ c.if-not-is_within.true),
+)
 
 pub with_owed-requires-then-b-lt224 : goal.with_owed-requires-then-b-lt224
 with_owed-requires-then-b-lt224 c = let e = owed_by c.owes-then-b-lt224.ensures in (omega arith, omega arith, omega arith)

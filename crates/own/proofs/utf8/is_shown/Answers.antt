@@ -1,8 +1,5 @@
-use mathlib.Core.Path.{◌≡◌, refl, sym, ◌∙◌}
-use Prim.Native.Nat.{◌≤◌, ◌-◌}
+use mathlib.Core.Path.{refl, sym, ◌∙◌}
 use native.Mathlib.Omega.{arith}
-use lib.ListN.{length, drop}
-use Rattle.own.specs.utf8.Utf8.{is_shown}
 use Rattle.own.proofs.utf8.Bytes.{plain-shown}
 use Rattle.own.proofs.utf8.Characters.{shown-stop, shown-on, shown-end}
 use Rattle.own.proofs.utf8.is_shown.Goals as goal
@@ -19,9 +16,9 @@ returns-then-len-eq0 c = let l = c.loop-i in
 
 pub loop-i-preserved : goal.loop-i-preserved
 loop-i-preserved c = let l = c.loop-i in (
-      c.character-len.ensures.0,
-      shown-on c.args.s.now l.i c.character-len.result l.invariant.1 (omega arith) c.character-len.ensures,
-    )
+  c.character-len.ensures.0,
+  shown-on c.args.s.now l.i c.character-len.result l.invariant.1 (omega arith) c.character-len.ensures,
+)
 
 pub returns : goal.returns
 returns c = shown-end c.args.s.now c.loop-i.i 0 c.loop-i.invariant.1 (omega arith)

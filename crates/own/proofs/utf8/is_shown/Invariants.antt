@@ -1,10 +1,7 @@
-use mathlib.Core.Path.{◌≡◌, refl, sym, ◌∙◌}
+use mathlib.Core.Path.{◌≡◌}
 use Prim.Native.Nat.{◌≤◌, ◌-◌}
-use native.Mathlib.Omega.{arith}
 use lib.ListN.{length, drop}
 use Rattle.own.specs.utf8.Utf8.{is_shown}
-use Rattle.own.proofs.utf8.Bytes.{plain-shown}
-use Rattle.own.proofs.utf8.Characters.{shown-stop, shown-on, shown-end}
 use Rattle.own.proofs.utf8.is_shown.Given as goal
 
 abbrev pub invariant-loop-i : goal.invariant-loop-i

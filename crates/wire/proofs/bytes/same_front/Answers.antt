@@ -1,9 +1,8 @@
 use Rattle.std.proofs.Common.{rules}
 use native.Mathlib.Omega.{arith}
-use mathlib.Core.Path.{◌≡◌, refl, sym, ap, ◌∙◌}
+use mathlib.Core.Path.{refl, sym, ap, ◌∙◌}
 use mathlib.Core.List.{List}
-use Prim.Native.Nat.{ℕ, ◌≤◌, ◌-◌}
-use lib.ListN.{length, take}
+use Prim.Native.Nat.{ℕ}
 use Rattle.wire.specs.bytes.Eight.{eight_at}
 use Rattle.wire.proofs.bytes.Front.{past8}
 use Rattle.wire.proofs.bytes.same_front.Goals as goal

@@ -1,10 +1,6 @@
-use native.Mathlib.Omega.{arith}
-use mathlib.Core.Path.{◌≡◌, refl, sym, ap, ◌∙◌}
-use mathlib.Core.List.{List}
-use Prim.Native.Nat.{ℕ, ◌≤◌, ◌-◌}
+use mathlib.Core.Path.{◌≡◌}
+use Prim.Native.Nat.{◌≤◌, ◌-◌}
 use lib.ListN.{length, take}
-use Rattle.wire.specs.bytes.Eight.{eight_at}
-use Rattle.wire.proofs.bytes.Front.{past8}
 use Rattle.wire.proofs.bytes.same_front.Given as goal
 
 abbrev pub invariant-loop-i : goal.invariant-loop-i

@@ -1,5 +1,5 @@
 use borrow.Author.Tests.{eq-eqb}
-use mathlib.Core.Path.{◌≡◌, sym, ap, ap₂}
+use mathlib.Core.Path.{sym, ap, ap₂}
 use lib.Dec.{eqb}
 use Rattle.wire.specs.case_folding.Fold.{lower}
 use Rattle.wire.proofs.case_folding.same_letter.Goals as goal

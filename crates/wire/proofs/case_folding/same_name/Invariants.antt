@@ -1,11 +1,7 @@
-use borrow.Author.Tests.{not-true, not-false}
-use native.Mathlib.Omega.{arith}
-use mathlib.Core.Path.{◌≡◌, refl, sym, ap, ◌∙◌}
-use Prim.Native.Nat.{ℕ, ◌≤◌, ◌-◌}
+use mathlib.Core.Path.{◌≡◌}
+use Prim.Native.Nat.{◌≤◌, ◌-◌}
 use lib.ListN.{length, drop}
 use Rattle.wire.specs.case_folding.Fold.{same_name}
-use Rattle.wire.proofs.case_folding.Same.{same_front, turn_differ, turn_agree, same_end}
-use Rattle.wire.proofs.case_folding.Equal.{same_lengths}
 use Rattle.wire.proofs.case_folding.same_name.Given as goal
 
 abbrev pub invariant-loop-i : goal.invariant-loop-i

@@ -1,5 +1,4 @@
 use mathlib.Core.Path.{sym, ◌∙◌}
-use borrow.Author.Tests.{not-true, not-false}
 use Rattle.wire.proofs.expansion.Views.{open_unfit, name-room, open_named, open_other}
 use Rattle.wire.proofs.expansion.open.Goals as goal
 

@@ -1,5 +1,4 @@
-use mathlib.Core.Path.{sym, ◌∙◌}
-use borrow.Author.Tests.{not-true, not-false}
+use borrow.Author.Tests.{not-true}
 use Rattle.wire.proofs.expansion.Views.{is-nothing, is-lying, is-viewed}
 use Rattle.wire.proofs.expansion.rdata_is.Goals as goal
 

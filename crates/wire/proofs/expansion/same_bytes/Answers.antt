@@ -1,8 +1,5 @@
-use mathlib.Core.Path.{◌≡◌, refl, sym}
+use mathlib.Core.Path.{sym}
 use native.Mathlib.Omega.{arith}
-use Prim.Native.Nat.{◌≤◌, ◌-◌}
-use lib.ListN.{length, drop}
-use Rattle.wire.specs.expansion.Equal.{same_bytes}
 use Rattle.wire.proofs.expansion.Bytes.{not_equal, same_lengths, same_front, turn_differ, turn_agree, same_end}
 use Rattle.wire.proofs.expansion.same_bytes.Goals as goal
 

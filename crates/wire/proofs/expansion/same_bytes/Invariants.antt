@@ -1,9 +1,7 @@
-use mathlib.Core.Path.{◌≡◌, refl, sym}
-use native.Mathlib.Omega.{arith}
+use mathlib.Core.Path.{◌≡◌}
 use Prim.Native.Nat.{◌≤◌, ◌-◌}
 use lib.ListN.{length, drop}
 use Rattle.wire.specs.expansion.Equal.{same_bytes}
-use Rattle.wire.proofs.expansion.Bytes.{not_equal, same_lengths, same_front, turn_differ, turn_agree, same_end}
 use Rattle.wire.proofs.expansion.same_bytes.Given as goal
 
 abbrev pub invariant-loop-i : goal.invariant-loop-i

@@ -1,10 +1,4 @@
-use Prim.Native.Nat.{◌≤◌, ◌+◌, ◌-◌}
-use mathlib.Core.Path.{◌≡◌, refl}
-use native.Mathlib.Nat.{zero-add}
-use mathlib.Core.Path.{sym}
-use lib.ListN.{length, drop}
 use native.Mathlib.Omega.{arith}
-use Rattle.wire.specs.labels.Counted.{starts, labels_in}
 use Rattle.wire.proofs.labels.Counted.{count_end, count_root, count_on}
 use Rattle.wire.proofs.labels.labels_in.Goals as goal
 

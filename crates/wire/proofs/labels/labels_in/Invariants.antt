@@ -1,11 +1,7 @@
 use Prim.Native.Nat.{◌≤◌, ◌+◌, ◌-◌}
-use mathlib.Core.Path.{◌≡◌, refl}
-use native.Mathlib.Nat.{zero-add}
-use mathlib.Core.Path.{sym}
+use mathlib.Core.Path.{◌≡◌}
 use lib.ListN.{length, drop}
-use native.Mathlib.Omega.{arith}
 use Rattle.wire.specs.labels.Counted.{starts, labels_in}
-use Rattle.wire.proofs.labels.Counted.{count_end, count_root, count_on}
 use Rattle.wire.proofs.labels.labels_in.Given as goal
 
 abbrev pub invariant-loop-i : goal.invariant-loop-i

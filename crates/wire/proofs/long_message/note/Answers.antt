@@ -1,9 +1,7 @@
-use mathlib.Core.Path.{◌≡◌, sym, ◌∙◌}
-use Prim.Native.Nat.{◌<◌, ◌≤◌, ◌+◌, ◌-◌}
+use mathlib.Core.Path.{sym, ◌∙◌}
 use native.Mathlib.Omega.{arith}
-use Rattle.wire.specs.long_message.Noted.{Noted}
-use Rattle.wire.proofs.name_pieces.Pieces.{is-root, label-in, label-room, pointer_in, pointer_back}
-use Rattle.wire.proofs.long_message.Notes.{Rest, rest_start, rest_label, rest_pointer, rest_fits, rest_is, noted_more}
+use Rattle.wire.proofs.name_pieces.Pieces.{label-in, label-room, pointer_in, pointer_back}
+use Rattle.wire.proofs.long_message.Notes.{rest_start, rest_label, rest_pointer, rest_fits, rest_is, noted_more}
 use Rattle.wire.proofs.long_message.note.Goals as goal
 
 pub loop-n-init : goal.loop-n-init

@@ -1,11 +1,7 @@
-use mathlib.Core.Path.{◌≡◌, sym, ◌∙◌}
-use Prim.Native.Nat.{◌<◌, ◌≤◌, ◌+◌, ◌-◌}
+use mathlib.Core.Path.{sym, ◌∙◌}
 use native.Mathlib.Omega.{arith}
-use Rattle.wire.specs.names.Names.{name_at, from_run}
-use Rattle.wire.specs.long_message.Noted.{Noted}
 use Rattle.wire.proofs.name_pieces.Pieces.{is-root, label-in, label-room, pointer_in, pointer_back}
-use Rattle.wire.proofs.long_message.Notes.{noted_small}
-use Rattle.wire.proofs.long_message.Reached.{reached, reached_start, reached_root, reached_root_after, reached_label, reached_first, reached_later, reached_bad}
+use Rattle.wire.proofs.long_message.Reached.{reached_start, reached_root, reached_root_after, reached_label, reached_first, reached_later, reached_bad}
 use Rattle.wire.proofs.long_message.Reached.{known-first, known-later, known_over, past_found, past_malformed, long_found}
 use Rattle.wire.proofs.long_message.past_name.Goals as goal
 

@@ -1,8 +1,7 @@
-use mathlib.Core.Path.{◌≡◌, refl, sym, ap, ◌∙◌}
+use mathlib.Core.Path.{refl, sym, ap, ◌∙◌}
 use native.Mathlib.Omega.{arith}
-use Rattle.wire.specs.message.Layout.{list_from, question_at}
+use Rattle.wire.specs.message.Layout.{question_at}
 use Rattle.wire.specs.message.Places.{past_list}
-use Rattle.wire.specs.long_message.Noted.{Noted}
 use Rattle.wire.proofs.message.Ends.{list_none, ends_next, ends_bad}
 use Rattle.wire.proofs.long_message.questions_end.Goals as goal
 

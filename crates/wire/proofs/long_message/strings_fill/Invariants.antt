@@ -1,10 +1,7 @@
-use native.Mathlib.Omega.{arith}
-use mathlib.Core.Path.{◌≡◌, refl, sym, ap, ◌∙◌}
-use Prim.Native.Nat.{ℕ, ◌≤◌, ◌-◌}
+use mathlib.Core.Path.{◌≡◌}
+use Prim.Native.Nat.{◌≤◌, ◌-◌}
 use lib.ListN.{length, drop}
 use Rattle.wire.specs.rdata.Rdata.{strings_fill}
-use Rattle.wire.proofs.rdata.Strings.{string_fits, string_over, strings-end}
-use Rattle.wire.proofs.rdata.Parts.{found_there, ends_there, cut-there}
 use Rattle.wire.proofs.long_message.strings_fill.Given as goal
 
 abbrev pub invariant-loop-s : goal.invariant-loop-s

@@ -1,4 +1,3 @@
-use borrow.Author.Tests.{not-true, not-false}
 use Rattle.wire.proofs.message.Sections.{message_short, message_header, message_sections}
 use Rattle.wire.proofs.message.Refused.{number_is}
 use native.Mathlib.Omega.{arith}

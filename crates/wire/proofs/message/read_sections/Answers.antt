@@ -1,6 +1,4 @@
-use Prim.Native.Nat.{◌-◌}
-use native.Mathlib.Omega.{arith}
-use Rattle.wire.proofs.message.Sections.{questions-cut, Through, through_none, through_next, through_cut, through_all}
+use Rattle.wire.proofs.message.Sections.{questions-cut, through_none, through_next, through_cut, through_all}
 use Rattle.wire.proofs.message.read_sections.Goals as goal
 
 pub returns-in_default : goal.returns-in_default

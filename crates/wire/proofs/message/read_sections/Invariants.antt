@@ -1,6 +1,5 @@
 use Prim.Native.Nat.{◌-◌}
-use native.Mathlib.Omega.{arith}
-use Rattle.wire.proofs.message.Sections.{questions-cut, Through, through_none, through_next, through_cut, through_all}
+use Rattle.wire.proofs.message.Sections.{Through}
 use Rattle.wire.proofs.message.read_sections.Given as goal
 
 abbrev pub invariant-loop-k : goal.invariant-loop-k

@@ -1,8 +1,6 @@
-use mathlib.Core.Path.{◌≡◌, refl, sym, ap, ◌∙◌}
-use native.Mathlib.Omega.{arith}
+use mathlib.Core.Path.{◌≡◌}
 use Rattle.wire.specs.message.Layout.{list_from, record_at}
 use Rattle.wire.specs.message.Places.{past_list}
-use Rattle.wire.proofs.message.Ends.{list_none, ends_next, ends_bad}
 use Rattle.wire.proofs.message.records_end.Given as goal
 
 abbrev pub invariant-loop-left : goal.invariant-loop-left

@@ -1,8 +1,7 @@
-use mathlib.Core.Path.{◌≡◌, sym, ◌∙◌}
+use mathlib.Core.Path.{sym, ◌∙◌}
 use native.Mathlib.Omega.{arith}
 use Rattle.wire.proofs.name_pieces.Pieces.{is-root, label-in, label-room, pointer_in, pointer_back}
 use Rattle.wire.proofs.names.Walked.{wrote_bad, wrote_root, wrote_label, wrote_pointer, followed, followed_bad}
-use Prim.Native.Nat.{ℕ, ◌+◌, ◌*◌, ◌-◌, ◌<◌}
 use Rattle.wire.proofs.names.+follow_walk.Goals as goal
 
 pub follow-walk-requires : goal.follow-walk-requires

@@ -1,8 +1,7 @@
-use mathlib.Core.Path.{◌≡◌, sym, ◌∙◌}
+use mathlib.Core.Path.{sym, ◌∙◌}
 use native.Mathlib.Omega.{arith}
 use Rattle.wire.proofs.name_pieces.Pieces.{is-root, label-in, label-room, pointer_in, pointer_back}
 use Rattle.wire.proofs.names.Walked.{seen_root, seen_root_after, seen_label, seen_pointer, seen_bad, passed_first, passed_later, passed_chain}
-use Prim.Native.Nat.{ℕ, ◌+◌, ◌*◌, ◌-◌, ◌<◌}
 use Rattle.wire.proofs.names.+jump_pass.Goals as goal
 
 pub jump-returns-then-end-eq0 : goal.jump-returns-then-end-eq0

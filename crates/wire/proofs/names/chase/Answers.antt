@@ -1,7 +1,4 @@
-use mathlib.Core.Path.{◌≡◌, refl, sym, ◌∙◌}
-use Prim.Native.Nat.{◌<◌}
-use native.Mathlib.Omega.{arith}
-use Rattle.wire.specs.names.Answers.{Chased}
+use mathlib.Core.Path.{refl, sym, ◌∙◌}
 use Rattle.wire.proofs.name_pieces.Pieces.{pointer_back}
 use Rattle.wire.proofs.names.Walked.{chased_on, chased_none, not-pointer}
 use Rattle.wire.proofs.names.chase.Goals as goal

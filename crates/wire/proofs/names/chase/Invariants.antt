@@ -1,9 +1,4 @@
-use mathlib.Core.Path.{◌≡◌, refl, sym, ◌∙◌}
-use Prim.Native.Nat.{◌<◌}
-use native.Mathlib.Omega.{arith}
 use Rattle.wire.specs.names.Answers.{Chased}
-use Rattle.wire.proofs.name_pieces.Pieces.{pointer_back}
-use Rattle.wire.proofs.names.Walked.{chased_on, chased_none, not-pointer}
 use Rattle.wire.proofs.names.chase.Given as goal
 
 abbrev pub invariant-loop-t : goal.invariant-loop-t

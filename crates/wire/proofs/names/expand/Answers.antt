@@ -1,5 +1,3 @@
-use mathlib.Core.Path.{sym}
-use native.Mathlib.Omega.{arith}
 use Rattle.wire.proofs.names.Whole.{copied_fits, copied_long, whole-found, whole-bad}
 use Rattle.wire.proofs.names.expand.Goals as goal
 

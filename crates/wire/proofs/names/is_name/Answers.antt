@@ -1,8 +1,5 @@
-use mathlib.Core.Path.{◌≡◌, refl, sym, ◌∙◌}
-use Prim.Native.Nat.{◌≤◌, ◌-◌}
+use mathlib.Core.Path.{refl}
 use native.Mathlib.Omega.{arith}
-use lib.ListN.{length, drop}
-use Rattle.wire.specs.names.Names.{labels_fill}
 use Rattle.wire.proofs.names.Plain.{labels-root, labels-reserved, labels_next, labels-end, name-long, name-short}
 use Rattle.wire.proofs.names.is_name.Goals as goal
 

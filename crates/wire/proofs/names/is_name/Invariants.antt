@@ -1,9 +1,7 @@
-use mathlib.Core.Path.{◌≡◌, refl, sym, ◌∙◌}
+use mathlib.Core.Path.{◌≡◌}
 use Prim.Native.Nat.{◌≤◌, ◌-◌}
-use native.Mathlib.Omega.{arith}
 use lib.ListN.{length, drop}
 use Rattle.wire.specs.names.Names.{labels_fill}
-use Rattle.wire.proofs.names.Plain.{labels-root, labels-reserved, labels_next, labels-end, name-long, name-short}
 use Rattle.wire.proofs.names.is_name.Given as goal
 
 abbrev pub invariant-loop-at : goal.invariant-loop-at

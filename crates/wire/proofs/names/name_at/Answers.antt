@@ -1,9 +1,5 @@
-use mathlib.Core.Path.{◌≡◌, sym, ◌∙◌}
-use mathlib.Core.Logic.{⊎_elim}
-use Prim.Native.Nat.{◌<◌, ◌≤◌, ◌+◌, ◌-◌}
+use mathlib.Core.Path.{sym, ◌∙◌}
 use native.Mathlib.Omega.{arith}
-use Rattle.wire.specs.names.Names.{name_at, from_run}
-use Rattle.wire.specs.names.Answers.{found_of, seen_of}
 use Rattle.wire.proofs.name_pieces.Pieces.{is-root, label-in, label-room, pointer_in, pointer_back}
 use Rattle.wire.proofs.names.Walked.{seen_start, seen_root, seen_root_after, seen_label, seen_pointer, seen_bad, passed_first, passed_later}
 use Rattle.wire.proofs.names.name_at.Goals as goal

@@ -1,11 +1,6 @@
-use borrow.Author.Tests.{not-true, not-false}
-use mathlib.Core.Path.{◌≡◌, refl, sym, ◌∙◌}
-use Prim.Native.Nat.{◌≤◌, ◌<◌, ◌+◌, ◌-◌}
+use mathlib.Core.Path.{sym, ◌∙◌}
 use native.Mathlib.Omega.{arith}
-use lib.ListN.{length, drop, length-take, length-drop}
-use Rattle.wire.specs.names.Names.{from_run}
-use Rattle.wire.specs.names.Answers.{same_as, name_is}
-use Rattle.wire.proofs.name_pieces.Pieces.{is-root, label-in, label-room, pointer_in, pointer_back}
+use Rattle.wire.proofs.name_pieces.Pieces.{is-root, label-in, label-room, pointer_back}
 use Rattle.wire.proofs.names.Compare.{is-start, is-root_then, is-label_over, is-label_differs, is-label_on, is-pointer_on, is-bad}
 use Rattle.wire.proofs.names.name_is.Goals as goal
 

@@ -2,7 +2,6 @@ use native.Mathlib.Omega.{arith}
 use mathlib.Core.Path.{sym}
 use lib.ListN.{length}
 use lib.Seq.{length-take-le}
-use borrow.Author.Tests.{not-true, not-false}
 use Rattle.wire.proofs.names.Compare.{to_end}
 use Rattle.wire.proofs.nsec.Blocks.{nsec_short, nsec_other, nsec_by_block}
 use Rattle.wire.proofs.nsec.is_nsec.Goals as goal

@@ -1,4 +1,3 @@
-use native.Mathlib.Omega.{arith}
 use mathlib.Core.Path.{refl}
 use Rattle.wire.proofs.nsec.Blocks.{bit_in, last_bit}
 use Rattle.wire.proofs.nsec.names_type.Goals as goal

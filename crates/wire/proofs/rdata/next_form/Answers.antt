@@ -1,4 +1,3 @@
-use borrow.Author.Tests.{not-true, not-false}
 use Rattle.wire.proofs.rdata.Forms.{next_bad, next_long, next_fits, next_ends, next_other, next_cut, next_none, next_there}
 use Rattle.wire.proofs.rdata.next_form.Goals as goal
 

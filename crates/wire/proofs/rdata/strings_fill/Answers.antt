@@ -1,8 +1,8 @@
 use Rattle.std.proofs.Common.{rules}
 use native.Mathlib.Omega.{arith}
-use mathlib.Core.Path.{◌≡◌, refl, sym, ap, ◌∙◌}
-use Prim.Native.Nat.{ℕ, ◌≤◌, ◌-◌}
-use lib.ListN.{length, drop}
+use mathlib.Core.Path.{refl, sym, ap, ◌∙◌}
+use Prim.Native.Nat.{ℕ}
+use lib.ListN.{drop}
 use Rattle.wire.specs.rdata.Rdata.{strings_fill}
 use Rattle.wire.proofs.rdata.Strings.{string_fits, string_over, strings-end}
 use Rattle.wire.proofs.rdata.Parts.{found_there, ends_there, cut-there}

@@ -19,17 +19,23 @@ returns-then-runs c = let a = c.args in
     let g = c.runs_at.ensures in
     let k = c.in-Found.is in
     let x = name_at a.p.now a.at in
-    let fits : c.in-Found.runs.span.len ≤ length a.out.now = omega arith in record { answer = into_span a.p.now x a.out.now _ g.span g.bytes _ k; bytes = into_runs a.p.now x a.out.now _ g.span g.bytes _ k fits c.if-runs.true _ _
+    let fits : c.in-Found.runs.span.len ≤ length a.out.now = omega arith in record {
+      answer = into_span a.p.now x a.out.now _ g.span g.bytes _ k;
+      bytes = into_runs a.p.now x a.out.now _ g.span g.bytes _ k fits c.if-runs.true _ _
           (c.put.ensures ∙ ap (sets a.out.now 0) c.part.ensures.bytes)
-          (c.put-then-runs.ensures ∙ ap (sets c.put.new.out _) c.part-rest.ensures.bytes) }
+          (c.put-then-runs.ensures ∙ ap (sets c.put.new.out _) c.part-rest.ensures.bytes);
+    }
 
 pub returns-else-runs : goal.returns-else-runs
 returns-else-runs c = let a = c.args in
     let g = c.runs_at.ensures in
     let k = c.in-Found.is in
     let x = name_at a.p.now a.at in
-    let fits : c.in-Found.runs.span.len ≤ length a.out.now = omega arith in record { answer = into_span a.p.now x a.out.now _ g.span g.bytes _ k; bytes = into_expanded a.p.now x a.out.now _ g.span g.bytes _ k fits c.expand-expanded.result c.expand-expanded.ensures _
-          (c.put-else-runs.ensures ∙ ap (sets a.out.now 0) c.part-else-runs.ensures.bytes) }
+    let fits : c.in-Found.runs.span.len ≤ length a.out.now = omega arith in record {
+      answer = into_span a.p.now x a.out.now _ g.span g.bytes _ k;
+      bytes = into_expanded a.p.now x a.out.now _ g.span g.bytes _ k fits c.expand-expanded.result c.expand-expanded.ensures _
+          (c.put-else-runs.ensures ∙ ap (sets a.out.now 0) c.part-else-runs.ensures.bytes);
+    }
 
 pub returns-in-Malformed : goal.returns-in-Malformed
 returns-in-Malformed c = let a = c.args in

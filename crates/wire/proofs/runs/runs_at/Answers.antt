@@ -1,11 +1,10 @@
-use mathlib.Core.Path.{◌≡◌, sym, ◌∙◌}
-use Prim.Native.Nat.{◌<◌, ◌≤◌, ◌+◌, ◌-◌}
+use mathlib.Core.Path.{sym, ◌∙◌}
+use Prim.Native.Nat.{◌≤◌}
 use native.Mathlib.Omega.{arith}
-use Rattle.wire.specs.names.Names.{name_at, from_run}
-use Rattle.wire.specs.names.Answers.{found_of, seen_of}
+use Rattle.wire.specs.names.Names.{name_at}
 use Rattle.wire.proofs.name_pieces.Pieces.{is-root, label-in, label-room, pointer_in, pointer_back}
 use Rattle.wire.proofs.names.Walked.{seen_start, seen_label, seen_bad}
-use Rattle.wire.proofs.runs.InRuns.{later-most, later-zero, root_span, pointer_span, Kept, kept-start, kept_label, kept-pointer, kept-root}
+use Rattle.wire.proofs.runs.InRuns.{later-most, later-zero, root_span, pointer_span, kept-start, kept_label, kept-pointer, kept-root}
 use Rattle.wire.proofs.runs.runs_at.Goals as goal
 
 pub loop-past-init : goal.loop-past-init

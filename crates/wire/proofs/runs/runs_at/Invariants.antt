@@ -1,17 +1,14 @@
-use mathlib.Core.Path.{◌≡◌, sym, ◌∙◌}
+use mathlib.Core.Path.{◌≡◌}
 use Prim.Native.Nat.{◌<◌, ◌≤◌, ◌+◌, ◌-◌}
-use native.Mathlib.Omega.{arith}
 use Rattle.wire.specs.names.Names.{name_at, from_run}
 use Rattle.wire.specs.names.Answers.{found_of, seen_of}
-use Rattle.wire.proofs.name_pieces.Pieces.{is-root, label-in, label-room, pointer_in, pointer_back}
-use Rattle.wire.proofs.names.Walked.{seen_start, seen_label, seen_bad}
-use Rattle.wire.proofs.runs.InRuns.{later-most, later-zero, root_span, pointer_span, Kept, kept-start, kept_label, kept-pointer, kept-root}
+use Rattle.wire.proofs.runs.InRuns.{Kept}
 use Rattle.wire.proofs.runs.runs_at.Given as goal
 
 abbrev pub invariant-loop-past : goal.invariant-loop-past
-invariant-loop-past l =     (l.used < 255) × (l.labels ≤ l.used) × (l.front ≤ l.last) × (l.last ≤ l.used) × (l.here ≡ l.start + (l.used - l.last)) × (l.front ≡ 0 → l.last ≡ 0)
+invariant-loop-past l = (l.used < 255) × (l.labels ≤ l.used) × (l.front ≤ l.last) × (l.last ≤ l.used) × (l.here ≡ l.start + (l.used - l.last)) × (l.front ≡ 0 → l.last ≡ 0)
     × (found_of (name_at l.p l.at) ≡ seen_of l.used l.end l.labels l.first (from_run l.p l.start l.here l.used))
     × Kept l.p (name_at l.p l.at) l.from l.front l.start l.last l.used (from_run l.p l.start l.here l.used)
 
 abbrev pub decreases-loop-past : goal.decreases-loop-past
-decreases-loop-past l =     l.start + (255 - l.used)
+decreases-loop-past l = l.start + (255 - l.used)

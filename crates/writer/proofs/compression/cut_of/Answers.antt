@@ -1,9 +1,5 @@
-use Prim.Native.Nat.{◌≤◌, ◌-◌}
-use mathlib.Core.Path.{◌≡◌, refl}
-use lib.ListN.{length, drop}
 use native.Mathlib.Omega.{arith}
-use Rattle.writer.specs.compression.Compression.{cut_of}
-use Rattle.writer.proofs.compression.Search.{further, further_zero, cut-end, cut-root, cut-found, cut-long, cut_on}
+use Rattle.writer.proofs.compression.Search.{further_zero, cut-end, cut-root, cut-found, cut-long, cut_on}
 use Rattle.writer.proofs.compression.cut_of.Goals as goal
 
 pub loop-i-init : goal.loop-i-init

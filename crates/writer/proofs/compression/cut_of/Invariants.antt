@@ -1,9 +1,8 @@
 use Prim.Native.Nat.{◌≤◌, ◌-◌}
-use mathlib.Core.Path.{◌≡◌, refl}
+use mathlib.Core.Path.{◌≡◌}
 use lib.ListN.{length, drop}
-use native.Mathlib.Omega.{arith}
 use Rattle.writer.specs.compression.Compression.{cut_of}
-use Rattle.writer.proofs.compression.Search.{further, further_zero, cut-end, cut-root, cut-found, cut-long, cut_on}
+use Rattle.writer.proofs.compression.Search.{further}
 use Rattle.writer.proofs.compression.cut_of.Given as goal
 
 abbrev pub invariant-loop-i : goal.invariant-loop-i

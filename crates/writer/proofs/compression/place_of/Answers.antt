@@ -1,8 +1,5 @@
-use Prim.Native.Nat.{◌≤◌, ◌-◌}
-use mathlib.Core.Path.{◌≡◌, refl}
-use lib.ListN.{length, drop}
+use mathlib.Core.Path.{refl}
 use native.Mathlib.Omega.{arith}
-use Rattle.writer.specs.compression.Compression.{place_of}
 use Rattle.writer.proofs.compression.Search.{place_end, place_here, place-on}
 use Rattle.writer.proofs.compression.place_of.Goals as goal
 

@@ -1,9 +1,7 @@
 use Prim.Native.Nat.{◌≤◌, ◌-◌}
-use mathlib.Core.Path.{◌≡◌, refl}
+use mathlib.Core.Path.{◌≡◌}
 use lib.ListN.{length, drop}
-use native.Mathlib.Omega.{arith}
 use Rattle.writer.specs.compression.Compression.{place_of}
-use Rattle.writer.proofs.compression.Search.{place_end, place_here, place-on}
 use Rattle.writer.proofs.compression.place_of.Given as goal
 
 abbrev pub invariant-loop-i : goal.invariant-loop-i

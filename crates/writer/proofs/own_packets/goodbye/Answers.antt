@@ -1,6 +1,5 @@
 use mathlib.Core.Path.{refl}
 use native.Mathlib.Omega.{arith}
-use borrow.Author.Tests.{not-true, not-false}
 use Rattle.writer.specs.own_packets.Goodbye.{goodbye_style, goodbye_packet}
 use Rattle.writer.specs.own_packets.Ready.{fixed}
 use Rattle.writer.proofs.own_packets.Answering.{refuse_3, refuse_7, empty-nothing, response_ready, response_sent}
@@ -21,9 +20,12 @@ returns-then-parting-eq0 c = let a = c.args in
 
 pub write_packet-requires : goal.write_packet-requires
 write_packet-requires c = let a = c.args in
-    let p = c.pick-parting.ensures in record { packet_ready = response_ready a.s a.out.now c.if-out-lt-LEAST_OUT.false _
+    let p = c.pick-parting.ensures in record {
+      packet_ready = response_ready a.s a.out.now c.if-out-lt-LEAST_OUT.false _
           c.check_setup.ensures
-          (c.if-not-check_setup.false) goodbye_style refl (fixed {ttl = 0} (omega arith)) _ _ p _ c.goodbye_style.ensures; n_le_records = (p.few, p.sized) }
+          (c.if-not-check_setup.false) goodbye_style refl (fixed {ttl = 0} (omega arith)) _ _ p _ c.goodbye_style.ensures;
+      n_le_records = (p.few, p.sized);
+    }
 
 pub returns : goal.returns
 unfolding goodbye_packet

@@ -1,8 +1,5 @@
-use borrow.Author.Tests.{not-true, not-false}
-use Prim.Native.Nat.{◌-◌}
 use native.Mathlib.Omega.{arith}
-use Rattle.claims.specs.records.Own.{records}
-use Rattle.writer.proofs.own_packets.Picking.{Picking, picking, picked_all, not_chosen, not_there, taken}
+use Rattle.writer.proofs.own_packets.Picking.{picking, picked_all, not_chosen, not_there, taken}
 use Rattle.writer.proofs.own_packets.pick.Goals as goal
 
 pub loop-i-init : goal.loop-i-init

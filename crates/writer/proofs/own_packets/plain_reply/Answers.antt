@@ -1,4 +1,3 @@
-use borrow.Author.Tests.{not-true, not-false}
 use Rattle.writer.specs.Writer.{question_of}
 use Rattle.writer.proofs.own_packets.Answering.{refuse_3, refuse_7}
 use Rattle.writer.proofs.own_packets.Plain.{unnamed, empty, plain_ready, plain-sent}
@@ -24,9 +23,12 @@ returns-then-records-eq0 c = let a = c.args in
 
 pub write_packet-requires : goal.write_packet-requires
 write_packet-requires c = let a = c.args in
-    let p = c.pick-records.ensures in record { packet_ready = plain_ready a.s a.out.now c.if-out-lt-LEAST_OUT.false _ c.check_setup.ensures (c.if-not-check_setup.false) a.chosen a.id
+    let p = c.pick-records.ensures in record {
+      packet_ready = plain_ready a.s a.out.now c.if-out-lt-LEAST_OUT.false _ c.check_setup.ensures (c.if-not-check_setup.false) a.chosen a.id
           (question_of a.name.now a.qtype a.qclass) _ c.is_name.ensures (c.if-not-is_name.false) _ c.with_data.ensures _
-          p _ c.plain_style-style.ensures; n_le_records = (p.few, p.sized) }
+          p _ c.plain_style-style.ensures;
+      n_le_records = (p.few, p.sized);
+    }
 
 pub returns : goal.returns
 returns c = let a = c.args in

@@ -1,4 +1,3 @@
-use borrow.Author.Tests.{not-true, not-false}
 use Rattle.own.specs.records.Records.{own_name}
 use Rattle.writer.proofs.own_packets.Owned.{own_fits, own_long}
 use Rattle.writer.proofs.own_packets.Answering.{refuse_3, refuse_7, probe-ready, probe-sent}
@@ -20,11 +19,14 @@ slice_bounds-write_packet-end c = own_long (own_name c.args.s c.first_of.result)
 
 pub write_packet-requires : goal.write_packet-requires
 write_packet-requires c = let a = c.args in
-    let p = c.pick_claim-list.ensures in record { packet_ready = probe-ready a.s a.out.now c.if-out-lt-LEAST_OUT.false _
+    let p = c.pick_claim-list.ensures in record {
+      packet_ready = probe-ready a.s a.out.now c.if-out-lt-LEAST_OUT.false _
           c.check_setup.ensures
           (c.if-not-check_setup.false) a.claim _ p _
           c.first_of.ensures _
-          c.own_name-owner.ensures _ c.probe_style.ensures; n_le_records = (p.few, p.sized) }
+          c.own_name-owner.ensures _ c.probe_style.ensures;
+      n_le_records = (p.few, p.sized);
+    }
 
 pub returns : goal.returns
 returns c = let a = c.args in

@@ -1,5 +1,4 @@
 use mathlib.Core.Path.{refl}
-use borrow.Author.Tests.{not-true, not-false}
 use Rattle.writer.specs.own_packets.Styles.{response_style}
 use Rattle.writer.specs.own_packets.Own.{response_packet}
 use Rattle.writer.specs.own_packets.Ready.{each}
@@ -21,9 +20,12 @@ returns-then-list-eq0 c = let a = c.args in
 
 pub write_packet-requires : goal.write_packet-requires
 write_packet-requires c = let a = c.args in
-    let p = c.pick-list.ensures in record { packet_ready = response_ready a.s a.out.now c.if-out-lt-LEAST_OUT.false _
+    let p = c.pick-list.ensures in record {
+      packet_ready = response_ready a.s a.out.now c.if-out-lt-LEAST_OUT.false _
           c.check_setup.ensures
-          (c.if-not-check_setup.false) (response_style a.id) refl each _ _ p _ c.response_style.ensures; n_le_records = (p.few, p.sized) }
+          (c.if-not-check_setup.false) (response_style a.id) refl each _ _ p _ c.response_style.ensures;
+      n_le_records = (p.few, p.sized);
+    }
 
 pub returns : goal.returns
 unfolding response_packet

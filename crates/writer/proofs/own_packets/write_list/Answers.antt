@@ -1,13 +1,5 @@
-use Prim.Native.Nat.{◌≤◌, ◌-◌}
-use lib.ListN.{take}
-use mathlib.Core.List.{map}
 use native.Mathlib.Omega.{arith}
-use Rattle.claims.specs.records.Own.{record_at}
-use Rattle.writer.specs.Items.{put_record}
-use Rattle.writer.specs.own_packets.Packets.{put_all}
-use Rattle.writer.specs.Writer.{held_in}
-use Rattle.writer.specs.own_packets.Styles.{own_record}
-use Rattle.writer.proofs.own_packets.Owned.{Going, going, gone, own_ready, step, listed_at, listed-length}
+use Rattle.writer.proofs.own_packets.Owned.{going, gone, own_ready, step, listed_at, listed-length}
 use Rattle.writer.proofs.own_packets.write_list.Goals as goal
 
 pub loop-j-init : goal.loop-j-init

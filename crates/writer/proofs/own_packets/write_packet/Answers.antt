@@ -22,11 +22,14 @@ put_header-requires c = let a = c.args in
 
 pub write_list-r-requires : goal.write_list-r-requires
 write_list-r-requires c = let a = c.args in
-    let pre = c.requires in record { list_ready = list_ready a.s a.style a.name.now a.list a.out.now pre.packet_ready pre.n_le_records _ _ _
+    let pre = c.requires in record {
+      list_ready = list_ready a.s a.style a.name.now a.list a.out.now pre.packet_ready pre.n_le_records _ _ _
           c.either-questions.ensures c.either-answers.ensures
           c.either-authorities.ensures _ c.put_header.ensures
           (replicate most_places 0) refl _ _ _ c.write_asked-q.ensures
-          c.write_asked-q.auto.out c.write_asked-q.auto.places; n_le_records = pre.n_le_records }
+          c.write_asked-q.auto.out c.write_asked-q.auto.places;
+      n_le_records = pre.n_le_records;
+    }
 
 pub returns : goal.returns
 returns c = let a = c.args in
