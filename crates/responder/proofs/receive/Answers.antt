@@ -22,7 +22,7 @@ pub returns-in-Read : goal.returns-in-Read
 returns-in-Read c = let admitted = is-admitted _ _ _ c.admit.ensures _ c.in-Read.is in
     receives _ _ _ _ _ _ _ _ _ _ _ admitted.0 admitted.2
     (c.facts-facts.ensures ∙ ap (facts_of _) (layout_shows _ _ admitted.1 admitted.2))
-    c.hear-heard.ensures (c.send-sent.ensures.value, c.send-sent.ensures.out_after) c.reply-replied.ensures c.answer_with.ensures
+    c.hear-heard.ensures (c.send-sent.ensures.value, c.send-sent.ensures.out_after) (c.reply-replied.ensures.value, c.reply-replied.ensures.out_after) c.answer_with.ensures
 
 pub returns-in-Refused : goal.returns-in-Refused
 returns-in-Refused c = receive-refused _ _ _ _ _ (is-refused _ _ _ c.admit.ensures _ c.in-Refused.is)

@@ -12,5 +12,5 @@ send-sent-requires c = let a = c.args in
     can_announce a.new a.out.now accepted.buffer accepted.valid
 
 pub returns : goal.returns
-returns c = updates _ _ _ _ _ c.update_refusal-refusal.ensures _ _ _ _ c.if-refusal-ne0.false c.update-updated.ensures c.send-sent.ensures
+returns c = updates _ _ _ _ _ c.update_refusal-refusal.ensures _ _ _ _ c.if-refusal-ne0.false c.update-updated.ensures (c.send-sent.ensures.value, c.send-sent.ensures.out_after)
     c.answer_with.ensures
