@@ -35,13 +35,13 @@ module _ (d : Domains) (owner : List ℕ) (rtype class ttl : ℕ) (rdata : List 
     record_3 k e = e ∙ sym (simp (h0, h1, moved-long (owner_out d rtype owner) m owner_is k))
 
     module _ (k : m.fits ≡ true) (c : Content) (ci : c ≡ content_of d rtype rdata) where
-      pub record_4 : c.ranges ≡ false → r ≡ refused_record 13 → r ≡ record_out d (record_of owner rtype class ttl rdata)
+      pub record_4 : c.fits ≡ false → r ≡ refused_record 13 → r ≡ record_out d (record_of owner rtype class ttl rdata)
       unfolding record_out record_refusal is_too_long
       record_4 l e =
           let short : is_overlong (owner_out d rtype owner) ≡ false = (moved-fits (owner_out d rtype owner) m owner_is k).0 in
           e ∙ sym (simp (h0, h1, short, content_bad d rtype rdata c ci l))
 
-      pub record_5 : c.ranges ≡ true → r ≡ passed_with m rtype class ttl c → r ≡ record_out d (record_of owner rtype class ttl rdata)
+      pub record_5 : c.fits ≡ true → r ≡ passed_with m rtype class ttl c → r ≡ record_out d (record_of owner rtype class ttl rdata)
       unfolding record_out record_refusal is_too_long mapped
       record_5 l e =
           let o = moved-fits (owner_out d rtype owner) m owner_is k in

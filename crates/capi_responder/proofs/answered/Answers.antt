@@ -1,0 +1,5 @@
+
+use Rattle.capi_responder.proofs.answered.Goals as goal
+
+pub returns : goal.returns
+returns c = cc

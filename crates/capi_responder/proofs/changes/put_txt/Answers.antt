@@ -1,0 +1,6 @@
+use Rattle.capi_responder.proofs.Renewing.{txt-bytes}
+use Rattle.capi_responder.proofs.changes.put_txt.Goals as goal
+
+pub returns : goal.returns
+returns c = let a = c.args in
+    txt-bytes a.state.now _ _ _ a.txt.now c.put.ensures c.put-2.ensures c.put-3.ensures c.requires
