@@ -4,13 +4,11 @@ use mathlib.Core.Bool.{Bool, true, false, ◌||◌}
 use mathlib.Core.List.{List, []}
 use Prim.Native.Nat.{ℕ, ◌≤◌, ◌<◌}
 use lib.Dec.{leb}
-use lib.ListN.{length}
 use borrow.Author.Tests.{lt-ltb, le-ltb}
 use Rattle.cache.specs.declared.entries.Slot.{Slot}
 use Rattle.cache.specs.declared.entries.Slot.TheVariants.{Nowhere}
 use Rattle.writer.specs.own_packets.Own.{laid_over}
 use Rattle.browser.specs.declared.Browser.{Browser}
-use Rattle.browser.specs.declared.Ticked.{Ticked}
 use Rattle.browser.specs.declared.Answer.TheVariants.{Quiet, Sent}
 use Rattle.browser.specs.declared.known_answers.Plan.{Plan}
 use Rattle.browser.specs.declared.query.Draft.{Draft}

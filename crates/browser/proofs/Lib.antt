@@ -1,8 +1,4 @@
 -- Laws that belong to no one function: the passes over a table, packets, refusals, and what a tick comes to.
-mod CallsTable
-mod CallsPass
-mod CallsWhole
-mod CallsEnds
 mod Refusing
 mod Testing
 mod Asking

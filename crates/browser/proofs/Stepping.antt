@@ -1,5 +1,5 @@
 -- What a tick makes of a browser: it is refused, sends no query, or sends one. Assumes nothing.
-use mathlib.Core.Path.{◌≡◌, refl, sym, ap, ap₂, ◌∙◌}
+use mathlib.Core.Path.{◌≡◌, refl, ap, ap₂, ◌∙◌}
 use mathlib.Core.Bool.{Bool, true, false, cond, ◌&&◌}
 use mathlib.Core.List.{List, [], ◌∷◌}
 use Prim.Native.Nat.{ℕ, suc, ◌≤◌}
@@ -17,7 +17,7 @@ use Rattle.browser.specs.refresh.Refresh.{query_due}
 use Rattle.browser.specs.series.Spacing.{asks}
 use Rattle.browser.specs.Calls.{Turn, turn_with, turn_of, tick_refusal, tick_of, resumed, asked}
 use Rattle.browser.specs.Runs.{State, tick, after}
-use Rattle.browser.proofs.Refusing.{Passed, tick-number, tick-passed}
+use Rattle.browser.proofs.Refusing.{tick-number, tick-passed}
 
 pub data Step (s : State) (now room : ℕ) (t : Browser) : Type 0 where
   refused : asks s now room ≡ false → t ≡ s.browser → Step s now room t

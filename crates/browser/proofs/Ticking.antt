@@ -2,7 +2,7 @@
 use mathlib.Core.Path.{◌≡◌, refl, sym, ap, subst, ◌∙◌}
 use mathlib.Core.Bool.{Bool, true, false, cond, ◌||◌}
 use mathlib.Core.List.{List, [], ◌∷◌}
-use Prim.Native.Nat.{ℕ, zero, suc, ◌≤◌, ◌<◌}
+use Prim.Native.Nat.{ℕ, ◌≤◌, ◌<◌}
 use native.Mathlib.Omega.{arith}
 use lib.ListN.{length, take, drop, length-append, length-drop, drop_of_length-le}
 use lib.Dec.{ltb, leb, eqb}
@@ -11,18 +11,17 @@ use Rattle.cache.specs.declared.entries.Entry.{Entry}
 use Rattle.cache.specs.declared.entries.Slot.{Slot}
 use Rattle.cache.specs.declared.entries.Slot.TheVariants.{At, Nowhere}
 use Rattle.cache.specs.entries.Cache.{entries_refusal}
-use Rattle.writer.specs.own_packets.Own.{unless_refused, laid_over}
+use Rattle.writer.specs.own_packets.Own.{laid_over}
 use Rattle.browser.specs.declared.Browser.{Browser}
 use Rattle.browser.specs.declared.Ticked.{Ticked}
-use Rattle.browser.specs.declared.Answer.{Answer}
 use Rattle.browser.specs.declared.Answer.TheVariants.{Refused, Quiet, Sent}
 use Rattle.browser.specs.declared.known_answers.Plan.{Plan}
 use Rattle.browser.specs.known_answers.Known.{known_in, known_from, known_owed}
 use Rattle.browser.specs.known_answers.Plans.{empty_plan, plan_from}
 use Rattle.browser.specs.refresh.Refresh.{query_due, next_query}
 use Rattle.browser.specs.query.Query.{asking, packet_for, stop_for}
-use Rattle.browser.specs.query.Drafts.{questions, draft_packet, draft_stop}
-use Rattle.browser.specs.Calls.{answer_with, answer_for, is_owed, is_due, resumed, asked, Turn, turn_with, turn_of, tick_refusal, ticked_packet, tick_of, Ticks}
+use Rattle.browser.specs.query.Drafts.{draft_packet, draft_stop}
+use Rattle.browser.specs.Calls.{answer_with, is_owed, is_due, resumed, asked, Turn, turn_with, turn_of, tick_refusal, ticked_packet, tick_of, Ticks}
 use Rattle.browser.specs.Steps.{tick_refusal_with, no_slot, or_no_slot, refused_tick, sent_tick, owed_start, asked_start, ended_tick, ended_packet}
 use Rattle.browser.proofs.Refusing.{Passed, tick-number, tick-passed}
 use Rattle.browser.proofs.refresh.Due.{due-is, resumed-due, asked-due}

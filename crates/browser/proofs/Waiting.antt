@@ -1,7 +1,7 @@
 -- A tick with nothing due changes only the last time, and the next due time is exact. Assumes nothing.
 use mathlib.Core.Path.{◌≡◌, refl, sym, ap, ap₂, subst, ◌∙◌}
 use mathlib.Core.Bool.{Bool, true, false, cond, ◌||◌}
-use mathlib.Core.List.{List, [], ◌∷◌}
+use mathlib.Core.List.{List, []}
 use Prim.Native.Nat.{ℕ, ◌≤◌, ◌<◌}
 use native.Mathlib.Omega.{arith}
 use lib.Dec.{eqb}
@@ -11,11 +11,10 @@ use Rattle.cache.specs.declared.entries.Slot.{Slot}
 use Rattle.cache.specs.declared.entries.Slot.TheVariants.{At, Nowhere}
 use Rattle.browser.specs.declared.Browser.{Browser}
 use Rattle.browser.specs.declared.Answer.TheVariants.{Quiet}
-use Rattle.browser.specs.declared.Ticked.{Ticked}
 use Rattle.browser.specs.known_answers.Known.{known_from, known_owed}
 use Rattle.browser.specs.query.Query.{asking, packet_for, stop_for}
 use Rattle.browser.specs.refresh.Refresh.{query_due, next_query}
-use Rattle.browser.specs.Calls.{Turn, turn_with, turn_of, tick_refusal, ticked_packet, tick_of, answer_for, is_owed, is_due, resumed, asked, next_due}
+use Rattle.browser.specs.Calls.{Turn, turn_with, turn_of, ticked_packet, tick_of, answer_for, is_owed, is_due, resumed, asked, next_due}
 use Rattle.browser.specs.Waiting.{IdleTick, Next, NextExact}
 use Rattle.browser.proofs.refresh.Due.{resumed-due}
 use Rattle.browser.proofs.refresh.Next.{query-then, query-by}

@@ -1,6 +1,6 @@
 -- The calls of a browser: a start, a tick on a lent cache, the next due time, and the list: the answer, the state after the call and the packet that it sends.
 -- Assumes nothing: these are definitions.
-use Rattle.std.specs.Prelude.{ℕ, ◌≡◌, Bool, true, false, cond, not, ◌||◌, List, [], ◌∷◌, ltb, leb, eqb, length, replicate}
+use Rattle.std.specs.Prelude.{ℕ, ◌≡◌, Bool, true, false, cond, not, ◌||◌, List, [], ◌∷◌, ltb, eqb, length, replicate}
 use Rattle.wire.specs.refusals.Numbers.{TIME, DRAW, BUFFER, SETUP, TABLE, first_refusal}
 use Rattle.claims.specs.Time.{last_time, last_kept}
 use Rattle.own.specs.declared.records.Service.{Service}

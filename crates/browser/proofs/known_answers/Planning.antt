@@ -5,16 +5,16 @@ use mathlib.Core.List.{List, [], ◌∷◌, ◌++◌, map, append_assoc, append-
 use Prim.Native.Nat.{ℕ, zero, suc, ◌+◌, ◌-◌, ◌/◌, ◌≤◌, ◌<◌}
 use native.Mathlib.Omega.{arith}
 use native.Mathlib.Numerals.{add-one}
-use lib.ListN.{length, get_or, take, drop, set, replicate, length-append, length-take, length-set, length-replicate, drop_of_length-le}
-use lib.Seq.{take_all, take-suc-set, length-take-le, drop-cons, take-append-le}
+use lib.ListN.{length, get_or, take, drop, set, length-append, length-set, drop_of_length-le}
+use lib.Seq.{take_all, take-suc-set, drop-cons, take-append-le}
 use lib.Dec.{ltb, leb, eqb}
-use borrow.Author.Tests.{lt-ltb, le-ltb, ltb-true, ltb-false, leb-true, leb-false, le-leb, eqb-true}
+use borrow.Author.Tests.{ltb-true, ltb-false, leb-true, le-leb, eqb-true}
 use mathlib.Mathlib.Data.Bool.Basic.{and-eq-true-eq-eq-true-and-eq-true as both}
 use Rattle.wire.specs.names.Names.{labels_fill, is_name}
 use Rattle.wire.specs.case_folding.Fold.{lower, same_name}
 use Rattle.wire.proofs.case_folding.Equal.{heads, same_length}
 use Rattle.wire.specs.message.Message.{Record, record_of}
-use Rattle.writer.specs.Fit.{form_for, is_shaped, fit_record}
+use Rattle.writer.specs.Fit.{form_for, is_shaped}
 use Rattle.writer.proofs.Fitting.{fit_of}
 use Rattle.roundtrip.specs.Writable.{Each, none, one, IsRecord}
 use Rattle.cache.specs.declared.entries.Entry.{Entry}
@@ -25,7 +25,7 @@ use Rattle.browser.specs.declared.known_answers.Plan.{Plan}
 use Rattle.browser.specs.service.Service.{service_name}
 use Rattle.browser.specs.list.Listing.{is_shown}
 use Rattle.browser.specs.known_answers.Known.{over_half, is_known, shown_ttl, answer_of, known_in, answers_of}
-use Rattle.browser.specs.known_answers.Plans.{no_answer, empty_plan, known_of, plan_with, plan_from, planned}
+use Rattle.browser.specs.known_answers.Plans.{empty_plan, known_of, plan_with, plan_from}
 use Rattle.browser.specs.query.Drafts.{record_in, slots_of}
 
 -- ---- an owner that equals a name is a name

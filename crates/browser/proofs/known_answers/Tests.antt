@@ -1,6 +1,6 @@
 -- Whether an entry is a known answer, and the TTL that is shown, from what the code has tested. Assumes nothing.
 use mathlib.Core.Path.{◌≡◌, refl, sym, ap, ◌∙◌}
-use mathlib.Core.Bool.{Bool, true, false, cond, ◌&&◌, and-false}
+use mathlib.Core.Bool.{Bool, true, false, ◌&&◌, and-false}
 use mathlib.Core.List.{List}
 use Prim.Native.Nat.{ℕ, ◌+◌, ◌-◌, ◌*◌, ◌/◌, ◌<◌, ◌≤◌}
 use native.Mathlib.Omega.{arith}
@@ -8,13 +8,12 @@ use lib.ListN.{set}
 use lib.Dec.{ltb, leb}
 use borrow.Author.Tests.{lt-ltb, le-ltb, le-leb, lt-leb, leb-true}
 use Rattle.cache.specs.declared.entries.Entry.{Entry}
-use Rattle.cache.specs.entries.Entries.{is_live, is_of, live_of, rdata_held, lesser}
-use Rattle.wire.specs.names.Names.{is_name}
+use Rattle.cache.specs.entries.Entries.{lesser}
 use Rattle.browser.specs.declared.Browser.{Browser}
 use Rattle.browser.specs.declared.known_answers.Plan.{Plan}
 use Rattle.browser.specs.list.Listing.{is_shown}
 use Rattle.browser.specs.known_answers.Known.{is_known, shown_ttl}
-use Rattle.browser.specs.known_answers.Plans.{known_of, plan_with}
+use Rattle.browser.specs.known_answers.Plans.{plan_with}
 
 module _ (now : ℕ) (store : List ℕ) (b : Browser) (i : ℕ) (e : Entry) where
   pub known_dead : e.expiry ≤ now → false ≡ is_known now store b i e

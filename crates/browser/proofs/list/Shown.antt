@@ -1,10 +1,9 @@
 -- Whether an entry is shown, from what the code has tested. Assumes nothing.
-use mathlib.Core.Path.{◌≡◌, refl, sym, ap, ◌∙◌}
-use mathlib.Core.Bool.{Bool, true, false, not, ◌&&◌}
+use mathlib.Core.Path.{◌≡◌, sym, ap, ◌∙◌}
+use mathlib.Core.Bool.{Bool, true, false}
 use mathlib.Core.List.{List}
 use Prim.Native.Nat.{ℕ}
 use lib.ListN.{take, drop}
-use borrow.Author.Tests.{ne_eqb, eq-eqb}
 use Rattle.wire.specs.names.Names.{is_name}
 use Rattle.wire.specs.case_folding.Fold.{same_name}
 use Rattle.cache.specs.declared.entries.Entry.{Entry}

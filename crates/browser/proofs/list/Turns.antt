@@ -12,13 +12,12 @@ use borrow.Author.Tests.{ltb-true, ltb-false, le-ltb}
 use Rattle.wire.specs.names.Names.{is_name}
 use Rattle.wire.specs.case_folding.Fold.{same_name}
 use Rattle.cache.specs.declared.entries.Entry.{Entry}
-use Rattle.cache.specs.declared.entries.Slot.{Slot}
 use Rattle.cache.specs.declared.entries.Slot.TheVariants.{At, Nowhere}
-use Rattle.cache.specs.entries.Entries.{blank, is_live, is_of, live_of, rdata_held}
+use Rattle.cache.specs.entries.Entries.{blank, is_of, live_of, rdata_held}
 use Rattle.cache.specs.laws.Counts.{any_from}
 use Rattle.browser.specs.declared.Browser.{Browser}
 use Rattle.browser.specs.service.Service.{service_name}
-use Rattle.browser.specs.list.Listing.{is_shown, shows_too, is_listed, first_of, listed_from}
+use Rattle.browser.specs.list.Listing.{is_shown, shows_too, is_listed, first_of}
 
 -- one entry more
 any_more : (f : ℕ → Entry → Bool) (k : ℕ) (xs : List Entry) (x : Entry) → any_from f k (xs ++ (x ∷ [])) ≡ (any_from f k xs || f (k + length xs) x)

@@ -1,25 +1,25 @@
 -- The question, the known answers one after the other, and the whole draft laid over a buffer. Assumes nothing.
 use mathlib.Core.Path.{◌≡◌, refl, sym, ap, subst, ◌∙◌}
 use mathlib.Core.List.{List, [], ◌∷◌, ◌++◌, map, append_assoc, append-nil}
-use mathlib.Core.Bool.{Bool, true, false, cond, not, ◌&&◌}
+use mathlib.Core.Bool.{Bool, true, false, cond}
 use Prim.Native.Nat.{ℕ, zero, suc, ◌+◌, ◌-◌, ◌≤◌, ◌<◌}
 use native.Mathlib.Nat.{zero-add, suc-add}
 use native.Mathlib.Omega.{arith}
 use native.Mathlib.Numerals.{add-one}
 use lib.ListN.{length, get_or, take, drop, replicate, length-append, length-take, length-drop, length-replicate, drop_of_length-le}
-use lib.Seq.{take_at, drop_at, take-append-le, length-take-le, take-suc, drop-cons, take_all, sets, sets-eq, length-sets, get_or-take, take-nil}
-use lib.Dec.{ltb, leb}
-use borrow.Author.Tests.{le-leb, lt-leb}
+use lib.Seq.{length-take-le, sets, sets-eq, length-sets, get_or-take, take-nil}
+use lib.Dec.{ltb}
+use borrow.Author.Tests.{le-leb}
 use Rattle.wire.specs.names.Names.{is_name}
 use Rattle.wire.specs.labels.Counted.{labels_in}
-use Rattle.wire.specs.message.Message.{Question, Record}
+use Rattle.wire.specs.message.Message.{Record}
 use Rattle.writer.specs.Items.{Writing, put_question, put_record}
 use Rattle.writer.specs.Writer.{held_in, room_in, spot_of, question_of, name_fits, question_fits, Placing, Grown}
 use Rattle.writer.specs.compression.Sentence.{empty}
 use Rattle.writer.specs.declared.Spot.{Spot}
 use Rattle.writer.specs.declared.Placed.{Placed}
 use Rattle.writer.specs.declared.Placed.TheVariants.{Done, Full, Unfit}
-use Rattle.writer.specs.own_packets.Packets.{put_all, header_bytes}
+use Rattle.writer.specs.own_packets.Packets.{put_all}
 use Rattle.writer.specs.own_packets.Own.{laid_over}
 use Rattle.writer.proofs.Use.{is-done, is-grown, question-size, question-count, held-so}
 use Rattle.roundtrip.proofs.Sound.{question-sound}

@@ -1,30 +1,28 @@
 -- A draft of a plan is the packet of the known answers from a slot on, and stops where it does. Assumes nothing.
-use mathlib.Core.Path.{◌≡◌, refl, sym, ap, ap₂, subst, ◌∙◌}
+use mathlib.Core.Path.{◌≡◌, refl, sym, ap, subst, ◌∙◌}
 use mathlib.Core.List.{List, [], ◌∷◌, ◌++◌, map}
 use mathlib.Core.Bool.{Bool, true, false, cond}
-use Prim.Native.Nat.{ℕ, zero, suc, ◌+◌, ◌*◌, ◌≤◌, ◌<◌}
+use Prim.Native.Nat.{ℕ, zero, suc, ◌≤◌, ◌<◌}
 use native.Mathlib.Omega.{arith}
 use lib.ListN.{length, take, drop, length-take, length-drop, length-append}
 use lib.Seq.{take_all, length-take-le}
 use lib.Dec.{ltb}
 use borrow.Author.Tests.{lt-ltb, ltb-true, ltb-false}
-use Rattle.wire.specs.names.Names.{is_name}
-use Rattle.wire.specs.message.Message.{Question, Record}
+use Rattle.wire.specs.message.Message.{Record}
 use Rattle.writer.specs.Items.{Writing, put_question, put_record}
 use Rattle.writer.specs.Writer.{question_of}
-use Rattle.writer.specs.own_packets.Packets.{put_all, header_bytes, packet_of}
+use Rattle.writer.specs.own_packets.Packets.{put_all, header_bytes}
 use Rattle.writer.proofs.Use.{question-size}
 use Rattle.roundtrip.specs.Writable.{Each, none, one, IsRecord, IsQuestion}
 use Rattle.cache.specs.declared.entries.Entry.{Entry}
-use Rattle.cache.specs.declared.entries.Slot.{Slot}
 use Rattle.browser.specs.declared.Browser.{Browser}
 use Rattle.browser.specs.declared.known_answers.Known.{Known}
 use Rattle.browser.specs.declared.known_answers.Plan.{Plan}
 use Rattle.browser.specs.service.Service.{service_name}
 use Rattle.browser.specs.service.Sound.{Sound}
-use Rattle.browser.specs.known_answers.Known.{known_in, known_from, answers_of}
+use Rattle.browser.specs.known_answers.Known.{known_from, answers_of}
 use Rattle.browser.specs.known_answers.Plans.{empty_plan, plan_from, planned}
-use Rattle.browser.specs.query.Query.{asking, listed, first_slot, packet_with, packet_for, stop_for}
+use Rattle.browser.specs.query.Query.{listed, first_slot, packet_with, packet_for, stop_for}
 use Rattle.browser.specs.query.Drafts.{no_header, questions, opened, fitted, filled, record_in, records_of, slots_of, draft_count, stop_at, draft_stop, head_bytes, draft_packet}
 use Rattle.browser.proofs.service.Names.{service-named}
 use Rattle.browser.proofs.known_answers.Planning.{knowns_in, knowns_slots, knowns_records, knowns_fit, Filled, filled_none, filled-from}

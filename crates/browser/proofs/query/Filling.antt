@@ -1,45 +1,34 @@
 -- A packet is composed in its buffers, a known answer at a time. Assumes nothing.
 use mathlib.Core.Path.{◌≡◌, refl, sym, ap, ap₂, subst, ◌∙◌}
-use mathlib.Core.List.{List, [], ◌∷◌, ◌++◌, map, append_assoc, append-nil}
-use mathlib.Core.Bool.{Bool, true, false, cond, not, ◌&&◌}
-use Prim.Native.Nat.{ℕ, zero, suc, ◌+◌, ◌-◌, ◌≤◌, ◌<◌}
+use mathlib.Core.List.{List, ◌++◌, append_assoc}
+use mathlib.Core.Bool.{Bool, true, false, cond, ◌&&◌}
+use Prim.Native.Nat.{ℕ, ◌+◌, ◌-◌, ◌≤◌, ◌<◌}
 use native.Mathlib.Omega.{arith}
-use native.Mathlib.Numerals.{add-one}
-use lib.ListN.{length, get_or, take, drop, replicate, length-append, length-take, length-drop, drop_of_length-le}
-use lib.Seq.{take_at, take-append-le, length-take-le, take-suc, drop-cons, take_all, sets, sets-eq, drop-drop}
-use lib.Dec.{ltb, leb}
+use lib.ListN.{length, take, drop, length-append, length-drop}
+use lib.Seq.{take_at, length-take-le, take_all}
+use lib.Dec.{leb}
 use borrow.Author.Tests.{le-leb, lt-leb, leb-true}
 use mathlib.Mathlib.Data.Bool.Basic.{and-eq-true-eq-eq-true-and-eq-true as both}
 use Rattle.wire.specs.labels.Counted.{labels_in}
 use Rattle.wire.specs.names.Names.{labels_fill, is_name}
 use Rattle.wire.proofs.labels.Numbers.{at_most-127}
-use Rattle.wire.specs.message.Message.{Question, Record, record_of}
-use Rattle.wire.specs.declared.rdata.Form.{Form}
+use Rattle.wire.specs.message.Message.{Record, record_of}
 use Rattle.wire.specs.rdata.Rdata.{form_of}
-use Rattle.writer.specs.Fit.{form_for, held_name, holds_name, is_shaped, fit_record}
-use Rattle.writer.specs.Items.{Writing, put_name, put_fields, put_question, put_record}
+use Rattle.writer.specs.Fit.{form_for, is_shaped, fit_record}
+use Rattle.writer.specs.Items.{Writing, put_name, put_fields, put_record}
 use Rattle.writer.specs.compression.Compression.{name_places}
-use Rattle.writer.specs.Writer.{held_in, room_in, spot_of, question_of, labels_for, name_fits, question_fits, record_fits, placed_of, bytes_after, places_after, Placing, Grown}
+use Rattle.writer.specs.Writer.{held_in, room_in, spot_of, labels_for, name_fits, record_fits, placed_of, bytes_after, places_after, Placing, Grown}
 use Rattle.writer.specs.compression.Sentence.{Rising, empty, next}
 use Rattle.writer.specs.declared.Spot.{Spot}
 use Rattle.writer.specs.declared.Placed.{Placed}
 use Rattle.writer.specs.declared.Placed.TheVariants.{Done, Full, Unfit}
-use Rattle.writer.specs.own_packets.Packets.{put_all, header_bytes}
-use Rattle.writer.specs.own_packets.Own.{laid_over}
 use Rattle.writer.proofs.Fitting.{fit_parts}
 use Rattle.writer.proofs.Use.{is-done, is-grown, record_size, record_count, held-so}
 use Rattle.roundtrip.proofs.Lists.{record_more}
-use Rattle.roundtrip.proofs.Sound.{record_sound, question-sound}
+use Rattle.roundtrip.proofs.Sound.{record_sound}
 use Rattle.cache.specs.entries.Entries.{slot_of}
-use Rattle.cache.specs.declared.entries.Slot.{Slot}
-use Rattle.cache.specs.declared.entries.Slot.TheVariants.{At, Nowhere}
 use Rattle.browser.specs.declared.known_answers.Known.{Known}
-use Rattle.browser.specs.declared.known_answers.Plan.{Plan}
-use Rattle.browser.specs.declared.query.Draft.{Draft}
-use Rattle.browser.specs.declared.query.Step.{Step}
-use Rattle.browser.specs.known_answers.Plans.{no_answer, planned}
-use Rattle.browser.specs.query.Query.{first_slot}
-use Rattle.browser.specs.query.Drafts.{no_header, goes_behind, fitted, filled, record_in, slots_of, stop_at, head_bytes, Composing, Holds, Puts, Composes}
+use Rattle.browser.specs.query.Drafts.{goes_behind, record_in, Composing, Puts}
 
 -- rising offsets are no more than there is room for
 few : {m n : ℕ} {os : List ℕ} → Rising m n os → m + length os ≤ n

@@ -1,27 +1,27 @@
 -- What stands in the header does not enter into how names are cut: two packets that differ there alone are continued alike. Assumes nothing.
 use mathlib.Core.Path.{◌≡◌, refl, sym, ap, ◌∙◌}
 use mathlib.Core.List.{List, [], ◌∷◌, ◌++◌}
-use mathlib.Core.Bool.{Bool, true, false, cond, ◌&&◌}
-use Prim.Native.Nat.{ℕ, zero, suc, ◌+◌, ◌-◌, ◌*◌, ◌%◌, ◌≤◌, ◌<◌}
+use mathlib.Core.Bool.{Bool, cond, ◌&&◌}
+use Prim.Native.Nat.{ℕ, zero, suc, ◌+◌, ◌-◌, ◌*◌, ◌%◌, ◌≤◌}
 use native.Mathlib.Omega.{arith}
-use lib.ListN.{length, get_or, take, drop, length-append, length-drop}
+use lib.ListN.{length, get_or, take, drop, length-append}
 use lib.Seq.{get_or-drop, drop-drop, drop-append-le}
 use lib.Dec.{ltb, leb, eqb}
 use Rattle.wire.specs.name_pieces.Pieces.{piece_at}
 use Rattle.wire.specs.declared.name_pieces.Piece.{Piece}
 use Rattle.wire.specs.declared.name_pieces.Piece.TheVariants.{Root, Label, Pointer, Bad}
-use Rattle.wire.specs.names.Names.{Reading, before, ending, read_piece, read_from, from_run, name_at}
+use Rattle.wire.specs.names.Names.{before, ending, read_piece, read_from, from_run, name_at}
 use Rattle.wire.proofs.name_pieces.Pieces.{pointer_far}
 use Rattle.wire.specs.message.Message.{Question, Record}
 use Rattle.wire.specs.declared.rdata.Form.{Form}
 use Rattle.wire.specs.labels.Counted.{starts}
 use Rattle.writer.specs.declared.compression.Place.{Place}
-use Rattle.writer.specs.declared.compression.Place.TheVariants.{At, Nowhere}
+use Rattle.writer.specs.declared.compression.Place.TheVariants.{At}
 use Rattle.writer.specs.declared.compression.Cut.{Cut}
-use Rattle.writer.specs.compression.Compression.{is_read, stands_at, place_of, onward, cut_here, cut_from, cut_of, end_of, name_bytes, name_places}
+use Rattle.writer.specs.compression.Compression.{is_read, stands_at, place_of, onward, cut_here, cut_from, end_of, name_bytes, name_places}
 use Rattle.writer.specs.compression.Sentence.{Rising, empty, next}
 use Rattle.writer.specs.Fit.{form_for, held_name, held_behind}
-use Rattle.writer.specs.Items.{Writing, u16, fields, data_bytes, data_places, searched, put_bytes, put_name, put_fields, put_record, put_question}
+use Rattle.writer.specs.Items.{Writing, u16, fields, data_bytes, data_places, searched, put_name, put_fields, put_record, put_question}
 use Rattle.writer.specs.own_packets.Packets.{put_all}
 use Rattle.writer.proofs.Fitting.{fit_parts}
 use Rattle.roundtrip.specs.Writable.{Each, none, one, IsRecord, IsQuestion}

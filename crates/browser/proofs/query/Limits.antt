@@ -1,25 +1,22 @@
 -- No more than 120 known answers fit, so that a plan of the first 121 says all that a packet needs. Assumes nothing.
-use mathlib.Core.Path.{◌≡◌, refl, sym, ap, subst, ◌∙◌}
-use mathlib.Core.List.{List, [], ◌∷◌, ◌++◌, map}
-use mathlib.Core.Bool.{Bool, true, false, cond, ◌&&◌}
+use mathlib.Core.Path.{◌≡◌, refl, sym, ap, subst}
+use mathlib.Core.List.{List, [], ◌∷◌, ◌++◌}
+use mathlib.Core.Bool.{Bool, true, false, cond}
 use Prim.Native.Nat.{ℕ, zero, suc, ◌+◌, ◌*◌, ◌≤◌, ◌<◌}
 use native.Mathlib.Omega.{arith}
-use lib.ListN.{length, take, drop, length-append, length-take}
-use lib.Seq.{take_all}
-use lib.Dec.{ltb, leb}
-use borrow.Author.Tests.{lt-ltb, le-ltb, ltb-true, ltb-false, leb-true}
+use lib.ListN.{length, take, drop, length-append}
+use lib.Dec.{leb}
+use borrow.Author.Tests.{leb-true}
 use mathlib.Mathlib.Data.Bool.Basic.{and-eq-true-eq-eq-true-and-eq-true as both}
 use Rattle.wire.specs.message.Message.{Record, record_of}
 use Rattle.wire.specs.rdata.Rdata.{form_of}
-use Rattle.wire.specs.declared.rdata.Form.{Form}
 use Rattle.writer.specs.Fit.{form_for, held_name, held_behind, fit_record}
 use Rattle.writer.specs.compression.Compression.{cut_of, end_of, name_bytes, name_places}
 use Rattle.writer.specs.declared.compression.Place.{Place}
 use Rattle.writer.specs.declared.compression.Place.TheVariants.{At, Nowhere}
-use Rattle.writer.specs.Items.{Writing, fields, data_bytes, searched, put_name, put_fields, put_record}
+use Rattle.writer.specs.Items.{Writing, fields, data_bytes, put_name, put_fields, put_record}
 use Rattle.writer.specs.own_packets.Packets.{put_all}
 use Rattle.roundtrip.specs.Writable.{Each, none, one}
-use Rattle.cache.specs.declared.entries.Slot.{Slot}
 use Rattle.browser.specs.query.Query.{first_slot}
 use Rattle.browser.specs.query.Drafts.{goes_behind, fitted, filled}
 

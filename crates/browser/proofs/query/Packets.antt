@@ -2,18 +2,17 @@
 use mathlib.Core.Path.{◌≡◌, refl, sym, ap, ◌∙◌}
 use mathlib.Core.List.{List, [], ◌∷◌, ◌++◌, append-nil, append_assoc}
 use mathlib.Core.Bool.{Bool, true, false, cond, ◌&&◌}
-use Prim.Native.Nat.{ℕ, ◌+◌, ◌≤◌, ◌<◌}
+use Prim.Native.Nat.{ℕ, ◌≤◌}
 use native.Mathlib.Omega.{arith}
-use lib.ListN.{length, take, drop, length-append}
+use lib.ListN.{length, drop}
 use lib.Seq.{drop_at}
 use lib.Dec.{ltb, leb}
 use Rattle.wire.specs.message.Message.{Question, Record, Message}
-use Rattle.writer.specs.Fit.{fit_record}
 use Rattle.writer.specs.compression.Sentence.{empty}
 use Rattle.writer.specs.Items.{Writing, put_question, put_record}
 use Rattle.writer.specs.own_packets.Packets.{put_all, header, header_bytes, packet_of}
 use Rattle.roundtrip.specs.Writable.{Each, none, one, IsRecord, IsQuestion}
-use Rattle.roundtrip.proofs.Sound.{Sound, record_sound, question-sound}
+use Rattle.roundtrip.proofs.Sound.{Sound, question-sound}
 use Rattle.roundtrip.proofs.Lists.{More, record_more, question-more}
 use Rattle.browser.specs.query.Query.{query_of, fits, listed, packet_with}
 use Rattle.browser.specs.query.Drafts.{no_header, goes_behind, fitted, filled}

@@ -2,22 +2,21 @@
 use mathlib.Core.Path.{◌≡◌, refl, sym, ap, subst, ◌∙◌}
 use mathlib.Core.List.{List, [], ◌∷◌, ◌++◌, append-nil, append_assoc}
 use mathlib.Core.Bool.{Bool, true, false, cond}
-use Prim.Native.Nat.{ℕ, zero, suc, ◌+◌, ◌≤◌, ◌<◌}
+use Prim.Native.Nat.{ℕ, zero, suc, ◌≤◌, ◌<◌}
 use native.Mathlib.Omega.{arith}
-use lib.ListN.{length, take, drop, length-append}
+use lib.ListN.{length, take}
 use lib.Dec.{ltb}
-use Rattle.wire.specs.message.Message.{Question, Record, Message}
-use Rattle.wire.specs.message.Layout.{read, message_at, plain_header}
+use Rattle.wire.specs.message.Message.{Question, Record}
+use Rattle.wire.specs.message.Layout.{message_at, plain_header}
 use Rattle.writer.specs.own_packets.Packets.{packet_of}
-use Rattle.roundtrip.specs.Writable.{Each, none, one, IsRecord, IsQuestion, Writable, layout_of}
+use Rattle.roundtrip.specs.Writable.{Each, none, one, IsRecord, Writable}
 use Rattle.roundtrip.proofs.Whole.{message_back}
 use Rattle.cache.specs.declared.entries.Entry.{Entry}
 use Rattle.browser.specs.declared.Browser.{Browser}
-use Rattle.browser.specs.service.Sound.{Sound}
 use Rattle.browser.specs.known_answers.Known.{known_from}
-use Rattle.browser.specs.query.Query.{query_of, fits, listed, packet_for}
-use Rattle.browser.specs.query.Drafts.{questions, draft_packet}
-use Rattle.browser.specs.query.Says.{known_answers, listed_answers, message_for, Says, QuerySays}
+use Rattle.browser.specs.query.Query.{fits, listed, packet_for}
+use Rattle.browser.specs.query.Drafts.{questions}
+use Rattle.browser.specs.query.Says.{known_answers, listed_answers, message_for, QuerySays}
 use Rattle.browser.proofs.query.Drafting.{asked, known-fit, draft_packet_lem, packet_most}
 
 -- ---- what is listed

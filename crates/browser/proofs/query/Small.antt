@@ -2,17 +2,16 @@
 use mathlib.Core.Path.{◌≡◌, refl, sym, ap, ap₂, ◌∙◌}
 use mathlib.Core.List.{List, [], ◌∷◌, map}
 use mathlib.Core.Bool.{Bool, true, false, cond}
-use Prim.Native.Nat.{ℕ, zero, suc, ◌+◌, ◌/◌, ◌%◌, ◌≤◌, ◌<◌}
+use Prim.Native.Nat.{ℕ, zero, suc, ◌/◌, ◌%◌, ◌≤◌, ◌<◌}
 use native.Mathlib.Omega.{arith}
-use lib.ListN.{length, get_or, take, drop, length-take}
-use lib.Seq.{drop-cons, get_or-take, length-take-le, take_all}
-use Rattle.cache.specs.declared.entries.Slot.{Slot}
+use lib.ListN.{length, get_or, drop, length-take}
+use lib.Seq.{get_or-take, length-take-le, take_all}
 use Rattle.cache.specs.declared.entries.Slot.TheVariants.{At, Nowhere}
 use Rattle.browser.specs.declared.known_answers.Known.{Known}
 use Rattle.browser.specs.declared.known_answers.Plan.{Plan}
 use Rattle.browser.specs.known_answers.Plans.{no_answer, planned}
 use Rattle.browser.specs.query.Query.{first_slot}
-use Rattle.browser.specs.query.Drafts.{slots_of, stop_at, head_bytes}
+use Rattle.browser.specs.query.Drafts.{stop_at, head_bytes}
 
 pub head_is : (asks : Bool) (k : ℕ) (truncated : Bool) (f q : ℕ) → f ≡ cond truncated 2 0 → q ≡ cond asks 1 0
     → (0 ∷ 0 ∷ f ∷ 0 ∷ 0 ∷ q ∷ (k / 256) ∷ (k % 256) ∷ 0 ∷ 0 ∷ 0 ∷ 0 ∷ []) ≡ head_bytes asks k truncated

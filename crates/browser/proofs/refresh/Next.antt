@@ -3,7 +3,7 @@ use mathlib.Core.Path.{◌≡◌, refl, sym, ap, ap₂, subst, ◌∙◌}
 use mathlib.Core.Bool.{Bool, true, false, cond, ◌&&◌, ◌||◌}
 use mathlib.Core.List.{List, [], ◌∷◌}
 use mathlib.Core.Logic.{◌⊎◌, ⊎_elim, inl, inr}
-use Prim.Native.Nat.{ℕ, suc, ◌+◌, ◌*◌, ◌≤◌, ◌<◌}
+use Prim.Native.Nat.{ℕ, suc, ◌≤◌, ◌<◌}
 use native.Mathlib.Omega.{arith}
 use lib.Dec.{ltb, leb}
 use borrow.Author.Tests.{lt-ltb, le-leb, ltb-true, leb-true, leb-false}
@@ -15,7 +15,7 @@ use Rattle.wire.specs.names.Names.{is_name}
 use Rattle.browser.specs.declared.Browser.{Browser}
 use Rattle.browser.specs.service.Service.{service_name}
 use Rattle.browser.specs.list.Listing.{is_shown}
-use Rattle.browser.specs.series.Series.{series_at, series_due}
+use Rattle.browser.specs.series.Series.{series_at}
 use Rattle.browser.specs.refresh.Refresh.{threshold, is_reached, may_ask, is_stale, refresh_due, query_due, greater, sooner_by, sooner, soonest, next_query}
 use Rattle.browser.proofs.refresh.Due.{shown-live}
 

@@ -1,15 +1,14 @@
 -- A refresh query goes out at most once for a threshold. Assumes nothing.
-use mathlib.Core.Path.{◌≡◌, refl, sym, ap, ap₂, subst, ◌∙◌}
-use mathlib.Core.Bool.{Bool, true, false, cond, ◌&&◌, and-false}
+use mathlib.Core.Path.{◌≡◌, refl, sym, ap, subst, ◌∙◌}
+use mathlib.Core.Bool.{Bool, true, false, ◌&&◌, and-false}
 use mathlib.Core.List.{List, [], ◌∷◌}
-use Prim.Native.Nat.{ℕ, ◌+◌, ◌*◌, ◌≤◌, ◌<◌}
+use Prim.Native.Nat.{ℕ, ◌+◌, ◌*◌, ◌≤◌}
 use native.Mathlib.Omega.{arith}
 use lib.Dec.{ltb, leb}
 use borrow.Author.Tests.{le-ltb}
-use Rattle.cache.specs.declared.entries.Entry.{Entry}
 use Rattle.cache.specs.declared.entries.Slot.{Slot}
 use Rattle.browser.specs.declared.Browser.{Browser}
-use Rattle.browser.specs.refresh.Refresh.{threshold, is_reached}
+use Rattle.browser.specs.refresh.Refresh.{threshold}
 use Rattle.browser.specs.refresh.Once.{RefreshOnce}
 use Rattle.browser.specs.series.Spacing.{asks}
 use Rattle.browser.specs.Calls.{resumed, asked}

@@ -1,10 +1,8 @@
 -- The gaps of the series: "gaps of 1 s from its sending, doubled each time, up to 60 minutes". Assumes nothing.
 use mathlib.Core.Path.{◌≡◌, refl, sym, ap, ◌∙◌}
-use mathlib.Core.Bool.{Bool, true, false}
 use Prim.Native.Nat.{ℕ, zero, suc, ◌+◌, ◌*◌, ◌≤◌, ◌<◌}
 use native.Mathlib.Omega.{arith}
-use lib.Dec.{ltb, leb}
-use borrow.Author.Tests.{lt-ltb, ltb-true, ltb-false}
+use borrow.Author.Tests.{lt-ltb}
 use Rattle.cache.specs.entries.Entries.{lesser}
 use Rattle.browser.specs.series.Series.{gap_after}
 

@@ -2,15 +2,14 @@
 use mathlib.Core.Path.{◌≡◌, refl, sym, ap, ap₂, subst, ◌∙◌}
 use mathlib.Core.Bool.{Bool, true, false, cond, ◌&&◌}
 use mathlib.Core.List.{List, [], ◌∷◌}
-use Prim.Native.Nat.{ℕ, zero, suc, ◌+◌, ◌≤◌, ◌<◌}
+use Prim.Native.Nat.{ℕ, suc, ◌+◌, ◌≤◌, ◌<◌}
 use native.Mathlib.Omega.{arith}
-use lib.Dec.{ltb, leb, eqb}
-use borrow.Author.Tests.{lt-ltb, le-ltb, ltb-true, ltb-false, leb-true, ne_eqb}
-use Rattle.cache.specs.entries.Entries.{lesser}
+use lib.Dec.{ltb, eqb}
+use borrow.Author.Tests.{le-ltb, ltb-true, ltb-false, leb-true, ne_eqb}
 use Rattle.cache.specs.declared.entries.Slot.{Slot}
 use Rattle.browser.specs.declared.Browser.{Browser}
 use Rattle.browser.specs.series.Series.{gap_after, series_at, series_due, counted}
-use Rattle.browser.specs.series.Spacing.{asks, asks_series, series_times, wait_after, Spaced, none, next, SeriesSpaced}
+use Rattle.browser.specs.series.Spacing.{asks, series_times, wait_after, Spaced, none, next, SeriesSpaced}
 use Rattle.browser.specs.Calls.{resumed, asked}
 use Rattle.browser.specs.Runs.{Event, packet, tick, State, after}
 use Rattle.browser.proofs.series.Gaps.{gap_long}

@@ -1,21 +1,20 @@
 -- The service name, as it is made and as it is used. Assumes nothing.
 use mathlib.Core.Path.{◌≡◌, refl, sym, ap, ◌∙◌}
 use mathlib.Core.Bool.{Bool, true, false, cond, ◌&&◌}
-use mathlib.Core.List.{List, [], ◌∷◌, ◌++◌, append_assoc}
+use mathlib.Core.List.{List, [], ◌∷◌, ◌++◌}
 use Prim.Native.Nat.{ℕ, ◌+◌, ◌-◌, ◌≤◌, ◌<◌}
 use native.Mathlib.Omega.{arith}
-use lib.ListN.{length, take, drop, set, replicate, length-append, length-take, length-replicate}
+use lib.ListN.{length, take, drop, set, replicate, length-append, length-take}
 use lib.Seq.{sets, sets-eq, take_all, take_at, length-take-le}
 use lib.Dec.{leb, eqb}
 use native.Mathlib.Nat.{zero-add}
 use borrow.Author.Tests.{leb-true, leb-false, eqb-true}
 use mathlib.Mathlib.Data.Bool.Basic.{and-eq-true-eq-eq-true-and-eq-true as both}
 use Rattle.wire.proofs.octets.Sets.{sets-append, drop-replicate}
-use Rattle.wire.specs.labels.Labels.{encode, Labels, none, one, IsName}
+use Rattle.wire.specs.labels.Labels.{encode, none, one}
 use Rattle.wire.specs.names.Names.{is_name}
 use Rattle.wire.specs.expansion.Equal.{same_bytes}
 use Rattle.wire.proofs.labels.Encoded.{is_name_lem}
-use Rattle.own.specs.declared.records.Service.{Service}
 use Rattle.own.specs.records.Setups.{tcp, udp, local, held, service_rule, service_fits, protocol_fits, domain_fits, service_held, protocol_label}
 use Rattle.cache.specs.entries.Entries.{lesser}
 use Rattle.browser.specs.declared.Browser.{Browser}

@@ -1,7 +1,6 @@
 -- The known answers that a packet may take, as a pass over the table gathers them. Assumes nothing: these are definitions.
-use Rattle.std.specs.Prelude.{ℕ, suc, ◌+◌, ◌-◌, List, [], ◌∷◌, ◌++◌, map, cond, ◌&&◌, ltb, length, get_or, take, set, replicate}
+use Rattle.std.specs.Prelude.{ℕ, suc, ◌+◌, List, [], ◌∷◌, cond, ◌&&◌, ltb, take, set, replicate}
 use Rattle.cache.specs.declared.entries.Entry.{Entry}
-use Rattle.cache.specs.entries.Entries.{blank}
 use Rattle.browser.specs.declared.Browser.{Browser}
 use Rattle.browser.specs.declared.known_answers.Known.{Known}
 use Rattle.browser.specs.declared.known_answers.Plan.{Plan}

@@ -1,9 +1,8 @@
 -- What the packets of a browser say: "The packet reads back as the question and exactly the entries that are listed, in order, with their TTLs". Statements;
 -- proved in proofs/query/ReadBack.antt. Assumes nothing.
 use Rattle.std.specs.Prelude.{ℕ, suc, ◌≤◌, ◌<◌, ◌≡◌, Bool, false, List, [], ltb, length, take}
-use Rattle.wire.specs.message.Message.{Question, Record, Message}
+use Rattle.wire.specs.message.Message.{Record, Message}
 use Rattle.wire.specs.message.Layout.{read, message_at}
-use Rattle.writer.specs.own_packets.Packets.{packet_of}
 use Rattle.roundtrip.specs.Writable.{layout_of}
 use Rattle.cache.specs.declared.entries.Entry.{Entry}
 use Rattle.browser.specs.declared.Browser.{Browser}

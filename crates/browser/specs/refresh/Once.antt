@@ -1,7 +1,6 @@
 -- What refresh queries promise: "a refresh query goes out at most once for a threshold". Statements; proved in proofs/refresh/Once.antt. Assumes nothing.
 use Rattle.std.specs.Prelude.{ℕ, ◌≤◌, ◌≡◌, true, false, List}
 use Rattle.cache.specs.declared.entries.Entry.{Entry}
-use Rattle.browser.specs.declared.Browser.{Browser}
 use Rattle.browser.specs.refresh.Refresh.{threshold, is_reached}
 use Rattle.browser.specs.series.Spacing.{asks}
 use Rattle.browser.specs.Runs.{Event, tick, State, after, after_all}

@@ -1,7 +1,6 @@
 -- What the series promises over any run of packets and ticks: "the gaps between queries of the series are at least 1, 2, 4 .. 3,600 s". Statements; proved in
 -- proofs/series/Spaced.antt. Assumes nothing.
 use Rattle.std.specs.Prelude.{ℕ, suc, ◌+◌, ◌≤◌, ◌≡◌, Bool, cond, ◌&&◌, List, [], ◌∷◌, eqb, length}
-use Rattle.browser.specs.declared.Browser.{Browser}
 use Rattle.browser.specs.series.Series.{gap_after, series_due}
 use Rattle.browser.specs.refresh.Refresh.{query_due}
 use Rattle.browser.specs.known_answers.Known.{known_owed}
