@@ -1,15 +1,13 @@
 -- What is lent of a table and of its store, by the lesser of two sizes. Assumes nothing.
 use mathlib.Core.Path.{◌≡◌, refl, sym, ap, ◌∙◌}
 use mathlib.Core.Bool.{Bool, true, false}
-use mathlib.Core.List.{List, ◌++◌, map}
+use mathlib.Core.List.{List, ◌++◌}
 use Prim.Native.Nat.{ℕ, ◌≤◌}
 use native.Mathlib.Omega.{arith}
 use lib.Dec.{ltb}
-use lib.ListN.{length, take, drop, drop_of_length-le, length-map}
+use lib.ListN.{length, take, drop, drop_of_length-le}
 use lib.Seq.{take_all}
 use borrow.Author.Tests.{ltb-false}
-use denote.Struct.Declared.{field}
-use Rattle.cache.specs.contracts.entries.Entry as E
 use Rattle.cache.specs.entries.Cache.{Cache, take_in}
 use Rattle.cache.specs.Answers.{taken_of}
 use Rattle.cache.specs.lookup.Answers.{looked_of}
@@ -46,10 +44,6 @@ module _ {X : Type 0} (k n : ℕ) (l : List X) (len : length l ≡ n) where
           let q : r ≡ n = is ∙ simp e in
           let p : length l ≤ r = omega arith in
           drop_of_length-le l p ∙ sym (drop_of_length-le l (is-most e))
-
--- the length of an array, from what its type says of it
-pub entries-length : (es : List Entry) → length (map (field E.the_type).into es) ≡ 513 → length es ≡ 513
-entries-length es h = sym (length-map es (field E.the_type).into) ∙ h
 
 module _ (t : Table) (len : length t.entries ≡ 513) (store : List ℕ) (n m : ℕ)
     (n-is : n ≡ least t.count 513) (m-is : m ≡ least t.room (length store)) where

@@ -1,4 +1,2 @@
--- Laws that belong to no one function: an array of entries as a row in memory, and calls of the exported cache as steps of a walk.
-pub mod Rows
-mod Calls
+-- Laws that belong to no one function: what is lent of a table and of its store.
 pub mod Lent

@@ -1,10 +1,11 @@
 // The search for a byte.
-ghost use Rattle.std.specs.Prelude.{◌≡◌};
+ghost use Rattle.std.specs.Prelude.{◌≡◌, ◌≤◌, length};
 ghost use Rattle.console_text.specs.scan.Scan.{index_of};
 
 // The place of the first byte that equals `b`, or the length where there is none.
 pub fn find(s: &[u8], b: u8) -> usize
-    ensures { result ≡ index_of b s.now }
+    ensures place { result ≡ index_of b s.now }
+    ensures within { result ≤ length s.now }
 {
     let mut i = 0;
     while i < s.len() {

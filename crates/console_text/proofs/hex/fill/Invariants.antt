@@ -1,9 +1,6 @@
-use lib.Seq.{length-sets}
-use mathlib.Core.Path.{ap, ◌∙◌}
 use Prim.Native.Nat.{◌-◌}
-use native.Mathlib.Omega.{arith}
 use lib.ListN.{length}
-use Rattle.console_text.proofs.hex.Filled.{Upto, joined, one_more, all-count, all-bytes}
+use Rattle.console_text.proofs.hex.Filled.{Upto}
 use Rattle.console_text.proofs.hex.fill.Given as goal
 
 abbrev pub invariant-loop-at : goal.invariant-loop-at

@@ -1,9 +1,7 @@
 use mathlib.Core.Path.{◌≡◌}
 use Prim.Native.Nat.{◌≤◌, ◌-◌}
-use native.Mathlib.Omega.{arith}
 use lib.ListN.{length, drop}
 use Rattle.console_text.specs.hex.Bytes.{is_bytes, all_pairs}
-use Rattle.console_text.proofs.hex.Pairs.{bytes_none, bytes_one, bytes_more, pairs_end, pairs_odd, pairs_first, pairs_second, pairs_both}
 use Rattle.console_text.proofs.hex.is_bytes.Given as goal
 
 abbrev pub invariant-loop-at : goal.invariant-loop-at

@@ -1,10 +1,8 @@
 use lib.Seq.{length-sets}
 use lib.ListN.{length-set}
-use mathlib.Core.Path.{◌≡◌, refl, ap, ◌∙◌}
-use Prim.Native.Nat.{◌≤◌, ◌-◌, ◌*◌}
+use mathlib.Core.Path.{refl, ap}
 use native.Mathlib.Omega.{arith}
-use lib.ListN.{length, take}
-use lib.Seq.{sets}
+use lib.ListN.{length}
 use Rattle.console_text.specs.hex.Bytes.{digits_of}
 use Rattle.console_text.proofs.hex.Spelled.{one_more, text_all, text_over, text_dash, text_none}
 use Rattle.console_text.proofs.hex.spell.Goals as goal

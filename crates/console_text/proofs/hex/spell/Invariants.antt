@@ -1,12 +1,8 @@
-use lib.Seq.{length-sets}
-use lib.ListN.{length-set}
-use mathlib.Core.Path.{◌≡◌, refl, ap, ◌∙◌}
+use mathlib.Core.Path.{◌≡◌}
 use Prim.Native.Nat.{◌≤◌, ◌-◌, ◌*◌}
-use native.Mathlib.Omega.{arith}
 use lib.ListN.{length, take}
 use lib.Seq.{sets}
 use Rattle.console_text.specs.hex.Bytes.{digits_of}
-use Rattle.console_text.proofs.hex.Spelled.{one_more, text_all, text_over, text_dash, text_none}
 use Rattle.console_text.proofs.hex.spell.Given as goal
 
 abbrev pub invariant-loop-i : goal.invariant-loop-i

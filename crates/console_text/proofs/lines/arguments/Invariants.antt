@@ -1,8 +1,5 @@
-use mathlib.Core.Logic.{⊎_elim}
-use Rattle.console_text.proofs.lines.Split.{count_space, count_other, count_end}
 use mathlib.Core.Path.{◌≡◌}
 use Prim.Native.Nat.{◌≤◌, ◌-◌, ◌+◌}
-use native.Mathlib.Omega.{arith}
 use lib.ListN.{length, drop}
 use Rattle.console_text.specs.lines.Fields.{fields_of}
 use Rattle.console_text.proofs.lines.arguments.Given as goal

@@ -1,9 +1,6 @@
-use lib.Seq.{drop-length, take-nil}
-use Rattle.console_text.proofs.lines.Split.{this_field, next_field, no_more}
-use mathlib.Core.Path.{◌≡◌, refl, sym, ◌∙◌}
+use mathlib.Core.Path.{◌≡◌}
 use mathlib.Core.List.{[]}
 use Prim.Native.Nat.{◌≤◌}
-use native.Mathlib.Omega.{arith}
 use lib.ListN.{length, drop, get_or}
 use Rattle.console_text.specs.lines.Fields.{fields_of}
 use Rattle.console_text.proofs.lines.field.Given as goal

@@ -1,9 +1,7 @@
 use mathlib.Core.Path.{◌≡◌}
 use Prim.Native.Nat.{◌≤◌, ◌<◌, ◌-◌}
-use native.Mathlib.Omega.{arith}
 use lib.ListN.{length, drop}
 use Rattle.console_text.specs.lines.Numbers.{number_of, number_from}
-use Rattle.console_text.proofs.lines.Digits.{number-none, number-some, number-end, number-low, number-high, number-digit, number-over}
 use Rattle.console_text.proofs.lines.number.Given as goal
 
 abbrev pub invariant-loop-i : goal.invariant-loop-i
