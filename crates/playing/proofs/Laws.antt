@@ -79,10 +79,10 @@ module _ (p : List ℕ) (at : ℕ) (s : Step) (es : s ≡ step_at p at) where
   played_of state q eq = ap (played_by p state) (sym eq ∙ es)
 
 -- an event that is no record of a claim
-pub called : (state : State) (v : Event) (next : ℕ) → OneOf (0 ∷ 1 ∷ 3 ∷ 4 ∷ 5 ∷ []) (tag_of the_type v) → turn.Called next ≡ turn_of state v next
+pub called : (state : State) (v : Event) (next : ℕ) → ((last k number : ℕ) → v ≡ event.Claim last k number → ⊥) → turn.Called next ≡ turn_of state v next
 called state (event.Tick time) next h = refl
 called state (event.Packet time from p draw hold) next h = refl
-called state (event.Claim last k number) next h = absurd (miss (0 ∷ 1 ∷ 3 ∷ 4 ∷ 5 ∷ []) 2 tt h)
+called state (event.Claim last k number) next h = absurd (h last k number refl)
 called state (event.Stop time) next h = refl
 called state (event.Port time p) next h = refl
 called state (event.Txt time) next h = refl

@@ -8,7 +8,7 @@ pub returns-then-refusal_of-ne0 : goal.returns-then-refusal_of-ne0
 returns-then-refusal_of-ne0 c = let a = c.args in
     let arrival : Address → Arrival = λ x. record {
       time = a.time;
-      c.before.before.before.before.before.before.before.before.before.before = x;
+      from = x;
       port = a.port;
       draw = a.draw;
       hold = a.hold;
@@ -23,7 +23,7 @@ pub returns : goal.returns
 returns c = let a = c.args in
     let arrival : Address → Arrival = λ x. record {
       time = a.time;
-      c.before.before.before.before.before.before.before.before.before.before.before.before.before.before.before.before = x;
+      from = x;
       port = a.port;
       draw = a.draw;
       hold = a.hold;

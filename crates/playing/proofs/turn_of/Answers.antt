@@ -12,4 +12,4 @@ returns-in-Claim c = let a = c.args in
     ∙ ap (λ (v : Event). turn_of a.state v a.next) (sym c.in-Claim.is)
 
 pub returns-in_default : goal.returns-in_default
-returns-in_default c = let a = c.args in called a.state a.event a.next c.in_default.keys2
+returns-in_default c = let a = c.args in called a.state a.event a.next c.in_default.not-Claim

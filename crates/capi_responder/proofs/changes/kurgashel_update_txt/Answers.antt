@@ -10,7 +10,7 @@ returns-then-refusal_of-ne0 c = let a = c.args in
     c.if-refusal_of-ne0.true
 
 pub put_txt-requires : goal.put_txt-requires
-put_txt-requires c = let all = short_txt _ _ _ _ (sym c.update_txt-changed.ensures.number ∙ sym c.refusal_of.ensures ∙ c.if-refusal_of-ne0.false) in record { bytes_in_bounds = all.0; bytes_len_bound = all.1 }
+put_txt-requires c = short_txt _ _ _ _ (sym c.update_txt-changed.ensures.number ∙ sym c.refusal_of.ensures ∙ c.if-refusal_of-ne0.false)
 
 pub returns : goal.returns
 unfolding with_data

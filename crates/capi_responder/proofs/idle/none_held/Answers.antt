@@ -7,6 +7,7 @@ use lib.ListN.{drop}
 use Rattle.capi_responder.specs.idle.Idle.{none_held}
 use Rattle.capi_responder.proofs.idle.Unheld.{clear, clear_begin, clear_on, clear_lost, clear_end}
 use Rattle.capi_responder.proofs.idle.none_held.Goals as goal
+use Rattle.capi_responder.proofs.idle.none_held.Goals.{then-b-i-ne0, else-b-i-ne0}
 
 pub loop-i-init : goal.loop-i-init
 loop-i-init c = (omega arith, clear_begin _ (omega arith))
@@ -15,10 +16,9 @@ pub loop-i-preserved : goal.loop-i-preserved
 loop-i-preserved c = let b = c.args.b.now in
     let l = c.loop-i in (
       omega arith,
-      ⊎_elim
-          (λ w. clear_lost b l.i (omega arith) (omega arith) l.clear l.invariant.1 w.0.taken _ w.1)
-          (λ w. clear_on b l.i (omega arith) (omega arith) l.clear l.invariant.1 w.0.left _ w.1)
-          c.if-b-i-ne0.branch,
+      elim c.if-b-i-ne0.branch [
+          then-b-i-ne0 w ↦ clear_lost b l.i (omega arith) (omega arith) l.clear l.invariant.1 w.if-b-i-ne0.true _ w.clear-is
+          | else-b-i-ne0 w ↦ clear_on b l.i (omega arith) (omega arith) l.clear l.invariant.1 w.if-b-i-ne0.false _ w.clear-is ],
     )
 
 pub returns : goal.returns
