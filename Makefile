@@ -16,7 +16,7 @@ library: ## prove and build target/staticlib/libkurgashel.a and libkurgashel_rea
 
 programs: library ## build the programs on sockets, and the player
 	cargo build --release --quiet --manifest-path rust/Cargo.toml --package udp
-	[ -z "$$(find crates crates.txt -newer target/bin/player -type f 2>&1 | head -n 1)" ] || tools/prove --quiet player
+	tools/prove --quiet player
 
 install: library programs ## copy library, header, programs, units and man pages under DESTDIR and PREFIX, by default /usr/local
 	packaging/install
@@ -33,4 +33,4 @@ bench: library ## time the proved library beside ordinary Rust and the peers tha
 	tests/cache.sh bench
 
 clean: ## remove all that was built and proved
-	rm -rf target rust/target
+	rm -rf target rust/target crates/*/out

@@ -23,10 +23,12 @@ root = pathlib.Path(__file__).resolve().parent.parent
 wrong, public, printing = [], 0, 0
 for source in sorted(root.glob("crates/*/src/**/*.rt")):
     text = re.sub(r"//[^\n]*", "", source.read_text())
-    # a public function's head: from `pub` to the brace that opens its body, which stands on a line of its own or ends the signature
-    for match in re.finditer(r"\bpub (?:extern \"C\" )?fn (\w+)", text):
+    # a public function's head: from `pub` to the brace that opens its body; with clauses that stands on a line of its own, else it ends the signature
+    for match in re.finditer(r"\bpub (?:const |unsafe |extern \"C\" )*fn (\w+)", text):
         public += 1
-        head = re.split(r"\n\{|\{\n", text[match.start():], maxsplit=1)[0]
+        head = text[match.start():]
+        clauses = re.search(r"\{\n|^\s*(?:requires|ensures)\b", head, re.M)
+        head = head[: clauses.start()] if clauses and clauses.group().startswith("{") else re.split(r"^\s*\{\n", head, maxsplit=1, flags=re.M)[0]
         name = f"{source.relative_to(root)}: {match.group(1)}"
         if re.search(r"^\s*requires\b", head, re.M):
             wrong.append(f"a public function has a requires: {name}")

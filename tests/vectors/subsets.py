@@ -10,27 +10,24 @@ HEAD = '''-- Every non-empty subset of the five own records as a response, for t
 -- and ten with NSEC: each alone, both, PTR or SRV with the instance's, SRV or A with the host's, TXT with both, all that goes out at once, and all seven.
 -- `responsePacket` is what the contract of `own_packets::respond` says of the buffer. A packet stands as one number, its bytes after a 1. Made by
 -- tests/vectors/subsets.py. Assumes nothing.
-use Prim.Native.Nat.{ℕ, _+_, _*_}
-use mathlib.Core.Path.{_≡_, refl}
-use mathlib.Core.Bool.{Bool, true, false}
-use mathlib.Core.List.{List, [], _∷_}
-use Rattle·wire.specs.name_pieces.Pieces.{pieceAt}
-use Rattle·wire.specs.names.Names.{readFrom, fromRun, nameAt}
-use Rattle·wire.specs.case_folding.Fold.{sameName}
-use Rattle·wire.specs.nsec.Nsec.{names, isBlock, isNsec}
-use Rattle·wire.specs.expansion.Equal.{sameBytes}
-use Rattle·own.specs.declared.records.Setup.{Setup}
-use Rattle·own.specs.records.Setups.{serviceLabels, instanceLabels, hostLabels}
-use Rattle·own.specs.records.Records.{hasRecord, ownLabels, ownName, srvRdata, ownRdata}
-use Rattle·claims.specs.records.Sets.{picked}
-use Rattle·writer.specs.compression.Compression.{standsAt, placeOf, cutFrom, nameBytes, namePlaces}
-use Rattle·wire.specs.labels.Counted.{starts}
-use Rattle·writer.specs.Fit.{formFor}
-use Rattle·writer.specs.Items.{putName, dataBytes, dataPlaces, putFields}
-use Rattle·writer.specs.own_packets.Packets.{packetOf}
-use Rattle·writer.specs.own_packets.Styles as styles
-use Rattle·writer.specs.own_packets.Own.{responsePacket, responseRecords, responseOf}
-use Rattle·readings·specs.specs.Examples.{padded, example}
+use Rattle.std.specs.Prelude.{ℕ, ◌+◌, ◌*◌, ◌≡◌, refl, Bool, true, false, List, [], ◌∷◌}
+use Rattle.wire.specs.name_pieces.Pieces.{piece_at}
+use Rattle.wire.specs.names.Names.{read_from, from_run, name_at}
+use Rattle.wire.specs.case_folding.Fold.{same_name}
+use Rattle.wire.specs.nsec.Nsec.{names, is_block, is_nsec}
+use Rattle.wire.specs.expansion.Equal.{same_bytes}
+use Rattle.own.specs.declared.records.Setup.{Setup}
+use Rattle.own.specs.records.Setups.{service_labels, instance_labels, host_labels}
+use Rattle.own.specs.records.Records.{has_record, own_labels, own_name, srv_rdata, own_rdata}
+use Rattle.claims.specs.records.Sets.{picked}
+use Rattle.writer.specs.compression.Compression.{stands_at, place_of, cut_from, name_bytes, name_places}
+use Rattle.wire.specs.labels.Counted.{starts}
+use Rattle.writer.specs.Fit.{form_for}
+use Rattle.writer.specs.Items.{put_name, data_bytes, data_places, put_fields}
+use Rattle.writer.specs.own_packets.Packets.{packet_of}
+use Rattle.writer.specs.own_packets.Styles as styles
+use Rattle.writer.specs.own_packets.Own.{response_packet, response_records, response_of}
+use Rattle.readings.specs.Examples.{padded, example}
 
 -- the bytes after a 1, as one number
 unfoldable pub number : ℕ → List ℕ → ℕ
@@ -40,14 +37,14 @@ number n (b ∷ bs) = number (n * 256 + b) bs
 -- The specification's example with an AAAA and a host label of so many bytes
 unfoldable pub hosted : List ℕ → ℕ → Setup
 hosted host len = record {
-  instance = example .instance;
-  service = example .service;
-  protocol = example .protocol;
+  instance = example.instance;
+  service = example.service;
+  protocol = example.protocol;
   host = record { bytes = padded 63 host; len = len };
-  domain = example .domain;
-  port = example .port;
-  txt = example .txt;
-  a = example .a;
+  domain = example.domain;
+  port = example.port;
+  txt = example.txt;
+  a = example.a;
   hasaaaa = true;
   aaaa = 254 ∷ (128 ∷ (0 ∷ (0 ∷ (0 ∷ (0 ∷ (0 ∷ (0 ∷ (0 ∷ (0 ∷ (0 ∷ (0 ∷ (0 ∷ (0 ∷ (0 ∷ (10 ∷ [])))))))))))))));
 }
@@ -55,14 +52,14 @@ hosted host len = record {
 -- the response to all, so with ID 0, with PTR, SRV, TXT, A, AAAA, the instance's NSEC, the host's NSEC or without
 abbrev pub written : Setup → Bool → Bool → Bool → Bool → Bool → Bool → Bool → ℕ
 written s ptr srv txt a aaaa INSTANCE HOST =
-    number 1 (responsePacket s 0 (record { ptr = ptr; srv = srv; txt = txt; a = a; aaaa = aaaa; INSTANCE = INSTANCE; HOST = HOST }))
+    number 1 (response_packet s 0 (record { ptr = ptr; srv = srv; txt = txt; a = a; aaaa = aaaa; INSTANCE = INSTANCE; HOST = HOST }))
 '''.replace("INSTANCE", INSTANCE).replace("HOST", HOST)
 NAMES = {
     "dock": ("plain", "a host label that stands nowhere else"),
     "_tcp": ("shared", "a host label that is a label of the service's name"),
     "Booth": ("cased", "a host label that differs from the instance's only in case"),
 }
-UNFOLDING = "number hosted example nameAt fromRun readFrom pieceAt sameBytes hasRecord ownLabels ownName srvRdata ownRdata serviceLabels instanceLabels hostLabels responsePacket responseRecords picked responseOf styles.ownRecord packetOf putName formFor isNsec isBlock names sameName dataBytes dataPlaces putFields nameBytes namePlaces starts cutFrom placeOf standsAt"
+UNFOLDING = "number hosted example name_at from_run read_from piece_at same_bytes has_record own_labels own_name srv_rdata own_rdata service_labels instance_labels host_labels response_packet response_records picked response_of styles.own_record packet_of put_name form_for is_nsec is_block names same_name data_bytes data_places put_fields name_bytes name_places starts cut_from place_of stands_at"
 
 
 def listed(values):

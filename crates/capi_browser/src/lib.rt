@@ -249,8 +249,7 @@ fn domain_of(label: &[u8]) -> [u8; 5]
 }
 
 // Begins a browser for a service.
-#[unsafe(no_mangle)]
-pub extern "C" fn kurgashel_browse_start(
+pub fn kurgashel_browse_start(
     service: &[u8],
     protocol: &[u8],
     domain: &[u8],
@@ -272,8 +271,7 @@ pub extern "C" fn kurgashel_browse_start(
 }
 
 // Sends what is due, at most one packet, into `out`.
-#[unsafe(no_mangle)]
-pub extern "C" fn kurgashel_browse_tick(
+pub fn kurgashel_browse_tick(
     table: &[Entry],
     store: &[u8],
     browser: BrowserNumbers,
@@ -292,8 +290,7 @@ pub extern "C" fn kurgashel_browse_tick(
 }
 
 // The lowest listed slot from a slot on.
-#[unsafe(no_mangle)]
-pub extern "C" fn kurgashel_browse_list(
+pub fn kurgashel_browse_list(
     table: &[Entry],
     store: &[u8],
     browser: BrowserNumbers,
@@ -308,8 +305,7 @@ pub extern "C" fn kurgashel_browse_list(
 }
 
 // When the next step is due, with the table as it is.
-#[unsafe(no_mangle)]
-pub extern "C" fn kurgashel_browse_due(
+pub fn kurgashel_browse_due(
     table: &[Entry],
     store: &[u8],
     browser: BrowserNumbers,

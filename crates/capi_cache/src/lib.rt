@@ -230,8 +230,7 @@ fn refused_take(refusal: u8) -> TakenNumbers
 }
 
 // Looks a name and a type up in a lent table, in place: the lowest live match from a slot on. Nothing is written.
-#[unsafe(no_mangle)]
-pub extern "C" fn kurgashel_cache_look_up(
+pub fn kurgashel_cache_look_up(
     table: &[Entry],
     store: &[u8],
     time: u64,
@@ -659,8 +658,7 @@ fn take_records(
 }
 
 // Takes the records of a message into a lent table and its store.
-#[unsafe(no_mangle)]
-pub extern "C" fn kurgashel_cache_take(
+pub fn kurgashel_cache_take(
     table: &mut [Entry],
     store: &mut [u8],
     time: u64,

@@ -119,8 +119,7 @@ fn put_state(state: &mut [u8], after: State)
 }
 
 // Plays the event at an offset of a trace to the responder in lent bytes.
-#[unsafe(no_mangle)]
-pub extern "C" fn kurgashel_play(state: &mut [u8], trace: &[u8], at: usize) -> PlayedTurn
+pub fn kurgashel_play(state: &mut [u8], trace: &[u8], at: usize) -> PlayedTurn
     ensures { Plays state.old trace.now at result state.new }
 {
     if state.len() != layout::STATE_SIZE {

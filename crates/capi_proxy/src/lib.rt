@@ -119,21 +119,14 @@ fn record_numbers(p: Passed) -> RecordNumbers
 }
 
 // The refusal of two domains, or 0.
-#[unsafe(no_mangle)]
-pub extern "C" fn kurgashel_proxy_refusal(rich: &[u8], ldh: &[u8]) -> u8
+pub fn kurgashel_proxy_refusal(rich: &[u8], ldh: &[u8]) -> u8
     ensures { result ≡ setup_refusal (domains rich.now ldh.now) }
 {
     proxy::domains::setup_refusal(rich, ldh)
 }
 
 // A unicast question for an uncompressed name and a type.
-#[unsafe(no_mangle)]
-pub extern "C" fn kurgashel_proxy_question(
-    rich: &[u8],
-    ldh: &[u8],
-    name: &[u8],
-    rtype: u16,
-) -> QuestionNumbers
+pub fn kurgashel_proxy_question(rich: &[u8], ldh: &[u8], name: &[u8], rtype: u16) -> QuestionNumbers
     ensures { result ≡ question_numbers (question_of (domains rich.now ldh.now) name.now rtype) }
 {
     let q = proxy::questions::ask(rich, ldh, name, rtype);
@@ -141,13 +134,7 @@ pub extern "C" fn kurgashel_proxy_question(
 }
 
 // The record at an offset of a message.
-#[unsafe(no_mangle)]
-pub extern "C" fn kurgashel_proxy_record(
-    rich: &[u8],
-    ldh: &[u8],
-    message: &[u8],
-    at: usize,
-) -> RecordNumbers
+pub fn kurgashel_proxy_record(rich: &[u8], ldh: &[u8], message: &[u8], at: usize) -> RecordNumbers
     ensures { result ≡ record_numbers (item_out (domains rich.now ldh.now) (record_at message.now at)) }
 {
     let p = proxy::records::record_at(rich, ldh, message, at);
@@ -155,8 +142,7 @@ pub extern "C" fn kurgashel_proxy_record(
 }
 
 // A record whose names are uncompressed.
-#[unsafe(no_mangle)]
-pub extern "C" fn kurgashel_proxy_plain_record(
+pub fn kurgashel_proxy_plain_record(
     rich: &[u8],
     ldh: &[u8],
     owner: &[u8],
@@ -174,8 +160,7 @@ pub extern "C" fn kurgashel_proxy_plain_record(
 }
 
 // The record of an entry of the cache and the bytes of its slot.
-#[unsafe(no_mangle)]
-pub extern "C" fn kurgashel_proxy_cached(
+pub fn kurgashel_proxy_cached(
     rich: &[u8],
     ldh: &[u8],
     time: u64,

@@ -50,8 +50,7 @@ pub struct Sections {
 }
 
 // The offset past the name at an offset, and 0 where it is malformed. Nothing is copied.
-#[unsafe(no_mangle)]
-pub extern "C" fn kurgashel_name_end(message: &[u8], at: usize) -> usize
+pub fn kurgashel_name_end(message: &[u8], at: usize) -> usize
     ensures { result ≡ end_of (name_at message.now at) }
 {
     match wire::names::read_name(message, at) {
@@ -61,8 +60,7 @@ pub extern "C" fn kurgashel_name_end(message: &[u8], at: usize) -> usize
 }
 
 // The uncompressed length of the name at an offset, and 0 where it is malformed. Nothing is copied.
-#[unsafe(no_mangle)]
-pub extern "C" fn kurgashel_name_length(message: &[u8], at: usize) -> usize
+pub fn kurgashel_name_length(message: &[u8], at: usize) -> usize
     ensures { result ≡ length_of (name_at message.now at) }
 {
     let found = wire::names::read_name(message, at);
@@ -73,8 +71,7 @@ pub extern "C" fn kurgashel_name_length(message: &[u8], at: usize) -> usize
 }
 
 // The name at an offset, uncompressed.
-#[unsafe(no_mangle)]
-pub extern "C" fn kurgashel_name(message: &[u8], at: usize) -> Name
+pub fn kurgashel_name(message: &[u8], at: usize) -> Name
     ensures { result ≡ name_of (name_at message.now at) }
 {
     let expanded = wire::names::expand(message, at);
@@ -97,8 +94,7 @@ pub extern "C" fn kurgashel_name(message: &[u8], at: usize) -> Name
 }
 
 // Writes the name at an offset, uncompressed, over the first bytes of a buffer; the others stay. Nothing is written where it is malformed or longer.
-#[unsafe(no_mangle)]
-pub extern "C" fn kurgashel_name_into(message: &[u8], at: usize, out: &mut [u8]) -> NameSpan
+pub fn kurgashel_name_into(message: &[u8], at: usize, out: &mut [u8]) -> NameSpan
     ensures answer { result ≡ span_within (length out.old) (name_at message.now at) }
     ensures bytes { out.new ≡ with_name out.old (name_at message.now at) }
 {
@@ -130,8 +126,7 @@ pub extern "C" fn kurgashel_name_into(message: &[u8], at: usize, out: &mut [u8])
 }
 
 // Where the parts of a message lie, or its refusal: 4, 5 or 6.
-#[unsafe(no_mangle)]
-pub extern "C" fn kurgashel_message(message: &[u8]) -> Sections
+pub fn kurgashel_message(message: &[u8]) -> Sections
     ensures { result ≡ sections_of (read_of (message_at message.now)) }
 {
     match wire::message::read_message(message) {

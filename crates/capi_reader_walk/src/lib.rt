@@ -105,8 +105,7 @@ pub struct Text {
 }
 
 // The question at an offset.
-#[unsafe(no_mangle)]
-pub extern "C" fn kurgashel_question(message: &[u8], at: usize) -> Question
+pub fn kurgashel_question(message: &[u8], at: usize) -> Question
     ensures { result ≡ walked_question (question_read message.now at) }
 {
     match wire::message::question_at(message, at) {
@@ -134,8 +133,7 @@ pub extern "C" fn kurgashel_question(message: &[u8], at: usize) -> Question
 }
 
 // The record at an offset. Of a message that is not refused the rdata is as its type asks.
-#[unsafe(no_mangle)]
-pub extern "C" fn kurgashel_record(message: &[u8], at: usize) -> Record
+pub fn kurgashel_record(message: &[u8], at: usize) -> Record
     ensures { result ≡ walked_record (record_read message.now at) }
 {
     match wire::message::record_at(message, at) {
@@ -169,8 +167,7 @@ pub extern "C" fn kurgashel_record(message: &[u8], at: usize) -> Record
 }
 
 // What stands behind the owner of a record, which ends at an offset. The owner is not read, so that one that was read is not followed again.
-#[unsafe(no_mangle)]
-pub extern "C" fn kurgashel_fields(message: &[u8], end: usize) -> Fields
+pub fn kurgashel_fields(message: &[u8], end: usize) -> Fields
     ensures { result ≡ fields_at message.now end }
 {
     if message.len() < end {
@@ -220,8 +217,7 @@ pub extern "C" fn kurgashel_fields(message: &[u8], end: usize) -> Fields
 }
 
 // The address in the rdata of a type, which lies in a part of the message.
-#[unsafe(no_mangle)]
-pub extern "C" fn kurgashel_address(message: &[u8], rtype: u16, at: usize, len: usize) -> Address
+pub fn kurgashel_address(message: &[u8], rtype: u16, at: usize, len: usize) -> Address
     ensures { result ≡ address_of (address_at message.now rtype at len) }
 {
     let d = wire::rdata::part(message, at, len);
@@ -238,8 +234,7 @@ pub extern "C" fn kurgashel_address(message: &[u8], rtype: u16, at: usize, len: 
 }
 
 // The SRV in the rdata that lies in a part of the message.
-#[unsafe(no_mangle)]
-pub extern "C" fn kurgashel_srv(message: &[u8], at: usize, len: usize) -> Srv
+pub fn kurgashel_srv(message: &[u8], at: usize, len: usize) -> Srv
     ensures { result ≡ srv_of (srv_at message.now at len) }
 {
     let d = wire::rdata::part(message, at, len);
@@ -280,8 +275,7 @@ pub extern "C" fn kurgashel_srv(message: &[u8], at: usize, len: usize) -> Srv
 }
 
 // The NSEC of the restricted kind in the rdata that lies in a part of the message, for a record whose owner stands at an offset.
-#[unsafe(no_mangle)]
-pub extern "C" fn kurgashel_nsec(message: &[u8], owner: usize, at: usize, len: usize) -> Nsec
+pub fn kurgashel_nsec(message: &[u8], owner: usize, at: usize, len: usize) -> Nsec
     ensures { result ≡ nsec_at message.now owner at len }
 {
     let d = wire::rdata::part(message, at, len);
@@ -331,16 +325,14 @@ pub extern "C" fn kurgashel_nsec(message: &[u8], owner: usize, at: usize, len: u
 }
 
 // Whether a window block says that its name has records of a type.
-#[unsafe(no_mangle)]
-pub extern "C" fn kurgashel_nsec_names(block: &[u8], rtype: u16) -> bool
+pub fn kurgashel_nsec_names(block: &[u8], rtype: u16) -> bool
     ensures { result ≡ names rtype block.now }
 {
     wire::nsec::names_type(block, rtype)
 }
 
 // The string at a place of a TXT: none from its end on, and refusal 6 for one that runs past it.
-#[unsafe(no_mangle)]
-pub extern "C" fn kurgashel_txt_string(txt: &[u8], at: usize) -> Text
+pub fn kurgashel_txt_string(txt: &[u8], at: usize) -> Text
     ensures { result ≡ string_of (string_at txt.now at) }
 {
     match wire::rdata::string_at(txt, at) {

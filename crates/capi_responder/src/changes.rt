@@ -35,8 +35,7 @@ fn put_txt(state: &mut [u8], txt: &[u8])
 }
 
 // Ends a responder: writes the goodbye of what it holds, and leaves both claims lost.
-#[unsafe(no_mangle)]
-pub extern "C" fn kurgashel_stop(state: &mut [u8], time: u64, out: &mut [u8]) -> Called
+pub fn kurgashel_stop(state: &mut [u8], time: u64, out: &mut [u8]) -> Called
     ensures { (let t : Tick = record { time = time; room = length out.old } in
         Calls state.old (stopped t) out.old result state.new out.new) }
 {
@@ -52,13 +51,7 @@ pub extern "C" fn kurgashel_stop(state: &mut [u8], time: u64, out: &mut [u8]) ->
 }
 
 // Changes the port of the SRV record, and writes its announcement where the instance's name is held.
-#[unsafe(no_mangle)]
-pub extern "C" fn kurgashel_update_port(
-    state: &mut [u8],
-    time: u64,
-    port: u16,
-    out: &mut [u8],
-) -> Called
+pub fn kurgashel_update_port(state: &mut [u8], time: u64, port: u16, out: &mut [u8]) -> Called
     ensures { (let u : Update = record { time = time; room = length out.old; new = new_port port } in
         Calls state.old (updated u) out.old result state.new out.new) }
 {
@@ -75,13 +68,7 @@ pub extern "C" fn kurgashel_update_port(
 }
 
 // Changes the TXT record, and writes its announcement where the instance's name is held.
-#[unsafe(no_mangle)]
-pub extern "C" fn kurgashel_update_txt(
-    state: &mut [u8],
-    time: u64,
-    txt: &[u8],
-    out: &mut [u8],
-) -> Called
+pub fn kurgashel_update_txt(state: &mut [u8], time: u64, txt: &[u8], out: &mut [u8]) -> Called
     ensures { (let u : Update = record { time = time; room = length out.old; new = new_txt txt.now } in
         Calls state.old (updated u) out.old result state.new out.new) }
 {

@@ -90,8 +90,7 @@ fn setup_for(setup: &[u8], room: usize) -> Setup
 }
 
 // Begins a responder in lent bytes, with the bytes of a set-up.
-#[unsafe(no_mangle)]
-pub extern "C" fn kurgashel_start(state: &mut [u8], setup: &[u8], time: u64, draw: u64) -> Called
+pub fn kurgashel_start(state: &mut [u8], setup: &[u8], time: u64, draw: u64) -> Called
     ensures { Starts state.old setup.now time draw result state.new }
 {
     let begun = responder::start(setup_for(setup, state.len()), time, draw);
@@ -108,8 +107,7 @@ pub extern "C" fn kurgashel_start(state: &mut [u8], setup: &[u8], time: u64, dra
 
 // Takes a packet that came from an address (16 bytes, or the 4 of IPv4) and a port, with the draws for a PTR reply and for a query that is held, and writes the
 // answers that go out at once: to `out` those to all, to `unicast` those to the asker.
-#[unsafe(no_mangle)]
-pub extern "C" fn kurgashel_receive(
+pub fn kurgashel_receive(
     state: &mut [u8],
     time: u64,
     from: &[u8],
@@ -149,8 +147,7 @@ pub extern "C" fn kurgashel_receive(
 }
 
 // Walks the due steps, and writes the packet of the first that sends.
-#[unsafe(no_mangle)]
-pub extern "C" fn kurgashel_tick(state: &mut [u8], time: u64, out: &mut [u8]) -> Called
+pub fn kurgashel_tick(state: &mut [u8], time: u64, out: &mut [u8]) -> Called
     ensures { (let t : Tick = record { time = time; room = length out.old } in
         Calls state.old (ticked t) out.old result state.new out.new) }
 {

@@ -14,8 +14,7 @@ pub struct NextStep {
 }
 
 // The state of a claim: 0 waiting, 1 probing, 2 deferred, 3 held, 4 lost; of the instance's where `claim` is 0, else of the host's.
-#[unsafe(no_mangle)]
-pub extern "C" fn kurgashel_claim(state: &[u8], claim: u8) -> u8
+pub fn kurgashel_claim(state: &[u8], claim: u8) -> u8
     ensures { result ≡ claim_number state.now claim }
 {
     let progress = crate::codec::read_progress(state);
@@ -28,8 +27,7 @@ pub extern "C" fn kurgashel_claim(state: &[u8], claim: u8) -> u8
 }
 
 // When the next step is due: until then a tick sends nothing.
-#[unsafe(no_mangle)]
-pub extern "C" fn kurgashel_due(state: &[u8]) -> NextStep
+pub fn kurgashel_due(state: &[u8]) -> NextStep
     ensures { result ≡ next_step state.now }
 {
     let progress = crate::codec::read_progress(state);

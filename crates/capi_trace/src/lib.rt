@@ -133,8 +133,7 @@ fn no_event(refusal: u8, at: usize) -> TraceEvent
 }
 
 // The event at an offset, which is the trace's start or the offset behind another event.
-#[unsafe(no_mangle)]
-pub extern "C" fn kurgashel_trace_next(trace: &[u8], at: usize) -> TraceEvent
+pub fn kurgashel_trace_next(trace: &[u8], at: usize) -> TraceEvent
     ensures { result ≡ step_of at (step_at trace.now at) }
 {
     match trace::reading::next(trace, at) {
@@ -148,12 +147,7 @@ pub extern "C" fn kurgashel_trace_next(trace: &[u8], at: usize) -> TraceEvent
 }
 
 // Lays the bytes that the event at an offset brings over the start of a buffer, as far as it goes, and tells how many they are.
-#[unsafe(no_mangle)]
-pub extern "C" fn kurgashel_trace_bytes<'t, 'o>(
-    trace: &'t [u8],
-    at: usize,
-    out: &'o mut [u8],
-) -> usize
+pub fn kurgashel_trace_bytes<'t, 'o>(trace: &'t [u8], at: usize, out: &'o mut [u8]) -> usize
     ensures length { result ≡ length (data_at trace.now at) }
     ensures out { out.new ≡ sets out.old 0 (data_at trace.now at) }
 {
@@ -161,8 +155,7 @@ pub extern "C" fn kurgashel_trace_bytes<'t, 'o>(
 }
 
 // Whether a whole trace is read.
-#[unsafe(no_mangle)]
-pub extern "C" fn kurgashel_trace_check(trace: &[u8]) -> TraceAnswer
+pub fn kurgashel_trace_check(trace: &[u8]) -> TraceAnswer
     ensures { result ≡ checked_of (check_of trace.now) (length trace.now) }
 {
     match trace::reading::check(trace) {
@@ -233,8 +226,7 @@ fn written_of(w: Written) -> TraceAnswer
 }
 
 // Writes the event of a kind with its numbers, and the bytes of a packet or of TXT, into a buffer from an offset on. A kind that there is not is refused as 12.
-#[unsafe(no_mangle)]
-pub extern "C" fn kurgashel_trace_write<'o, 'b>(
+pub fn kurgashel_trace_write<'o, 'b>(
     out: &'o mut [u8],
     at: usize,
     kind: u8,

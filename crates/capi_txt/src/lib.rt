@@ -75,12 +75,7 @@ fn pair_of(answer: Answer) -> Pair
 }
 
 // Looks a key up in the TXT that was received and, when it is absent there, in the factory TXT.
-#[unsafe(no_mangle)]
-pub extern "C" fn kurgashel_txt_lookup<'k, 'a>(
-    key: &'k [u8],
-    received: &'a [u8],
-    factory: &'a [u8],
-) -> Pair
+pub fn kurgashel_txt_lookup<'k, 'a>(key: &'k [u8], received: &'a [u8], factory: &'a [u8]) -> Pair
     ensures { result ≡ pair_of (lookup_of key.now received.now factory.now) }
 {
     let answer = txt::answer_for(key, received, factory);
