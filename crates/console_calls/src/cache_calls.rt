@@ -33,19 +33,19 @@ pub fn at_first() -> Table
 }
 
 // The answer `cached TURNED PASSED`.
-fn cached(numbers: TakenNumbers, text: &mut [u8; 4096]) {
-    let used = first(text, b"cached");
-    let used = crate::output::number(text, used, numbers.turned as u64);
-    let used = crate::output::number(text, used, numbers.passed as u64);
-    finish(text, used);
+fn cached(numbers: TakenNumbers, rt: &impl Print, text: &mut [u8; 4096]) {
+    let used = first(rt, text, b"cached");
+    let used = crate::output::number(rt, text, used, numbers.turned as u64);
+    let used = crate::output::number(rt, text, used, numbers.passed as u64);
+    finish(rt, text, used);
 }
 
 // The answer for a message.
-fn taken(numbers: TakenNumbers, text: &mut [u8; 4096]) {
+fn taken(numbers: TakenNumbers, rt: &impl Print, text: &mut [u8; 4096]) {
     if numbers.refusal != 0 {
-        return refused(text, numbers.refusal as u64);
+        return refused(rt, text, numbers.refusal as u64);
     }
-    cached(numbers, text)
+    cached(numbers, rt, text)
 }
 
 // Whether a line is of the form `put NOW PORT PACKET`.
@@ -65,12 +65,12 @@ fn is_put(line: &[u8]) -> bool
 }
 
 // `put NOW PORT PACKET`: the table after it. A port that is too great is no 5353, as 0 is none.
-fn put(line: &[u8], table: Table, store: &mut [u8], text: &mut [u8; 4096]) -> Table
+fn put(line: &[u8], table: Table, store: &mut [u8], rt: &impl Print, text: &mut [u8; 4096]) -> Table
     ensures table { result ≡ (after_put line.now table store.old).table }
     ensures store { store.new ≡ (after_put line.now table store.old).store }
 {
     if !is_put(line) {
-        bad_line(text);
+        bad_line(rt, text);
         return table;
     }
     let time = number(line, 1);
@@ -85,36 +85,48 @@ fn put(line: &[u8], table: Table, store: &mut [u8], text: &mut [u8; 4096]) -> Ta
         console_text::lines::front(&packet, n),
     );
     let numbers = after.numbers;
-    taken(numbers, text);
+    taken(numbers, rt, text);
     after.table
 }
 
 // The answer `slot K RECEIVED EXPIRY OWNER LABELS FIRST RDATA`, of what was found, its entry and the bytes of its slot.
-fn found(numbers: LookedNumbers, e: Entry, slot: &[u8], text: &mut [u8; 4096]) {
-    let used = first(text, b"slot");
-    let used = crate::output::number(text, used, numbers.slot as u64);
-    let used = crate::output::number(text, used, e.received);
-    let used = crate::output::number(text, used, e.expiry);
-    let used = bytes(text, used, wire::rdata::part(slot, 0, e.owner as usize));
-    let used = crate::output::number(text, used, numbers.name_labels as u64);
-    let used = crate::output::number(text, used, numbers.name_first_label as u64);
-    let used = bytes(text, used, wire::rdata::part(slot, 256, e.rdata as usize));
-    finish(text, used);
+fn found(numbers: LookedNumbers, e: Entry, slot: &[u8], rt: &impl Print, text: &mut [u8; 4096]) {
+    let used = first(rt, text, b"slot");
+    let used = crate::output::number(rt, text, used, numbers.slot as u64);
+    let used = crate::output::number(rt, text, used, e.received);
+    let used = crate::output::number(rt, text, used, e.expiry);
+    let used = bytes(rt, text, used, wire::rdata::part(slot, 0, e.owner as usize));
+    let used = crate::output::number(rt, text, used, numbers.name_labels as u64);
+    let used = crate::output::number(rt, text, used, numbers.name_first_label as u64);
+    let used = bytes(
+        rt,
+        text,
+        used,
+        wire::rdata::part(slot, 256, e.rdata as usize),
+    );
+    finish(rt, text, used);
 }
 
 // The answer for a name and a type.
-fn looked(numbers: LookedNumbers, table: Table, store: &[u8], text: &mut [u8; 4096]) {
+fn looked(
+    numbers: LookedNumbers,
+    table: Table,
+    store: &[u8],
+    rt: &impl Print,
+    text: &mut [u8; 4096],
+) {
     if numbers.refusal != 0 {
-        return refused(text, numbers.refusal as u64);
+        return refused(rt, text, numbers.refusal as u64);
     }
     if !numbers.found {
-        return only(text, b"none");
+        return only(rt, text, b"none");
     }
     let k = numbers.slot;
     found(
         numbers,
         console_table::entry_at(table, k),
         cache::entries::slot_of(store, k),
+        rt,
         text,
     )
 }
@@ -145,9 +157,9 @@ fn from(line: &[u8]) -> usize {
 }
 
 // `look NOW NAME TYPE FROM`
-fn look(line: &[u8], table: Table, store: &[u8], text: &mut [u8; 4096]) {
+fn look(line: &[u8], table: Table, store: &[u8], rt: &impl Print, text: &mut [u8; 4096]) {
     if !is_look(line) {
-        return bad_line(text);
+        return bad_line(rt, text);
     }
     let time = number(line, 1);
     let mut name = [0u8; 20000];
@@ -161,21 +173,21 @@ fn look(line: &[u8], table: Table, store: &[u8], text: &mut [u8; 4096]) {
         rtype,
         from(line),
     );
-    looked(numbers, table, store, text)
+    looked(numbers, table, store, rt, text)
 }
 
 // The answer `slot K TYPE OWNERLEN RDATALEN RECEIVED EXPIRY TTL BYTES`, of an entry and the bytes of its slot.
-fn whole(k: usize, e: Entry, slot: &[u8], text: &mut [u8; 4096]) {
-    let used = first(text, b"slot");
-    let used = crate::output::number(text, used, k as u64);
-    let used = crate::output::number(text, used, e.rtype as u64);
-    let used = crate::output::number(text, used, e.owner as u64);
-    let used = crate::output::number(text, used, e.rdata as u64);
-    let used = crate::output::number(text, used, e.received);
-    let used = crate::output::number(text, used, e.expiry);
-    let used = crate::output::number(text, used, e.ttl);
-    let used = bytes(text, used, slot);
-    finish(text, used);
+fn whole(k: usize, e: Entry, slot: &[u8], rt: &impl Print, text: &mut [u8; 4096]) {
+    let used = first(rt, text, b"slot");
+    let used = crate::output::number(rt, text, used, k as u64);
+    let used = crate::output::number(rt, text, used, e.rtype as u64);
+    let used = crate::output::number(rt, text, used, e.owner as u64);
+    let used = crate::output::number(rt, text, used, e.rdata as u64);
+    let used = crate::output::number(rt, text, used, e.received);
+    let used = crate::output::number(rt, text, used, e.expiry);
+    let used = crate::output::number(rt, text, used, e.ttl);
+    let used = bytes(rt, text, used, slot);
+    finish(rt, text, used);
 }
 
 // Whether a line is of the form `slot K`, of an entry that the table has and a slot that its store has.
@@ -194,15 +206,16 @@ fn is_slot(line: &[u8], table: Table) -> bool {
 }
 
 // `slot K`
-fn slot(line: &[u8], table: Table, store: &[u8], text: &mut [u8; 4096]) {
+fn slot(line: &[u8], table: Table, store: &[u8], rt: &impl Print, text: &mut [u8; 4096]) {
     if !is_slot(line, table) {
-        return bad_line(text);
+        return bad_line(rt, text);
     }
     let k = number(line, 1) as usize;
     whole(
         k,
         console_table::entry_at(table, k),
         cache::entries::slot_of(store, k),
+        rt,
         text,
     )
 }
@@ -219,16 +232,22 @@ fn wipe(store: &mut [u8])
 }
 
 // `clear`: the table after it, as large as it was.
-fn clear(line: &[u8], table: Table, store: &mut [u8], text: &mut [u8; 4096]) -> Table
+fn clear(
+    line: &[u8],
+    table: Table,
+    store: &mut [u8],
+    rt: &impl Print,
+    text: &mut [u8; 4096],
+) -> Table
     ensures table { result ≡ (after_clear line.now table store.old).table }
     ensures store { store.new ≡ (after_clear line.now table store.old).store }
 {
     if !has_arguments(line, 0) {
-        bad_line(text);
+        bad_line(rt, text);
         return table;
     }
     wipe(store);
-    only(text, b"cleared");
+    only(rt, text, b"cleared");
     console_table::zeros(table.count, table.room)
 }
 
@@ -266,18 +285,24 @@ fn room_told(line: &[u8]) -> usize
 }
 
 // `table N` or `table N STORE`: the table after it.
-fn make_table(line: &[u8], table: Table, store: &mut [u8], text: &mut [u8; 4096]) -> Table
+fn make_table(
+    line: &[u8],
+    table: Table,
+    store: &mut [u8],
+    rt: &impl Print,
+    text: &mut [u8; 4096],
+) -> Table
     ensures table { result ≡ (after_table line.now table store.old).table }
     ensures store { store.new ≡ (after_table line.now table store.old).store }
 {
     if !is_table(line) {
-        bad_line(text);
+        bad_line(rt, text);
         return table;
     }
     let count = number(line, 1) as usize;
     let room = room_told(line);
     wipe(store);
-    only(text, b"table");
+    only(rt, text, b"table");
     console_table::zeros(count, room)
 }
 
@@ -301,28 +326,34 @@ pub fn is_call(word: &[u8]) -> bool
 }
 
 // Answers one of these calls, and tells the table after it. Any other line is a bad one.
-pub fn call(line: &[u8], table: Table, store: &mut [u8], text: &mut [u8; 4096]) -> Table
+pub fn call(
+    line: &[u8],
+    table: Table,
+    store: &mut [u8],
+    rt: &impl Print,
+    text: &mut [u8; 4096],
+) -> Table
     ensures table { result ≡ (cache_after line.now table store.old).table }
     ensures store { store.new ≡ (cache_after line.now table store.old).store }
 {
     let word = console_text::lines::field(line, 0);
     if wire::expansion::same_bytes(word, b"put") {
-        return put(line, table, store, text);
+        return put(line, table, store, rt, text);
     }
     if wire::expansion::same_bytes(word, b"clear") {
-        return clear(line, table, store, text);
+        return clear(line, table, store, rt, text);
     }
     if wire::expansion::same_bytes(word, b"table") {
-        return make_table(line, table, store, text);
+        return make_table(line, table, store, rt, text);
     }
     if wire::expansion::same_bytes(word, b"look") {
-        look(line, table, store, text);
+        look(line, table, store, rt, text);
         return table;
     }
     if wire::expansion::same_bytes(word, b"slot") {
-        slot(line, table, store, text);
+        slot(line, table, store, rt, text);
         return table;
     }
-    bad_line(text);
+    bad_line(rt, text);
     table
 }

@@ -6,13 +6,13 @@ mod reading;
 use crate::output::bad_line;
 
 // Answers one of these calls. Any other line is a bad one.
-pub fn call(line: &[u8], text: &mut [u8; 4096]) {
+pub fn call(line: &[u8], rt: &impl Print, text: &mut [u8; 4096]) {
     let word = console_text::lines::field(line, 0);
     if wire::expansion::same_bytes(word, b"read") {
-        return reading::read(line, text);
+        return reading::read(line, rt, text);
     }
     if wire::expansion::same_bytes(word, b"txt") {
-        return pairs::txt(line, text);
+        return pairs::txt(line, rt, text);
     }
-    bad_line(text)
+    bad_line(rt, text)
 }

@@ -2,32 +2,38 @@
 use crate::output::{bad_line, bytes, finish, first, number, only, refused, word};
 
 // The answer `value BUFFER AT VALUE`: the place counts from the first byte of the buffer that held the value.
-fn value(buffer: &[u8], at: usize, part: &[u8], text: &mut [u8; 4096]) {
-    let used = first(text, b"value");
-    let used = word(text, used, buffer);
-    let used = number(text, used, at as u64);
-    let used = bytes(text, used, part);
-    finish(text, used);
+fn value(buffer: &[u8], at: usize, part: &[u8], rt: &impl Print, text: &mut [u8; 4096]) {
+    let used = first(rt, text, b"value");
+    let used = word(rt, text, used, buffer);
+    let used = number(rt, text, used, at as u64);
+    let used = bytes(rt, text, used, part);
+    finish(rt, text, used);
 }
 
 // The answer for a value that lies in one of the two buffers.
-fn held(h: txt::Held, part: &[u8], text: &mut [u8; 4096]) {
+fn held(h: txt::Held, part: &[u8], rt: &impl Print, text: &mut [u8; 4096]) {
     let buffer = h.buffer;
     match buffer {
-        txt::Buffer::Received => value(b"received", h.at, part, text),
-        txt::Buffer::Factory => value(b"factory", h.at, part, text),
+        txt::Buffer::Received => value(b"received", h.at, part, rt, text),
+        txt::Buffer::Factory => value(b"factory", h.at, part, rt, text),
     }
 }
 
 // The answer for a key.
-fn shown<'a>(key: &[u8], received: &'a [u8], factory: &'a [u8], text: &mut [u8; 4096]) {
+fn shown<'a>(
+    key: &[u8],
+    received: &'a [u8],
+    factory: &'a [u8],
+    rt: &impl Print,
+    text: &mut [u8; 4096],
+) {
     let answer = txt::answer_for(key, received, factory);
     match answer {
-        txt::Answer::Refused(n) => refused(text, n as u64),
-        txt::Answer::Absent => only(text, b"absent"),
-        txt::Answer::Present => only(text, b"present"),
-        txt::Answer::Empty => only(text, b"empty"),
-        txt::Answer::Value(h) => held(h, txt::part_of(answer, received, factory), text),
+        txt::Answer::Refused(n) => refused(rt, text, n as u64),
+        txt::Answer::Absent => only(rt, text, b"absent"),
+        txt::Answer::Present => only(rt, text, b"present"),
+        txt::Answer::Empty => only(rt, text, b"empty"),
+        txt::Answer::Value(h) => held(h, txt::part_of(answer, received, factory), rt, text),
     }
 }
 
@@ -46,9 +52,9 @@ fn is_txt(line: &[u8]) -> bool {
 }
 
 // `txt KEY RECEIVED FACTORY`
-pub fn txt(line: &[u8], text: &mut [u8; 4096]) {
+pub fn txt(line: &[u8], rt: &impl Print, text: &mut [u8; 4096]) {
     if !is_txt(line) {
-        return bad_line(text);
+        return bad_line(rt, text);
     }
     let mut key = [0u8; 20000];
     let k = console_text::hex::fill(console_text::lines::field(line, 1), &mut key);
@@ -60,6 +66,7 @@ pub fn txt(line: &[u8], text: &mut [u8; 4096]) {
         console_text::lines::front(&key, k),
         console_text::lines::front(&received, r),
         console_text::lines::front(&factory, f),
+        rt,
         text,
     )
 }

@@ -2,12 +2,13 @@
 use crate::output::{bad_line, bytes, finish, first, number, refused, word};
 
 // Adds the name at an offset of a packet, uncompressed.
-fn name(p: &[u8], at: usize, text: &mut [u8; 4096], used: usize) -> usize {
+fn name(p: &[u8], at: usize, rt: &impl Print, text: &mut [u8; 4096], used: usize) -> usize {
     let e = wire::names::expand(p, at);
     let found = e.name;
     let b = e.bytes;
     match found {
         wire::names::Name::Found(span) => bytes(
+            rt,
             text,
             used,
             console_text::lines::front(&b, span.len),
@@ -17,37 +18,55 @@ fn name(p: &[u8], at: usize, text: &mut [u8; 4096], used: usize) -> usize {
 }
 
 // Adds the two numbers of a name: how many labels it has, and how long the first is.
-fn numbers(span: wire::names::Span, text: &mut [u8; 4096], used: usize) -> usize {
-    let used = number(text, used, span.labels as u64);
-    number(text, used, span.first as u64)
+fn numbers(span: wire::names::Span, rt: &impl Print, text: &mut [u8; 4096], used: usize) -> usize {
+    let used = number(rt, text, used, span.labels as u64);
+    number(rt, text, used, span.first as u64)
 }
 
 // Adds a question: ` q NAME LABELS FIRST TYPE CLASS`.
-fn question(p: &[u8], q: wire::message::QuestionAt, text: &mut [u8; 4096], used: usize) -> usize {
-    let used = word(text, used, b"q");
-    let used = name(p, q.name, text, used);
-    let used = numbers(q.span, text, used);
-    let used = number(text, used, q.rtype as u64);
-    number(text, used, q.class as u64)
+fn question(
+    p: &[u8],
+    q: wire::message::QuestionAt,
+    rt: &impl Print,
+    text: &mut [u8; 4096],
+    used: usize,
+) -> usize {
+    let used = word(rt, text, used, b"q");
+    let used = name(p, q.name, rt, text, used);
+    let used = numbers(q.span, rt, text, used);
+    let used = number(rt, text, used, q.rtype as u64);
+    number(rt, text, used, q.class as u64)
 }
 
 // Adds the rdata of a record, the name in PTR, SRV and NSEC expanded.
-fn rdata(p: &[u8], r: wire::message::RecordAt, text: &mut [u8; 4096], used: usize) -> usize {
+fn rdata(
+    p: &[u8],
+    r: wire::message::RecordAt,
+    rt: &impl Print,
+    text: &mut [u8; 4096],
+    used: usize,
+) -> usize {
     let opened = wire::expansion::open(p, r);
     let b = opened.bytes;
     let n = opened.len;
-    bytes(text, used, wire::expansion::view(p, &b, n, r))
+    bytes(rt, text, used, wire::expansion::view(p, &b, n, r))
 }
 
 // Adds the two numbers of the name in rdata that holds one, as that of PTR, SRV and an NSEC of the restricted kind does.
-fn target(p: &[u8], r: wire::message::RecordAt, text: &mut [u8; 4096], used: usize) -> usize {
+fn target(
+    p: &[u8],
+    r: wire::message::RecordAt,
+    rt: &impl Print,
+    text: &mut [u8; 4096],
+    used: usize,
+) -> usize {
     let d = wire::rdata::part(p, r.rdata, r.rdlength);
     let held = wire::rdata::form_in(p, r, d);
     if !held.named {
         return used;
     }
     match wire::rdata::name_in(p, r.rdata, d, held.before, held.behind) {
-        wire::names::Name::Found(span) => numbers(span, text, used),
+        wire::names::Name::Found(span) => numbers(span, rt, text, used),
         wire::names::Name::Malformed => used,
     }
 }
@@ -57,29 +76,36 @@ fn record(
     p: &[u8],
     r: wire::message::RecordAt,
     section: &[u8],
+    rt: &impl Print,
     text: &mut [u8; 4096],
     used: usize,
 ) -> usize {
-    let used = word(text, used, b"r");
-    let used = word(text, used, section);
-    let used = name(p, r.owner, text, used);
-    let used = numbers(r.span, text, used);
-    let used = number(text, used, r.rtype as u64);
-    let used = number(text, used, r.class as u64);
-    let used = number(text, used, r.ttl as u64);
-    let used = rdata(p, r, text, used);
-    target(p, r, text, used)
+    let used = word(rt, text, used, b"r");
+    let used = word(rt, text, used, section);
+    let used = name(p, r.owner, rt, text, used);
+    let used = numbers(r.span, rt, text, used);
+    let used = number(rt, text, used, r.rtype as u64);
+    let used = number(rt, text, used, r.class as u64);
+    let used = number(rt, text, used, r.ttl as u64);
+    let used = rdata(p, r, rt, text, used);
+    target(p, r, rt, text, used)
 }
 
 // Adds the questions of a message.
-fn questions(p: &[u8], s: wire::message::Section, text: &mut [u8; 4096], used: usize) -> usize {
+fn questions(
+    p: &[u8],
+    s: wire::message::Section,
+    rt: &impl Print,
+    text: &mut [u8; 4096],
+    used: usize,
+) -> usize {
     let mut taken = used;
     let mut at = s.at;
     let mut left = s.count;
     while 0 < left {
         match wire::message::question_at(p, at) {
             wire::message::QuestionRead::Found(q) => {
-                taken = question(p, q, text, taken);
+                taken = question(p, q, rt, text, taken);
                 at = q.next;
             }
             wire::message::QuestionRead::Malformed => {
@@ -96,6 +122,7 @@ fn records(
     p: &[u8],
     s: wire::message::Section,
     section: &[u8],
+    rt: &impl Print,
     text: &mut [u8; 4096],
     used: usize,
 ) -> usize {
@@ -105,7 +132,7 @@ fn records(
     while 0 < left {
         match wire::message::record_at(p, at) {
             wire::message::RecordRead::Found(r) => {
-                taken = record(p, r, section, text, taken);
+                taken = record(p, r, section, rt, text, taken);
                 at = r.next;
             }
             wire::message::RecordRead::Malformed => {
@@ -118,22 +145,22 @@ fn records(
 }
 
 // The answer for a message that is well formed.
-fn message(p: &[u8], m: wire::message::Layout, text: &mut [u8; 4096]) {
-    let used = first(text, b"message");
-    let used = number(text, used, m.id as u64);
-    let used = number(text, used, m.flags as u64);
-    let used = questions(p, m.questions, text, used);
-    let used = records(p, m.answers, b"an", text, used);
-    let used = records(p, m.authorities, b"ns", text, used);
-    let used = records(p, m.additionals, b"ar", text, used);
-    finish(text, used);
+fn message(p: &[u8], m: wire::message::Layout, rt: &impl Print, text: &mut [u8; 4096]) {
+    let used = first(rt, text, b"message");
+    let used = number(rt, text, used, m.id as u64);
+    let used = number(rt, text, used, m.flags as u64);
+    let used = questions(p, m.questions, rt, text, used);
+    let used = records(p, m.answers, b"an", rt, text, used);
+    let used = records(p, m.authorities, b"ns", rt, text, used);
+    let used = records(p, m.additionals, b"ar", rt, text, used);
+    finish(rt, text, used);
 }
 
 // The answer for a packet.
-fn shown(p: &[u8], text: &mut [u8; 4096]) {
+fn shown(p: &[u8], rt: &impl Print, text: &mut [u8; 4096]) {
     match wire::message::read_message(p) {
-        wire::message::MessageRead::Read(m) => message(p, m, text),
-        wire::message::MessageRead::Refused(n) => refused(text, n as u64),
+        wire::message::MessageRead::Read(m) => message(p, m, rt, text),
+        wire::message::MessageRead::Refused(n) => refused(rt, text, n as u64),
     }
 }
 
@@ -146,11 +173,11 @@ fn is_read(line: &[u8]) -> bool {
 }
 
 // `read PACKET`
-pub fn read(line: &[u8], text: &mut [u8; 4096]) {
+pub fn read(line: &[u8], rt: &impl Print, text: &mut [u8; 4096]) {
     if !is_read(line) {
-        return bad_line(text);
+        return bad_line(rt, text);
     }
     let mut packet = [0u8; 20000];
     let n = console_text::hex::fill(console_text::lines::field(line, 1), &mut packet);
-    shown(console_text::lines::front(&packet, n), text)
+    shown(console_text::lines::front(&packet, n), rt, text)
 }
