@@ -2,7 +2,7 @@
 use mathlib.Core.Path.{◌≡◌, refl, sym, ap, ◌∙◌}
 use mathlib.Core.Bool.{Bool, true, false, cond, not, ◌||◌}
 use mathlib.Core.List.{List}
-use Prim.Native.Nat.{ℕ, ◌*◌, ◌≤◌, ◌<◌, ◌^◌}
+use Prim.Native.Nat.{ℕ, ◌*◌, ◌≤◌}
 use native.Mathlib.Omega.{arith}
 use lib.ListN.{length}
 use lib.Dec.{ltb, eqb}
@@ -27,13 +27,6 @@ use Rattle.browser.specs.Steps.{tick_refusal_with, look_refusal_with, refused_du
 abbrev chain : Bool → Bool → Bool → Bool → ℕ
 chain p q r s = cond p 1 (cond q 3 (cond r 8 (cond s 7 0)))
 
-small : (p q r s : Bool) → chain p q r s < 2 ^ 8
-small true q r s = omega arith
-small false true r s = omega arith
-small false false true s = omega arith
-small false false false true = omega arith
-small false false false false = omega arith
-
 passed : (p q r s : Bool) → chain p q r s ≡ 0 → (p ≡ false) × ((q ≡ false) × ((r ≡ false) × (s ≡ false)))
 passed true q r s e = absurd (omega arith)
 passed false true r s e = absurd (omega arith)
@@ -55,12 +48,6 @@ module _ (b : Browser) (now : ℕ) (es : List Entry) (store : List ℕ) (room : 
       go false true y = refl
       go false false true = refl
       go false false false = refl
-
-  pub tick-fits : tick_refusal_with (entries_refusal now es) (length es) (length store) b now room < 2 ^ 8
-  unfolding tick_refusal_with
-  tick-fits =
-      small (wrong_time b now || eqb (entries_refusal now es) 1) (ltb room 1452)
-      (not (eqb (entries_refusal now es) 0) || not (is_store_of (length es) (length store))) (wrong_browser b)
 
 -- what a call that is not refused has passed
 pub record Passed (b : Browser) (now : ℕ) (es : List Entry) (store : List ℕ) (room : ℕ) : Type 0 where

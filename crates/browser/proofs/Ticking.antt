@@ -4,7 +4,7 @@ use mathlib.Core.Bool.{Bool, true, false, cond, ◌||◌}
 use mathlib.Core.List.{List, [], ◌∷◌}
 use Prim.Native.Nat.{ℕ, ◌≤◌, ◌<◌}
 use native.Mathlib.Omega.{arith}
-use lib.ListN.{length, take, drop, length-append, length-drop, drop_of_length-le}
+use lib.ListN.{length, take, drop, drop_of_length-le}
 use lib.Dec.{ltb, leb, eqb}
 use borrow.Author.Tests.{lt-ltb, le-ltb, ltb-true, ltb-false, le-leb, lt-leb, ne_eqb}
 use Rattle.cache.specs.declared.entries.Entry.{Entry}
@@ -25,7 +25,7 @@ use Rattle.browser.specs.Calls.{answer_with, is_owed, is_due, resumed, asked, Tu
 use Rattle.browser.specs.Steps.{tick_refusal_with, no_slot, or_no_slot, refused_tick, sent_tick, owed_start, asked_start, ended_tick, ended_packet}
 use Rattle.browser.proofs.Refusing.{Passed, tick-number, tick-passed}
 use Rattle.browser.proofs.refresh.Due.{due-is, resumed-due, asked-due}
-use Rattle.browser.proofs.query.Drafting.{draft_packet_lem, draft_stop_lem, plan_some, packet_some, packet_most}
+use Rattle.browser.proofs.query.Drafting.{draft_packet_lem, draft_stop_lem, plan_some, packet_some}
 
 module _ (b : Browser) (now : ℕ) (es : List Entry) (store out : List ℕ) where
   abbrev number : ℕ
@@ -151,9 +151,6 @@ module _ (b : Browser) (now : ℕ) (es : List Entry) (store out : List ℕ) wher
           (sent (length (draft_packet false b store owed)) (packet_some false b passed.sound now store es (owed_start b)))
           (more_is ∙ ap (λ (x : Browser). is_due now store x es) browser_is) browser_is))
 
-      most_owed : length (ended_packet b store now next owed known) ≤ 1452
-      most_owed = let p = ap length owed_packet in let m = packet_most false b passed.sound now store es (owed_start b) in omega arith
-
     -- none are owed
     module _ (empty : known_owed now store b es b.owed ≡ []) where
       nought : owed.n ≤ 0
@@ -193,9 +190,6 @@ module _ (b : Browser) (now : ℕ) (es : List Entry) (store out : List ℕ) wher
             (answered r [] (sym (ap (λ (t : Turn). t.packet) quiet_turn)) refl
             (nothing-due ∙ ap (λ (x : Browser). is_due now store x es) (sym (ap (λ (t : Turn). t.browser) quiet_turn)))
             (sym (ap (λ (t : Turn). t.browser) quiet_turn))))
-
-        most_quiet : length (ended_packet b store now next owed known) ≤ 1452
-        most_quiet = let p = ap length quiet_packet in omega arith
 
       module _ (come : next ≤ now) where
         is-due : query_due now store b es ≡ true
@@ -254,32 +248,16 @@ module _ (b : Browser) (now : ℕ) (es : List Entry) (store out : List ℕ) wher
             (sent (length (draft_packet true b store known)) (packet_some true b passed.sound now store es start))
             (more_so ∙ ap (λ (x : Browser). is_due now store x es) browser_is) browser_is))
 
-        most_asked : length (ended_packet b store now next owed known) ≤ 1452
-        most_asked = let p = ap length asked-packet in let m = packet_most true b passed.sound now store es start in omega arith
-
     -- all three
-    both_facts : (Ticks b now es store out (ended_tick b store now next owed known) (laid_over (ended_packet b store now next owed known) out))
-        × (length (ended_packet b store now next owed known) ≤ 1452)
-    both_facts = go (known_owed now store b es b.owed) refl
+    pub tick-done : Ticks b now es store out (ended_tick b store now next owed known) (laid_over (ended_packet b store now next owed known) out)
+    tick-done = go (known_owed now store b es b.owed) refl
       where
         go : (l : List ℕ) → known_owed now store b es b.owed ≡ l
-            → (Ticks b now es store out (ended_tick b store now next owed known) (laid_over (ended_packet b store now next owed known) out))
-            × (length (ended_packet b store now next owed known) ≤ 1452)
-        go (i ∷ is) e = (done-owed i is e, most_owed i is e)
+            → Ticks b now es store out (ended_tick b store now next owed known) (laid_over (ended_packet b store now next owed known) out)
+        go (i ∷ is) e = done-owed i is e
         go [] e = split (ltb now next) refl
           where
             split : (c : Bool) → ltb now next ≡ c
-                → (Ticks b now es store out (ended_tick b store now next owed known) (laid_over (ended_packet b store now next owed known) out))
-                × (length (ended_packet b store now next owed known) ≤ 1452)
-            split true k = let l : now < next = ltb-true now next k in (done-quiet e l, most_quiet e l)
-            split false k = let l : next ≤ now = ltb-false now next k in (done-asked e l, most_asked e l)
-
-    pub tick-done : Ticks b now es store out (ended_tick b store now next owed known) (laid_over (ended_packet b store now next owed known) out)
-    tick-done = both_facts.0
-
-    pub tick-length : length (laid_over (ended_packet b store now next owed known) out) ≡ length out
-    tick-length =
-        let m = both_facts.1 in
-        let s = passed.space in
-        length-append (ended_packet b store now next owed known) (drop (length (ended_packet b store now next owed known)) out)
-        ∙ (let d = length-drop (length (ended_packet b store now next owed known)) out in omega arith)
+                → Ticks b now es store out (ended_tick b store now next owed known) (laid_over (ended_packet b store now next owed known) out)
+            split true k = let l : now < next = ltb-true now next k in done-quiet e l
+            split false k = let l : next ≤ now = ltb-false now next k in done-asked e l

@@ -1,6 +1,6 @@
 -- The bytes of a state with other data say the set-up with those data. Assumes nothing.
 use mathlib.Core.Path.{◌≡◌, refl, sym, ap, ◌∙◌}
-use mathlib.Core.Bool.{Bool, true, false, cond, not, ◌&&◌}
+use mathlib.Core.Bool.{Bool, true, false, not, ◌&&◌}
 use mathlib.Mathlib.Data.Bool.Basic.{or-eq-false-eq-eq-false-and-eq-false as neither, and-eq-true-eq-eq-true-and-eq-true as both}
 use mathlib.Core.List.{List, [], ◌∷◌, ◌++◌, append_assoc}
 use Prim.Native.Nat.{ℕ, ◌+◌, ◌-◌, ◌/◌, ◌%◌, ◌<◌, ◌≤◌}
@@ -11,8 +11,6 @@ use lib.ListN.{length, take, drop, get_or, replicate, take-append-drop, length-a
 use lib.Seq.{sets, sets-eq, length-sets, length-take-le, drop_at, drop-drop, get_or-drop}
 use Rattle.wire.specs.octets.Octets.{byte_at, word16}
 use Rattle.wire.proofs.octets.Sets.{sets-append}
-use Rattle.own.specs.declared.records.Strings.{Strings}
-use Rattle.own.specs.declared.records.Setup.{Setup}
 use Rattle.own.specs.records.Setups.{valid_setup}
 use Rattle.own.specs.changes.Changes.{NewData, new_port, new_txt, strings_of, revised, valid_data}
 use Rattle.own.proofs.changes.Revised.{revised-valid}
@@ -21,14 +19,14 @@ use Rattle.claims.specs.Refusals.{wrong_start_draw}
 use Rattle.responder.specs.Refusals.{wrong_state}
 use Rattle.responder.proofs.changes.Accepted.{update-accepted}
 use Rattle.responder.specs.declared.State.{State}
-use Rattle.responder.specs.changes.Changes.{Update, update_to, update_of, update_refusal, refusal_to}
+use Rattle.responder.specs.changes.Changes.{Update, update_to, update_of, update_refusal}
 use Rattle.responder.specs.Runs.{updated, refusal_of_call, state_after}
 use Rattle.capi_responder.specs.codec.Layout as layout
-use Rattle.capi_responder.specs.codec.Parts.{part_at, flag_at, label_at, service_at, strings_at, setup_at}
+use Rattle.capi_responder.specs.codec.Parts.{part_at, label_at, service_at, strings_at, setup_at}
 use Rattle.capi_responder.specs.codec.Codec.{bytes16, strings_bytes, decode, state_with}
 use Rattle.capi_responder.specs.Exported.{with_data}
 use Rattle.capi_responder.proofs.codec.Stands.{Stands, word16-read}
-use Rattle.capi_responder.proofs.codec.Front.{part_front, byte_front, word16-front, label-front, service-front}
+use Rattle.capi_responder.proofs.codec.Front.{part_front, word16-front, label-front, service-front}
 use Rattle.capi_responder.proofs.codec.Round.{strings-read}
 
 -- bytes laid over a part of a buffer: what stands in front of it and behind it stays

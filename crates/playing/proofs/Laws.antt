@@ -1,36 +1,28 @@
 -- What is known of an event that was read: its port is one of 16 bits, and its bytes find room. Assumes nothing.
 use mathlib.Core.Path.{◌≡◌, refl, sym, ap, ◌∙◌}
-use mathlib.Core.List.{List, [], ◌∷◌, ◌++◌}
-use mathlib.Core.Bool.{Bool, true, false, ◌&&◌}
-use types.Run.{OneOf, miss}
-use denote.Enum.Declared.{tag_of}
-use Prim.Native.Nat.{ℕ, ◌-◌, ◌≤◌, ◌<◌}
-use native.Mathlib.Omega.{arith}
-use borrow.Author.Tests.{le-leb, leb-true}
+use mathlib.Core.List.{List}
+use mathlib.Core.Bool.{true}
+use Prim.Native.Nat.{ℕ, ◌-◌, ◌≤◌}
+use borrow.Author.Tests.{le-leb}
 use lib.ListN.{length, take, drop, replicate}
 use lib.Seq.{sets, take_at}
-use lib.Dec.{leb}
 use Rattle.wire.proofs.octets.Sets.{filled}
-use Rattle.claims.specs.declared.holds.Address.{Address}
 use Rattle.responder.specs.declared.State.{State}
-use Rattle.trace.specs.reading.Reading.{pieces_of, step_at}
-use Rattle.trace.specs.reading.Events.{Occurrence, tick, packet, claim, stop, port, txt, occurrence, data_in, data_of, data_at}
+use Rattle.trace.specs.reading.Reading.{step_at}
+use Rattle.trace.specs.reading.Events.{packet, port, txt, occurrence, data_in, data_of, data_at}
 use Rattle.trace.specs.writing.Sizes.{is_wide, size_for, source_size, packet_size, can_be_written}
 use Rattle.trace.specs.declared.reading.Event.{Event}
 use Rattle.trace.specs.declared.reading.Event.TheVariants as event
 use Rattle.trace.specs.declared.reading.Entry.{Entry}
 use Rattle.trace.specs.declared.reading.Step.{Step}
-use Rattle.trace.specs.declared.reading.Step.TheVariants.{End, Found, Refused}
+use Rattle.trace.specs.declared.reading.Step.TheVariants.{Found}
 use Rattle.trace.specs.declared.writing.Size.TheVariants as size
-use Rattle.trace.specs.contracts.reading.Event.{the_type}
 use Rattle.trace.proofs.writing.Fitting.{number_fits, packet_fits}
 use Rattle.trace.proofs.Numbers.{Bytes}
 use Rattle.trace.proofs.ReadBack.{both, sized}
 use Rattle.trace.proofs.EventsWritten.{wrote}
-use Rattle.playing.specs.Playing.{port_fits, state_behind, turn_of, played_by, played_at}
-use Rattle.playing.specs.declared.Turn.{Turn}
+use Rattle.playing.specs.Playing.{port_fits, turn_of, played_by, played_at}
 use Rattle.playing.specs.declared.Turn.TheVariants as turn
-use Rattle.playing.specs.declared.Played.{Played}
 
 -- an event that can be written
 pub fits-port : (v : Event) (bytes : List ℕ) → can_be_written (occurrence v bytes) ≡ true → port_fits v ≡ true

@@ -12,7 +12,6 @@ use Rattle.trace.specs.reading.Reading.{step_at}
 use Rattle.trace.specs.reading.Events.{Occurrence, tick, packet, claim, stop, port, txt, occurrence, data_in, Reading, within, read_from, reading_of}
 use Rattle.trace.specs.declared.reading.Event.{Event}
 use Rattle.trace.specs.declared.reading.Event.TheVariants as event
-use Rattle.trace.specs.declared.reading.Entry.{Entry}
 use Rattle.trace.specs.declared.reading.Step.{Step}
 use Rattle.trace.specs.declared.reading.Step.TheVariants.{End, Found, Refused}
 use Rattle.trace.proofs.reading.Placed.{placed}

@@ -32,7 +32,7 @@ use Rattle.facts.specs.Facts.{facts_of}
 use Rattle.responder.specs.Handed.{Arrival, coming_of, Tick}
 use Rattle.responder.specs.Refusals.{small_buffer, small_buffers, wrong_state, start_refusal, receive_refusal, tick_refusal}
 use Rattle.responder.specs.Calls.{start_of, from_mdns, heard_of, receive_of, tick_of}
-use Rattle.responder.specs.changes.Changes.{ended_of, stop_of, Update, refusal_to, renewed_of, update_to, update_refusal, update_of}
+use Rattle.responder.specs.changes.Changes.{stop_of, Update, refusal_to, update_to, update_refusal, update_of}
 use Rattle.responder.specs.Runs.{Call, received, ticked, stopped, updated, refusal_of_call, state_after, run}
 use Rattle.responder.specs.declared.State.{State}
 use Rattle.responder.proofs.Refusals.{StartAccepted, ReceiveAccepted, TickAccepted, start-accepted, receive-accepted, tick-accepted, refused_keeps}

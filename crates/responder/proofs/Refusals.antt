@@ -20,7 +20,7 @@ use Rattle.responder.specs.Handed.{Arrival, Tick}
 use Rattle.responder.specs.Refusals.{small_buffer, small_buffers, wrong_state, start_refusal, receive_refusal, tick_refusal}
 use Rattle.responder.specs.Calls.{refusal_of, length_of, unicast_length_of, Destination, multicast, unicast, answer_with, answer_of, parcels, blank, start_of}
 use Rattle.responder.specs.Calls.{received_packet, unicast_packet, receive_of, ticked_packet, tick_of}
-use Rattle.responder.specs.changes.Changes.{stopped_packet, stop_of, Update, refusal_to, packet_to, update_to, update_refusal, updated_packet, update_of}
+use Rattle.responder.specs.changes.Changes.{stopped_packet, stop_of, refusal_to, packet_to, update_to, update_refusal, updated_packet, update_of}
 use Rattle.responder.specs.Runs.{Call, received, ticked, stopped, updated, refusal_of_call, answer_to, state_after, packet_of, unicast_of, sent_by}
 use Rattle.responder.specs.declared.State.{State}
 use Rattle.responder.proofs.changes.Accepted.{update-accepted}

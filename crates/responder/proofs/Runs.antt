@@ -1,7 +1,7 @@
 -- Of every run of calls: a lost claim stays lost, two probes of one claim are at least 250 ms apart unless an update lets it begin anew, and no two held queries
 -- are of one address. Assumes nothing.
 use Prim.Native.Nat.{ℕ, ◌+◌, ◌≤◌}
-use mathlib.Core.Path.{◌≡◌, refl, sym, ap, ◌∙◌}
+use mathlib.Core.Path.{◌≡◌, refl, ap, ◌∙◌}
 use mathlib.Core.Bool.{Bool, true, false, cond, not, ◌&&◌, ◌||◌}
 use mathlib.Core.List.{List, [], ◌∷◌}
 use lib.ListN.{length}
@@ -40,7 +40,7 @@ use Rattle.facts.specs.Facts.{facts_of}
 use Rattle.responder.specs.Handed.{Arrival, coming_of, Tick}
 use Rattle.responder.specs.Refusals.{wrong_state, start_refusal, receive_refusal, tick_refusal}
 use Rattle.responder.specs.Calls.{start_of, from_mdns, heard_of, receive_of, walked_of, tick_of}
-use Rattle.responder.specs.changes.Changes.{ended_of, stop_of, Update, refusal_to, renewed_of, update_to, update_refusal, update_of}
+use Rattle.responder.specs.changes.Changes.{ended_of, stop_of, Update, renewed_of, update_to, update_refusal, update_of}
 use Rattle.responder.specs.Runs.{Call, received, ticked, stopped, updated, refusal_of_call, state_after, run, time_of, sends_probe, renews, marked, probe_marks}
 use Rattle.responder.specs.Runs.{Spaced, none, next, anew}
 use Rattle.responder.specs.declared.State.{State}

@@ -245,8 +245,8 @@ planned-so store b p len n l e =
     ap (λ (k : ℕ). map (record_in store k) (take n p.known)) l
     ∙ ap (λ (ks : List Known). map (record_in store (length (service_name b))) ks) (ap (λ (k : ℕ). take k p.known) e ∙ take-of_take p.n p.known)
 
-pub composes_as : (w : Writing) (rs qs : List Record) (d : Draft) (o : List ℕ) → rs ≡ qs → Composes w rs d o → Composes w qs d o
-composes_as w rs qs d o e c = subst (λ (l : List Record). Composes w l d o) e c
+pub composes_as : (w : Writing) (ps qs : List Record) (d : Draft) (o : List ℕ) → ps ≡ qs → Composes w ps d o → Composes w qs d o
+composes_as w ps qs d o e c = subst (λ (l : List Record). Composes w l d o) e c
 
 -- ---- the whole
 

@@ -57,13 +57,5 @@ stop-none p k n is h = sym (map-past (λ (x : Known). x.slot) (planned p) k (ome
 pub plan_few : (p : Plan) → length p.known ≡ 121 → length (planned p) ≤ 121
 plan_few p sized = let t = length-take p.n p.known in omega arith
 
--- the length of an array, from what its type says of it
-pub sized_map : {A B : Type 0} (f : A → B) (l : List A) (n : ℕ) → length (map f l) ≡ n → length l ≡ n
-sized_map {A} {B} f l n h = sym (same l) ∙ h
-  where
-    same : (l : List A) → length (map f l) ≡ length l
-    same [] = refl
-    same (x ∷ xs) = ap suc (same xs)
-
 pub planned-within : (p : Plan) (n : ℕ) → n ≡ length (planned p) → n ≤ length p.known
 planned-within p n e = let t = length-take p.n p.known in omega arith

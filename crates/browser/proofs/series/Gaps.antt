@@ -48,16 +48,3 @@ doubled = gap_cases (λ (k : ℕ). 1 ≤ k → gap_after (k + 1) ≡ lesser (2 *
     (λ h. refl) (λ h. refl)
     (λ h. refl) (λ h. refl) (λ h. refl) (λ h. refl) (λ h. refl) (λ h. refl) (λ h. refl)
     (λ (k : ℕ) (h : 12 < k) (l : 1 ≤ k). let m : 12 < k + 1 = omega arith in sym (gap_long (k + 1) m) ∙ ap (λ (g : ℕ). lesser (2 * g) 3600000) (gap_long k h))
-
--- a number that is none of the first thirteen
-pub beyond : (k : ℕ) → (k ≡ 0 → ⊥) → (k ≡ 1 → ⊥) → (k ≡ 2 → ⊥) → (k ≡ 3 → ⊥) → (k ≡ 4 → ⊥) → (k ≡ 5 → ⊥) → (k ≡ 6 → ⊥) → (k ≡ 7 → ⊥) → (k ≡ 8 → ⊥)
-    → (k ≡ 9 → ⊥) → (k ≡ 10 → ⊥) → (k ≡ 11 → ⊥) → (k ≡ 12 → ⊥) → 12 < k
-beyond = gap_cases (λ (k : ℕ). (k ≡ 0 → ⊥) → (k ≡ 1 → ⊥) → (k ≡ 2 → ⊥) → (k ≡ 3 → ⊥) → (k ≡ 4 → ⊥) → (k ≡ 5 → ⊥) → (k ≡ 6 → ⊥) → (k ≡ 7 → ⊥) → (k ≡ 8 → ⊥)
-    → (k ≡ 9 → ⊥) → (k ≡ 10 → ⊥) → (k ≡ 11 → ⊥) → (k ≡ 12 → ⊥) → 12 < k) (λ h0 h1 h2 h3 h4 h5 h6 h7 h8 h9 h10 h11 h12. absurd (h0 refl))
-    (λ h0 h1 h2 h3 h4 h5 h6 h7 h8 h9 h10 h11 h12. absurd (h1 refl)) (λ h0 h1 h2 h3 h4 h5 h6 h7 h8 h9 h10 h11 h12. absurd (h2 refl))
-    (λ h0 h1 h2 h3 h4 h5 h6 h7 h8 h9 h10 h11 h12. absurd (h3 refl)) (λ h0 h1 h2 h3 h4 h5 h6 h7 h8 h9 h10 h11 h12. absurd (h4 refl))
-    (λ h0 h1 h2 h3 h4 h5 h6 h7 h8 h9 h10 h11 h12. absurd (h5 refl)) (λ h0 h1 h2 h3 h4 h5 h6 h7 h8 h9 h10 h11 h12. absurd (h6 refl))
-    (λ h0 h1 h2 h3 h4 h5 h6 h7 h8 h9 h10 h11 h12. absurd (h7 refl)) (λ h0 h1 h2 h3 h4 h5 h6 h7 h8 h9 h10 h11 h12. absurd (h8 refl))
-    (λ h0 h1 h2 h3 h4 h5 h6 h7 h8 h9 h10 h11 h12. absurd (h9 refl)) (λ h0 h1 h2 h3 h4 h5 h6 h7 h8 h9 h10 h11 h12. absurd (h10 refl))
-    (λ h0 h1 h2 h3 h4 h5 h6 h7 h8 h9 h10 h11 h12. absurd (h11 refl)) (λ h0 h1 h2 h3 h4 h5 h6 h7 h8 h9 h10 h11 h12. absurd (h12 refl))
-    (λ (k : ℕ) (h : 12 < k) h0 h1 h2 h3 h4 h5 h6 h7 h8 h9 h10 h11 h12. h)

@@ -1,4 +1,3 @@
-
 use Rattle.capi_responder.proofs.answered.Goals as goal
 
 pub returns : goal.returns

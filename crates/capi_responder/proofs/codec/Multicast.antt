@@ -1,6 +1,6 @@
 -- The last multicasts, one behind the other: each is read where it stands. Assumes nothing.
 use mathlib.Core.Path.{◌≡◌, refl, sym, ap, subst, ◌∙◌}
-use mathlib.Core.List.{List, [], ◌∷◌, ◌++◌, map}
+use mathlib.Core.List.{List, [], ◌∷◌, map}
 use Prim.Native.Nat.{ℕ, zero, suc, ◌+◌, ◌*◌, ◌<◌}
 use native.Mathlib.Omega.{arith}
 use lib.ListN.{length, get_or, get_or-map}
@@ -13,10 +13,10 @@ use Rattle.claims.specs.declared.When.TheVariants.{Never}
 use Rattle.claims.specs.declared.Multicast.{Multicast}
 use Rattle.claims.specs.declared.Multicasts.{Multicasts}
 use Rattle.claims.proofs.records.Sets.{index_low, at-index}
-use Rattle.capi_responder.specs.codec.Numbers.{bytes64, Fits64}
+use Rattle.capi_responder.specs.codec.Numbers.{bytes64}
 use Rattle.capi_responder.specs.codec.Layout as layout
 use Rattle.capi_responder.specs.codec.Parts.{sent_at, multicasts_at}
-use Rattle.capi_responder.specs.codec.Codec.{when_time, when_bytes, last_bytes, multicasts_bytes, MulticastsFit}
+use Rattle.capi_responder.specs.codec.Codec.{when_bytes, last_bytes, multicasts_bytes, MulticastsFit}
 use Rattle.capi_responder.proofs.codec.Stands.{Stands, front, behind, when_read}
 
 -- ---- an array of one element a record

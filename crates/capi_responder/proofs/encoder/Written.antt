@@ -1,11 +1,11 @@
 -- What the writing functions lay down, put together. Assumes nothing.
 use mathlib.Core.Path.{◌≡◌, refl, sym, ap, subst, ◌∙◌}
 use mathlib.Core.List.{List, [], ◌∷◌, ◌++◌, append_assoc, append-nil}
-use Prim.Native.Nat.{ℕ, suc, ◌+◌, ◌*◌, ◌<◌, ◌≤◌}
+use Prim.Native.Nat.{ℕ, ◌+◌, ◌*◌, ◌<◌, ◌≤◌}
 use borrow.Author.Count.{below_more}
 use native.Mathlib.Numerals.{add-one}
 use native.Mathlib.Omega.{arith}
-use lib.ListN.{length, get_or, take, length-append}
+use lib.ListN.{length, take}
 use lib.Seq.{take-suc, take_all, length-take-le}
 use Rattle.claims.specs.records.Own.{all, records, index_of, record_at}
 use Rattle.claims.specs.Time.{sent_of}

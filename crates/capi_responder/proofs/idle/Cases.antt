@@ -11,14 +11,12 @@ use lib.ListN.{length, drop}
 use Rattle.wire.specs.octets.Octets.{byte_at}
 use Rattle.claims.specs.Time.{last_kept, at_most, due_by}
 use Rattle.claims.specs.Claims.{due_of}
-use Rattle.claims.specs.Refusals.{claim_kept}
-use Rattle.claims.specs.declared.ClaimState.{ClaimState}
 use Rattle.claims.specs.declared.When.{When}
 use Rattle.claims.specs.declared.When.TheVariants.{Never, At}
 use Rattle.capi_responder.specs.codec.Numbers.{word64, Fits64}
 use Rattle.capi_responder.specs.codec.Parts.{claim_of, claim_at, when_at}
 use Rattle.capi_responder.specs.codec.Codec.{claim_tag, claim_due, when_time, claim_bytes, when_bytes}
-use Rattle.capi_responder.specs.idle.Idle.{to_come, claim_rest, claim_rests, reply_rest, reply_rests, last_keeps, when_kept}
+use Rattle.capi_responder.specs.idle.Idle.{to_come, claim_rests, reply_rests, when_kept}
 use Rattle.capi_responder.proofs.idle.Bytes.{Bytes, case_stands}
 
 -- ---- a claim by its case

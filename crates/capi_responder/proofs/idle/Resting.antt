@@ -1,15 +1,14 @@
 -- A state's bytes at rest: what changes keeps only times that may be kept, has no step due, and stands in the bytes that would be written of it.
 -- Assumes nothing.
-use mathlib.Core.Path.{◌≡◌, refl, sym, ap, ◌∙◌}
+use mathlib.Core.Path.{◌≡◌, refl, ap, ◌∙◌}
 use mathlib.Core.Bool.{Bool, true, false, ◌&&◌, ◌||◌}
 use mathlib.Core.List.{List, [], ◌++◌}
 use mathlib.Mathlib.Data.Bool.Basic.{and-eq-true-eq-eq-true-and-eq-true as both}
-use Prim.Native.Nat.{ℕ, ◌+◌, ◌≤◌}
+use Prim.Native.Nat.{ℕ, ◌≤◌}
 use native.Mathlib.Omega.{arith}
 use borrow.Author.Tests.{leb-true, le-leb}
 use lib.Dec.{leb}
 use lib.ListN.{length, drop, drop_of_length-le}
-use Rattle.claims.specs.records.Own.{all, index_of}
 use Rattle.claims.specs.records.Sets.{some_of, every_of}
 use Rattle.claims.specs.Time.{last_time, last_kept, sent_of, due_by}
 use Rattle.claims.specs.Refusals as refusals
@@ -19,7 +18,6 @@ use Rattle.claims.specs.holds.Holds.{places, hold_at}
 use Rattle.claims.specs.declared.holds.Holds.{Holds}
 use Rattle.claims.specs.declared.records.Own.{Own}
 use Rattle.claims.specs.declared.records.Own.TheVariants.{Ptr, Srv, Txt, A, Aaaa, InstanceNsec, HostNsec}
-use Rattle.claims.specs.declared.Progress.{Progress}
 use Rattle.capi_responder.specs.codec.Numbers.{word64, bytes64, Fits64}
 use Rattle.capi_responder.specs.codec.Layout as layout
 use Rattle.capi_responder.specs.codec.Parts.{claim_at, when_at, sent_at, multicasts_at, holds_at, progress_at}

@@ -20,7 +20,6 @@ use Rattle.capi_responder.specs.codec.Layout as layout
 use Rattle.capi_responder.specs.codec.Parts.{holds_at}
 use Rattle.capi_responder.specs.codec.Codec.{set_bytes, hold_bytes, holds_bytes, HoldFits, HoldsFit}
 use Rattle.capi_responder.specs.idle.Idle.{zeros_from, none_held}
-use Rattle.capi_responder.proofs.codec.Stands.{Stands}
 use Rattle.capi_responder.proofs.codec.Held.{holds_read}
 use Rattle.capi_responder.proofs.idle.Bytes.{Bytes, a, eight, in_turn_lem, spelled, read_spelt, number-stands}
 

@@ -1,7 +1,6 @@
-use mathlib.Core.Path.{◌≡◌, refl, sym, ap, ◌∙◌}
+use mathlib.Core.Path.{sym, ap, ◌∙◌}
 use native.Mathlib.Omega.{arith}
 use borrow.Author.Tests.{leb-true}
-use Rattle.responder.specs.declared.State.{State}
 use Rattle.trace.specs.reading.Events.{occurrence}
 use Rattle.trace.specs.declared.reading.Event.{Event}
 use Rattle.playing.specs.Playing.{port_fits, made_behind}

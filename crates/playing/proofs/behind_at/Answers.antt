@@ -1,6 +1,6 @@
-use mathlib.Core.Path.{◌≡◌, refl, sym, ap, ◌∙◌}
+use mathlib.Core.Path.{ap, ◌∙◌}
 use Rattle.playing.proofs.Laws.{fits-port, same_bytes_lem}
-use Rattle.trace.specs.reading.Events.{Occurrence, occurrence}
+use Rattle.trace.specs.reading.Events.{occurrence}
 use Rattle.playing.specs.Playing.{made_behind}
 use Rattle.playing.proofs.behind_at.Goals as goal
 

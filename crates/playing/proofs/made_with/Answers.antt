@@ -1,4 +1,3 @@
-
 use Rattle.playing.proofs.made_with.Goals as goal
 
 pub returns : goal.returns

@@ -1,10 +1,9 @@
-use mathlib.Core.Path.{◌≡◌, refl, sym, ap, ◌∙◌}
+use mathlib.Core.Path.{ap, ◌∙◌}
 use Rattle.playing.proofs.Laws.{data_found, found_fits, played_of}
 use mathlib.Core.List.{List}
 use Prim.Native.Nat.{ℕ}
 use Rattle.trace.specs.reading.Events.{occurrence}
-use Rattle.playing.specs.Playing.{made_behind, turn_of}
-use Rattle.playing.specs.declared.Played.{Played}
+use Rattle.playing.specs.Playing.{made_behind}
 use Rattle.playing.proofs.play.Goals as goal
 
 pub behind_at-call-requires : goal.behind_at-call-requires

@@ -1,4 +1,4 @@
-use mathlib.Core.Path.{◌≡◌, refl, sym, ap, ◌∙◌}
+use mathlib.Core.Path.{ap, ◌∙◌}
 use Rattle.responder.specs.declared.Received.{Received}
 use Rattle.playing.specs.Playing.{made_with}
 use Rattle.playing.proofs.receive.Goals as goal

@@ -1,4 +1,4 @@
-use mathlib.Core.Path.{◌≡◌, refl, sym, ap, ◌∙◌}
+use mathlib.Core.Path.{ap, ◌∙◌}
 use Rattle.responder.specs.declared.changes.Stopped.{Stopped}
 use Rattle.playing.specs.Playing.{made_with}
 use Rattle.playing.proofs.stop.Goals as goal

@@ -1,4 +1,4 @@
-use mathlib.Core.Path.{◌≡◌, refl, sym, ap, ◌∙◌}
+use mathlib.Core.Path.{sym, ap, ◌∙◌}
 use Rattle.playing.proofs.Laws.{called}
 use mathlib.Core.Bool.{Bool}
 use Rattle.trace.specs.declared.reading.Event.{Event}

@@ -1,4 +1,4 @@
-use mathlib.Core.Path.{◌≡◌, refl, sym, ap, ◌∙◌}
+use mathlib.Core.Path.{ap, ◌∙◌}
 use Rattle.responder.specs.declared.changes.Updated.{Updated}
 use Rattle.playing.specs.Playing.{made_with}
 use Rattle.playing.proofs.update_txt.Goals as goal

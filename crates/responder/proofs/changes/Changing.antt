@@ -1,6 +1,6 @@
 -- From the refusal of a stop or an update, or from none, to its answer, its state and its buffer. Assumes nothing.
 use Prim.Native.Nat.{ℕ}
-use mathlib.Core.Path.{◌≡◌, refl, sym, ap, subst, ◌∙◌}
+use mathlib.Core.Path.{◌≡◌, ap, subst, ◌∙◌}
 use mathlib.Core.Bool.{false, true}
 use mathlib.Core.List.{List}
 use lib.ListN.{length}
@@ -18,7 +18,7 @@ use Rattle.writer.specs.own_packets.Goodbye.{goodbye_packet}
 use Rattle.responder.specs.Handed.{Tick}
 use Rattle.responder.specs.Refusals.{small_buffer, tick_refusal}
 use Rattle.responder.specs.Calls.{refusal_of, length_of, answer_with}
-use Rattle.responder.specs.changes.Changes.{ended_of, stopped_packet, stop_of, Stops, Update, refusal_to, renewed_of, packet_to, update_to, update_refusal}
+use Rattle.responder.specs.changes.Changes.{ended_of, stopped_packet, stop_of, Stops, Update, refusal_to, renewed_of, packet_to, update_to}
 use Rattle.responder.specs.changes.Changes.{updated_packet, update_of, UpdatesTo, Updates}
 use Rattle.responder.specs.Runs.{stopped, updated}
 use Rattle.responder.specs.declared.State.{State}

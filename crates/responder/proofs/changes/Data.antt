@@ -1,11 +1,11 @@
 -- Of every run: its data are its start's with every update taken, each call sends only what is written of the data after it, and updates are 6,000 ms apart.
 -- Assumes nothing.
-use Prim.Native.Nat.{ℕ, ◌+◌, ◌≤◌}
+use Prim.Native.Nat.{ℕ, ◌+◌}
 use mathlib.Core.Path.{◌≡◌, refl, sym, ap, subst, ◌∙◌}
 use mathlib.Core.Bool.{Bool, true, false, cond}
 use mathlib.Core.List.{List, [], ◌∷◌, ◌++◌}
 use native.Mathlib.Omega.{arith}
-use lib.Dec.{eqb, ltb}
+use lib.Dec.{eqb}
 use borrow.Author.Tests.{eqb-true, ltb-false}
 use Rattle.wire.specs.message.Message.{Question, Message}
 use Rattle.wire.specs.message.Layout.{Reads, read, refused, message_at}
@@ -23,12 +23,11 @@ use Rattle.claims.specs.answers.Answers as answers
 use Rattle.claims.specs.answers.Held as held
 use Rattle.claims.proofs.changes.Updates.{tick-updated, receive-updated, plain-updated}
 use Rattle.facts.specs.Facts.{facts_of}
-use Rattle.writer.specs.own_packets.Own.{response_packet, unless_refused}
-use Rattle.writer.specs.own_packets.Goodbye.{goodbye_packet}
-use Rattle.responder.specs.Handed.{Arrival, coming_of, Tick}
+use Rattle.writer.specs.own_packets.Own.{response_packet}
+use Rattle.responder.specs.Handed.{Arrival, coming_of}
 use Rattle.responder.specs.Refusals.{receive_refusal, tick_refusal}
-use Rattle.responder.specs.Calls.{from_mdns, heard_of, packet_for, plain_for, reply_to, brought_back, received_packet, unicast_packet, receive_of, walked_of, ticked_packet, tick_of}
-use Rattle.responder.specs.changes.Changes.{ended_of, stopped_packet, stop_of, Update, refusal_to, renewed_of, packet_to, update_to, update_refusal, updated_packet, update_of}
+use Rattle.responder.specs.Calls.{from_mdns, heard_of, packet_for, plain_for, brought_back, received_packet, unicast_packet, receive_of, walked_of, ticked_packet, tick_of}
+use Rattle.responder.specs.changes.Changes.{ended_of, stopped_packet, stop_of, refusal_to, renewed_of, update_to, update_refusal, update_of}
 use Rattle.responder.specs.Runs.{Call, received, ticked, stopped, updated, refusal_of_call, state_after, packet_of, unicast_of, run}
 use Rattle.responder.specs.Data.{taken_by, taken, revised_all, WrittenOf, nothing, probe, response, reply, goodbye, update_times, LateAfter, Apart, none, next}
 use Rattle.responder.specs.declared.State.{State}

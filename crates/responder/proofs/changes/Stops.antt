@@ -1,12 +1,10 @@
 -- A stop taken leaves both claims lost, and whatever calls follow, they stay lost and no name is held again; to which records it says goodbye. Assumes nothing.
-use Prim.Native.Nat.{ℕ}
-use mathlib.Core.Path.{◌≡◌, refl, ap, ◌∙◌}
-use mathlib.Core.Bool.{Bool, true, false, ◌&&◌}
-use mathlib.Core.List.{List, []}
+use mathlib.Core.Path.{◌≡◌, ap}
+use mathlib.Core.Bool.{false, ◌&&◌}
+use mathlib.Core.List.{List}
 use Rattle.claims.specs.Claims.{held_now, claim_of}
 use Rattle.claims.specs.records.Own.{claim_for, has}
 use Rattle.claims.specs.records.Sets.{records_of}
-use Rattle.claims.specs.declared.ClaimState.{ClaimState}
 use Rattle.claims.specs.declared.ClaimState.TheVariants.{Lost}
 use Rattle.claims.specs.declared.records.Claim.{Claim}
 use Rattle.claims.specs.declared.records.Own.{Own}

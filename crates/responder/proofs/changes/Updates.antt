@@ -1,14 +1,11 @@
 -- An update taken: the state has the new data, a claim that is held announces them, and any other starts anew with them. Assumes nothing.
-use Prim.Native.Nat.{ℕ, ◌+◌, ◌≤◌}
-use mathlib.Core.Path.{◌≡◌, refl, sym, ap, ◌∙◌}
-use mathlib.Core.Bool.{Bool, true, false}
-use mathlib.Core.List.{[]}
-use native.Mathlib.Omega.{arith}
+use mathlib.Core.Path.{◌≡◌, ap, ◌∙◌}
+use mathlib.Core.Bool.{true, false}
 use Rattle.own.specs.changes.Changes.{revised, change_of}
 use Rattle.claims.specs.Time.{after_ms}
-use Rattle.claims.specs.Claims.{held_now, claim_of}
+use Rattle.claims.specs.Claims.{held_now}
 use Rattle.claims.specs.records.Own.{has}
-use Rattle.claims.specs.records.Sets.{no_record, only}
+use Rattle.claims.specs.records.Sets.{only}
 use Rattle.claims.specs.holds.Holds.{hold_at}
 use Rattle.claims.specs.changes.Changes.{changed_record}
 use Rattle.claims.specs.declared.ClaimState.TheVariants.{Waiting, Announced}
@@ -18,7 +15,7 @@ use Rattle.claims.specs.declared.steps.Output.TheVariants.{Response}
 use Rattle.claims.specs.declared.Progress.{Progress}
 use Rattle.claims.proofs.changes.Updates as laws
 use Rattle.responder.specs.Calls.{packet_for}
-use Rattle.responder.specs.changes.Changes.{Update, refusal_to, renewed_of, packet_to, update_to, update_refusal, updated_packet, update_of}
+use Rattle.responder.specs.changes.Changes.{Update, renewed_of, packet_to, update_to, update_refusal, updated_packet, update_of}
 use Rattle.responder.specs.declared.State.{State}
 use Rattle.responder.proofs.changes.Accepted.{UpdateAccepted, update-accepted}
 

@@ -1,4 +1,3 @@
-use borrow.Author.Tests.{not-true, not-false}
 use Rattle.responder.proofs.Refusing.{told, start-1, start-2, start-7, start-0}
 use Rattle.responder.proofs.start_refusal.Goals as goal
 

@@ -1,4 +1,3 @@
-use borrow.Author.Tests.{ne_eqb}
 use Rattle.capi_responder.proofs.codec.claim_of.Goals as goal
 
 pub returns-in-0 : goal.returns-in-0

@@ -1,10 +1,8 @@
-use Rattle.claims.specs.records.Own.{records}
 use Rattle.claims.specs.Time.{last_of}
 use Rattle.claims.specs.declared.When.TheVariants.{Never}
 use Rattle.claims.specs.declared.Multicast.{Multicast}
-use Rattle.claims.proofs.records.Filled.{filled, none_filled, next_filled, all-filled}
-use Prim.Native.Nat.{◌≤◌, ◌-◌}
-use mathlib.Core.Path.{◌≡◌, ap, ◌∙◌}
+use Rattle.claims.proofs.records.Filled.{none_filled, next_filled, all-filled}
+use mathlib.Core.Path.{ap, ◌∙◌}
 use mathlib.Core.List.{List}
 use native.Mathlib.Omega.{arith}
 use Rattle.capi_responder.specs.codec.Parts.{sent_at, multicasts_at}

@@ -1,8 +1,8 @@
 use Rattle.claims.specs.declared.records.Own.{Own}
-use Rattle.claims.specs.records.Own.{records, index_of}
-use Rattle.claims.proofs.records.Filled.{filled, none_filled, next_filled, set-filled}
-use Prim.Native.Nat.{◌+◌, ◌≤◌, ◌-◌}
-use mathlib.Core.Path.{◌≡◌, ap, ◌∙◌}
+use Rattle.claims.specs.records.Own.{index_of}
+use Rattle.claims.proofs.records.Filled.{none_filled, next_filled, set-filled}
+use Prim.Native.Nat.{◌+◌}
+use mathlib.Core.Path.{ap, ◌∙◌}
 use mathlib.Core.Bool.{false}
 use native.Mathlib.Omega.{arith}
 use Rattle.capi_responder.specs.codec.Parts.{flag_at, set_at}

@@ -1,11 +1,9 @@
-use Rattle.claims.specs.declared.records.Own.{Own}
 use Rattle.claims.specs.records.Own.{records, index_of}
-use Rattle.claims.proofs.records.Filled.{filled, none_filled, next_filled, set-filled}
+use Rattle.claims.proofs.records.Filled.{filled}
 use Prim.Native.Nat.{◌+◌, ◌≤◌, ◌-◌}
-use mathlib.Core.Path.{◌≡◌, ap, ◌∙◌}
+use mathlib.Core.Path.{◌≡◌}
 use mathlib.Core.Bool.{false}
-use native.Mathlib.Omega.{arith}
-use Rattle.capi_responder.specs.codec.Parts.{flag_at, set_at}
+use Rattle.capi_responder.specs.codec.Parts.{flag_at}
 use Rattle.capi_responder.proofs.codec.set_at.Given as goal
 
 abbrev pub invariant-loop-i : goal.invariant-loop-i

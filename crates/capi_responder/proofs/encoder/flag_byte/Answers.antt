@@ -1,6 +1,4 @@
-use Prim.Native.Nat.{ℕ}
-use mathlib.Core.Path.{◌≡◌, refl, sym, ap, ◌∙◌}
-use mathlib.Core.Bool.{Bool}
+use mathlib.Core.Path.{sym, ap, ◌∙◌}
 use Rattle.capi_responder.specs.codec.Codec.{flag_byte}
 use Rattle.capi_responder.proofs.encoder.flag_byte.Goals as goal
 

@@ -4,16 +4,16 @@ use Rattle.capi_responder.proofs.encoder.lay_progress.Goals as goal
 
 pub put_number-requires-2 : goal.put_number-requires-2
 put_number-requires-2 c = omega (
-      arith,
-      c.put_number.ensures.0.long,
-      c.put_holds.ensures.0.long,
-      c.put_when-2.ensures.0.long,
-      c.put_when.ensures.0.long,
-      c.put_multicasts.ensures.0.long,
-      c.put_claim-2.ensures.0.long,
-      c.put_claim.ensures.0.long,
-      c.requires,
-    )
+  arith,
+  c.put_number.ensures.0.long,
+  c.put_holds.ensures.0.long,
+  c.put_when-2.ensures.0.long,
+  c.put_when.ensures.0.long,
+  c.put_multicasts.ensures.0.long,
+  c.put_claim-2.ensures.0.long,
+  c.put_claim.ensures.0.long,
+  c.requires,
+)
 
 pub returns : goal.returns
 returns c = progress_laid _

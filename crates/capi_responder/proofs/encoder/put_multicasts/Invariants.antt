@@ -1,11 +1,6 @@
-use mathlib.Core.Path.{sym, ap, ◌∙◌}
-use lib.ListN.{length-map}
-use Rattle.claims.specs.Time.{sent_of}
-use Rattle.claims.specs.declared.records.Own.{Own}
 use Rattle.claims.specs.records.Own.{records}
 use Prim.Native.Nat.{◌≤◌, ◌-◌}
-use native.Mathlib.Omega.{arith}
-use Rattle.capi_responder.proofs.encoder.Written.{Writing, none_written, one_written, all-written}
+use Rattle.capi_responder.proofs.encoder.Written.{Writing}
 use Rattle.capi_responder.proofs.encoder.put_multicasts.Given as goal
 
 abbrev pub invariant-loop-i : goal.invariant-loop-i

@@ -1,8 +1,7 @@
 use Rattle.claims.specs.declared.records.Own.{Own}
-use Rattle.claims.specs.records.Own.{records, has}
-use Rattle.claims.proofs.records.Filled.{filled, none_filled, next_filled, all-filled}
-use Prim.Native.Nat.{◌≤◌, ◌-◌}
-use mathlib.Core.Path.{◌≡◌, ap, ◌∙◌}
+use Rattle.claims.specs.records.Own.{has}
+use Rattle.claims.proofs.records.Filled.{none_filled, next_filled, all-filled}
+use mathlib.Core.Path.{ap, ◌∙◌}
 use native.Mathlib.Omega.{arith}
 use Rattle.capi_responder.specs.codec.Codec.{flag_byte, set_bytes}
 use Rattle.capi_responder.proofs.encoder.set_bytes.Goals as goal

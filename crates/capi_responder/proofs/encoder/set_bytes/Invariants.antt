@@ -1,10 +1,8 @@
-use Rattle.claims.specs.declared.records.Own.{Own}
 use Rattle.claims.specs.records.Own.{records, has}
-use Rattle.claims.proofs.records.Filled.{filled, none_filled, next_filled, all-filled}
+use Rattle.claims.proofs.records.Filled.{filled}
 use Prim.Native.Nat.{◌≤◌, ◌-◌}
-use mathlib.Core.Path.{◌≡◌, ap, ◌∙◌}
-use native.Mathlib.Omega.{arith}
-use Rattle.capi_responder.specs.codec.Codec.{flag_byte, set_bytes}
+use mathlib.Core.Path.{◌≡◌}
+use Rattle.capi_responder.specs.codec.Codec.{flag_byte}
 use Rattle.capi_responder.proofs.encoder.set_bytes.Given as goal
 
 abbrev pub invariant-loop-i : goal.invariant-loop-i

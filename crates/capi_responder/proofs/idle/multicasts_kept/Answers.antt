@@ -1,10 +1,9 @@
-use Prim.Native.Nat.{ℕ, ◌+◌, ◌*◌, ◌≤◌, ◌-◌}
+use Prim.Native.Nat.{ℕ, ◌+◌, ◌*◌}
 use mathlib.Core.Path.{refl, sym, ap, ◌∙◌}
 use native.Mathlib.Omega.{arith}
-use borrow.Author.Tests.{not-true, not-false}
-use Rattle.claims.specs.records.Own.{all, records, index_of, record_at}
+use Rattle.claims.specs.records.Own.{all, index_of, record_at}
 use Rattle.claims.specs.declared.records.Own.TheVariants.{Ptr}
-use Rattle.claims.proofs.records.Searched.{Every, every-fails, every-next, every-ends}
+use Rattle.claims.proofs.records.Searched.{every-fails, every-next, every-ends}
 use Rattle.capi_responder.specs.codec.Layout as layout
 use Rattle.capi_responder.specs.idle.Idle.{when_kept, multicasts_kept}
 use Rattle.capi_responder.proofs.codec.Multicast.{index_at}

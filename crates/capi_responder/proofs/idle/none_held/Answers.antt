@@ -1,11 +1,5 @@
-use mathlib.Core.Path.{◌≡◌}
-use mathlib.Core.Bool.{◌&&◌}
-use mathlib.Core.Logic.{⊎_elim}
-use Prim.Native.Nat.{◌≤◌, ◌-◌}
 use native.Mathlib.Omega.{arith}
-use lib.ListN.{drop}
-use Rattle.capi_responder.specs.idle.Idle.{none_held}
-use Rattle.capi_responder.proofs.idle.Unheld.{clear, clear_begin, clear_on, clear_lost, clear_end}
+use Rattle.capi_responder.proofs.idle.Unheld.{clear_begin, clear_on, clear_lost, clear_end}
 use Rattle.capi_responder.proofs.idle.none_held.Goals as goal
 use Rattle.capi_responder.proofs.idle.none_held.Goals.{then-b-i-ne0, else-b-i-ne0}
 
@@ -17,8 +11,9 @@ loop-i-preserved c = let b = c.args.b.now in
     let l = c.loop-i in (
       omega arith,
       elim c.if-b-i-ne0.branch [
-          then-b-i-ne0 w ↦ clear_lost b l.i (omega arith) (omega arith) l.clear l.invariant.1 w.if-b-i-ne0.true _ w.clear-is
-          | else-b-i-ne0 w ↦ clear_on b l.i (omega arith) (omega arith) l.clear l.invariant.1 w.if-b-i-ne0.false _ w.clear-is ],
+        | then-b-i-ne0 w ↦ clear_lost b l.i (omega arith) (omega arith) l.clear l.invariant.1 w.if-b-i-ne0.true _ w.clear-is
+        | else-b-i-ne0 w ↦ clear_on b l.i (omega arith) (omega arith) l.clear l.invariant.1 w.if-b-i-ne0.false _ w.clear-is
+      ],
     )
 
 pub returns : goal.returns

@@ -1,11 +1,9 @@
 use mathlib.Core.Path.{◌≡◌}
 use mathlib.Core.Bool.{◌&&◌}
-use mathlib.Core.Logic.{⊎_elim}
 use Prim.Native.Nat.{◌≤◌, ◌-◌}
-use native.Mathlib.Omega.{arith}
 use lib.ListN.{drop}
 use Rattle.capi_responder.specs.idle.Idle.{none_held}
-use Rattle.capi_responder.proofs.idle.Unheld.{clear, clear_begin, clear_on, clear_lost, clear_end}
+use Rattle.capi_responder.proofs.idle.Unheld.{clear}
 use Rattle.capi_responder.proofs.idle.none_held.Given as goal
 
 abbrev pub invariant-loop-i : goal.invariant-loop-i

@@ -1,5 +1,4 @@
 use mathlib.Core.Path.{sym, ◌∙◌}
-use borrow.Author.Tests.{not-true, not-false}
 use Rattle.capi_responder.specs.idle.Idle.{nothing_due}
 use Rattle.capi_responder.proofs.idle.Tests.{pass, stop, at_most, above}
 use Rattle.capi_responder.proofs.idle.nothing_due.Goals as goal

@@ -1,6 +1,5 @@
 use mathlib.Core.Bool.{false}
 use native.Mathlib.Omega.{arith}
-use borrow.Author.Tests.{not-true, not-false}
 use Rattle.own.specs.records.Setups.{domain_fits}
 use Rattle.own.proofs.setups.Rules.{not-instance, not-service, not-protocol, not-host, not-domain, all-but_txt}
 use Rattle.capi_responder.specs.codec.Parts.{label_at, service_at, strings_at, setup_at}

@@ -1,4 +1,3 @@
-use borrow.Author.Tests.{not-true, not-false}
 use Rattle.responder.proofs.Refusing.{told}
 use Rattle.responder.proofs.changes.Accepted.{update-1, update-3, update-7, update-7_new, update-10, update-11, update-0}
 use Rattle.responder.proofs.changes.update_refusal.Goals as goal
