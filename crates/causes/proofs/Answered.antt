@@ -1,7 +1,7 @@
 -- What a tick sends for a held query: exactly the records that it asked for, that are due then and have no cause. Assumes nothing.
 use Prim.Native.Nat.{ℕ, ◌+◌, ◌≤◌}
-use mathlib.Core.Path.{◌≡◌, refl, sym, ap, subst, ◌∙◌}
-use mathlib.Core.Bool.{Bool, true, false, cond, not, ◌&&◌, ◌||◌, and-true}
+use mathlib.Core.Path.{◌≡◌, refl, sym, ap, ◌∙◌}
+use mathlib.Core.Bool.{Bool, true, false, not, ◌&&◌, ◌||◌, and-true}
 use mathlib.Core.List.{List, [], ◌∷◌, map}
 use native.Mathlib.Omega.{arith}
 use borrow.Author.Tests.{leb-true}
@@ -18,7 +18,6 @@ use Rattle.claims.specs.answers.Held.{to_hold, receive_of}
 use Rattle.claims.specs.declared.answers.Facts.{Facts}
 use Rattle.claims.specs.declared.answers.Coming.{Coming}
 use Rattle.claims.proofs.answers.Asking.{probe-judged, fifth_judged, again-judged, whole-judged, judged_is}
-use Rattle.claims.specs.steps.Steps.{hold_due}
 use Rattle.claims.specs.steps.Tick.{hold_answers}
 use Rattle.claims.specs.declared.records.Claim.{Claim}
 use Rattle.claims.specs.declared.records.Claim.TheVariants.{Instance, Host}
@@ -29,7 +28,6 @@ use Rattle.claims.specs.declared.When.TheVariants.{Never, At}
 use Rattle.claims.specs.declared.Progress.{Progress}
 use Rattle.claims.specs.declared.holds.Hold.{Hold}
 use Rattle.claims.specs.declared.holds.Place.{Place}
-use Rattle.claims.specs.declared.steps.Output.{Output}
 use Rattle.claims.specs.declared.steps.Output.TheVariants.{Response}
 use Rattle.claims.proofs.records.Sets.{has-each}
 use Rattle.claims.proofs.steps.Holding as move
@@ -37,7 +35,7 @@ use Rattle.claims.proofs.steps.Holding.{HoldMove, tick-hold}
 use Rattle.writer.specs.own_packets.Styles.{response_style, own_record}
 use Rattle.writer.specs.own_packets.Own.{response_records, response_packet}
 use Rattle.responder.specs.Handed.{Tick}
-use Rattle.responder.specs.Refusals.{wrong_state, tick_refusal}
+use Rattle.responder.specs.Refusals.{tick_refusal}
 use Rattle.responder.specs.Calls.{packet_for, walked_of, ticked_packet, tick_of}
 use Rattle.responder.specs.declared.State.{State}
 use Rattle.responder.proofs.Refusals.{tick-accepted}

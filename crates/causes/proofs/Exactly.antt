@@ -13,7 +13,7 @@ use mathlib.Mathlib.Data.Bool.Basic.{or-eq-false-eq-eq-false-and-eq-false as nei
 use Rattle.wire.specs.Lists.{some}
 use Rattle.wire.specs.case_folding.Fold.{same_name}
 use Rattle.wire.specs.message.Message.{Record, Message, is_response}
-use Rattle.wire.specs.message.Layout.{Reads, read, refused, message_at}
+use Rattle.wire.specs.message.Layout.{read, message_at}
 use Rattle.wire.specs.declared.message.Layout.{Layout}
 use Rattle.own.specs.declared.records.Setup.{Setup}
 use Rattle.own.specs.records.Setups.{valid_setup}
@@ -47,19 +47,19 @@ use Rattle.claims.proofs.Times.{after-exact}
 use Rattle.facts.specs.probe.Probe.{is_probe}
 use Rattle.facts.specs.Facts.{facts_of, response_facts, query_facts, is_asked, is_known, claim_name, is_truncated}
 use Rattle.writer.specs.own_packets.Styles.{response_style, own_record}
-use Rattle.writer.specs.own_packets.Own.{response_records, response_of, none_if_empty, response_packet}
+use Rattle.writer.specs.own_packets.Own.{response_records, response_of, response_packet}
 use Rattle.roundtrip.specs.Writable.{layout_of}
 use Rattle.roundtrip.proofs.OwnPackets.{response_back}
 use Rattle.responder.specs.Handed.{Arrival, coming_of}
-use Rattle.responder.specs.Refusals.{wrong_state, receive_refusal}
-use Rattle.responder.specs.Calls.{packet_for, from_mdns, heard_of, received_packet, unicast_packet, receive_of}
+use Rattle.responder.specs.Refusals.{wrong_state}
+use Rattle.responder.specs.Calls.{packet_for, from_mdns, received_packet, unicast_packet, receive_of}
 use Rattle.responder.specs.Causes.{is_due, has_cause, is_to_asker, is_wanted, is_unicast}
 use Rattle.responder.specs.declared.State.{State}
 use Rattle.responder.proofs.Refusals.{ReceiveAccepted, receive-accepted}
 use Rattle.responder.proofs.Closure.{small-draws, least-hold}
 use Rattle.responder.proofs.Causes.{wanted_exactly, unicast-exactly, one_way_lem}
 use Rattle.causes.specs.Statement.{answers_of, answers_in, Accepted, is_held_back, wanted_now, goes_now, unicast_now, unicast_answer, OneWay, to_all, to_asker, left_out}
-use Rattle.causes.specs.Statement.{kept_of, added_to, stands_in, Exactly, LeftOutExactly}
+use Rattle.causes.specs.Statement.{kept_of, added_to, stands_in, LeftOutExactly}
 
 -- ---- lists
 

@@ -2,20 +2,18 @@
 use Prim.Native.Nat.{ℕ, ◌≤◌}
 use mathlib.Core.Path.{◌≡◌, refl, sym, ap, ◌∙◌}
 use mathlib.Core.Logic.{◌≢◌}
-use mathlib.Core.Bool.{Bool, true, false, cond, not, ◌&&◌, ◌||◌, and-true}
+use mathlib.Core.Bool.{Bool, true, false, not, ◌&&◌, ◌||◌, and-true}
 use mathlib.Core.List.{List, [], ◌∷◌, map}
 use native.Mathlib.Omega.{arith}
-use lib.Dec.{eqb, leb}
+use lib.Dec.{eqb}
 use lib.ListN.{length, take, drop}
 use borrow.Author.Tests.{ne_eqb}
 use mathlib.Mathlib.Data.Bool.Basic.{or-eq-false-eq-eq-false-and-eq-false as neither}
-use Rattle.wire.specs.Lists.{some}
 use Rattle.wire.specs.octets.Octets.{word16}
 use Rattle.wire.specs.names.Names.{is_name}
 use Rattle.wire.specs.case_folding.Fold.{same_name}
 use Rattle.wire.specs.message.Message.{Question, Record, Message, is_response}
-use Rattle.wire.specs.message.Layout.{Reads, read, refused, message_at}
-use Rattle.wire.specs.message.Refusals.{wrong_port}
+use Rattle.wire.specs.message.Layout.{read, message_at}
 use Rattle.wire.specs.declared.message.Layout.{Layout}
 use Rattle.wire.proofs.message.Refused.{accepted_from}
 use Rattle.own.specs.declared.records.Setup.{Setup}
@@ -40,8 +38,8 @@ use Rattle.writer.specs.own_packets.Own.{response_records, response_packet, plai
 use Rattle.roundtrip.specs.Writable.{layout_of}
 use Rattle.roundtrip.proofs.OwnPackets.{plain_fits, plain_back}
 use Rattle.responder.specs.Handed.{Arrival}
-use Rattle.responder.specs.Refusals.{wrong_state, receive_refusal}
-use Rattle.responder.specs.Calls.{unicast, parcels, packet_for, from_mdns, plain_for, heard_of, received_packet, unicast_packet, receive_of}
+use Rattle.responder.specs.Refusals.{wrong_state}
+use Rattle.responder.specs.Calls.{unicast, parcels, packet_for, from_mdns, plain_for, received_packet, unicast_packet, receive_of}
 use Rattle.responder.specs.Causes.{is_due}
 use Rattle.responder.specs.Runs.{received, sent_by}
 use Rattle.responder.specs.declared.State.{State}
@@ -49,7 +47,7 @@ use Rattle.responder.proofs.Refusals.{ReceiveAccepted, receive-accepted}
 use Rattle.responder.proofs.Causes.{due-is}
 use Rattle.responder.proofs.Replying.{begins, first-named, first-lies}
 use Rattle.causes.specs.Statement.{answers_of, answers_in, Accepted, stands_in}
-use Rattle.causes.specs.Plain.{one_of, is_replied, plain_cause, plain_record, plain_reply, ExactlyReplied, RepliedExactly}
+use Rattle.causes.specs.Plain.{one_of, is_replied, plain_cause, plain_record, plain_reply, RepliedExactly}
 use Rattle.causes.proofs.Exactly.{picked_same, some-picked, some_same, one_of_all}
 
 -- none passes a test that fails

@@ -1,6 +1,6 @@
 -- What a query from a port other than 5353 brings out of a responder (replies to plain resolvers; RFC 6762, 6.7), said of an accepted call: of the message that its
 -- bytes are read as, and of the bytes that the call sends, read back. Proved in proofs/Plain.antt under the names that the comments give. Assumes nothing.
-use Rattle.std.specs.Prelude.{ℕ, ◌≤◌, ◌≡◌, ◌≢◌, Bool, true, false, not, ◌&&◌, ◌||◌, List, [], ◌∷◌, map, length, take, drop}
+use Rattle.std.specs.Prelude.{◌≤◌, ◌≡◌, ◌≢◌, Bool, true, false, not, ◌&&◌, ◌||◌, List, [], ◌∷◌, map, length, take, drop}
 use Rattle.wire.specs.message.Message.{Question, Record, Message}
 use Rattle.wire.specs.message.Layout.{read, message_at}
 use Rattle.wire.specs.declared.message.Layout.{Layout}

@@ -1,11 +1,9 @@
 -- The goodbye of a stop, read back. Assumes nothing.
-use Prim.Native.Nat.{ℕ}
 use mathlib.Core.Path.{◌≡◌, refl, sym, ap, ◌∙◌}
 use mathlib.Core.List.{List, [], ◌∷◌, map}
-use mathlib.Core.Bool.{Bool, true, false, cond, ◌&&◌}
-use Rattle.wire.specs.message.Message.{Record, Message}
+use mathlib.Core.Bool.{Bool, true, false, ◌&&◌}
+use Rattle.wire.specs.message.Message.{Record}
 use Rattle.wire.specs.message.Layout.{read, message_at}
-use Rattle.own.specs.declared.records.Setup.{Setup}
 use Rattle.own.specs.records.Records.{has_record}
 use Rattle.claims.specs.Claims.{held_now, claim_of}
 use Rattle.claims.specs.records.Own.{all, claim_for, carries_data, present, has}
@@ -18,8 +16,7 @@ use Rattle.writer.specs.own_packets.Goodbye.{goodbye_style, goodbye_of, goodbye_
 use Rattle.roundtrip.specs.Writable.{layout_of}
 use Rattle.roundtrip.proofs.Goodbye.{goodbye-back}
 use Rattle.responder.specs.Handed.{Tick}
-use Rattle.responder.specs.Refusals.{tick_refusal}
-use Rattle.responder.specs.changes.Changes.{ended_of, stopped_packet}
+use Rattle.responder.specs.changes.Changes.{ended_of}
 use Rattle.responder.specs.declared.State.{State}
 use Rattle.responder.proofs.Refusals.{tick-accepted}
 use Rattle.responder.proofs.changes.Stops.{goodbye-sent}

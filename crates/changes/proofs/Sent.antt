@@ -11,22 +11,20 @@ use borrow.Author.Tests.{eqb-true, leb-true}
 use mathlib.Mathlib.Data.Bool.Basic.{and-eq-true-eq-eq-true-and-eq-true as both}
 use Rattle.wire.specs.names.Names.{is_name}
 use Rattle.wire.specs.rdata.Rdata.{strings_fill}
-use Rattle.wire.specs.message.Message.{Question, Record, Message}
-use Rattle.wire.specs.message.Layout.{read, plain_header, message_at}
+use Rattle.wire.specs.message.Message.{Record, Message}
+use Rattle.wire.specs.message.Layout.{plain_header}
 use Rattle.own.specs.declared.records.Setup.{Setup}
 use Rattle.own.specs.records.Setups.{valid_setup}
 use Rattle.own.specs.records.Records.{own_name, own_rdata}
 use Rattle.own.specs.changes.Changes.{NewData, new_port, new_txt, revised, change_of, valid_data}
-use Rattle.own.proofs.records.Valid.{Valid, valid, own_is_name}
+use Rattle.own.proofs.records.Valid.{valid, own_is_name}
 use Rattle.own.proofs.changes.Revised.{rdata-stays, port-new, txt-new, revised-valid}
 use Rattle.claims.specs.records.Own.{first_of, own_type}
 use Rattle.claims.specs.changes.Changes.{changed_record}
 use Rattle.claims.specs.records.Sets.{no_record}
-use Rattle.claims.specs.declared.records.Claim.{Claim}
 use Rattle.claims.specs.declared.records.Claim.TheVariants.{Instance}
 use Rattle.claims.specs.declared.records.Own.{Own}
 use Rattle.claims.specs.declared.records.Own.TheVariants.{Ptr, Srv, Txt, A, Aaaa, InstanceNsec, HostNsec}
-use Rattle.claims.specs.declared.records.Set.{Set}
 use Rattle.writer.specs.declared.own_packets.Style.{Style}
 use Rattle.writer.specs.own_packets.Styles.{response_style, probe_style, plain_style, own_record, styled_message, packet_in}
 use Rattle.writer.specs.own_packets.Own.{response_records, probe_records, plain_records, none_if_empty, response_packet, probe_packet, plain_packet}
@@ -35,7 +33,7 @@ use Rattle.writer.specs.own_packets.Ready.{TtlSmall, each, fixed}
 use Rattle.roundtrip.specs.Writable.{Each, none, one, layout_of}
 use Rattle.roundtrip.proofs.OwnPackets.{style_back, packets_fit, plain_fits, unasked}
 use Rattle.roundtrip.proofs.Goodbye.{goodbye-fits}
-use Rattle.responder.specs.Runs.{Call, updated, refusal_of_call, state_after, packet_of, unicast_of, run}
+use Rattle.responder.specs.Runs.{updated, refusal_of_call, state_after, packet_of, unicast_of, run}
 use Rattle.responder.specs.Data.{taken_by, taken, revised_all, WrittenOf}
 use Rattle.responder.specs.Data as written
 use Rattle.responder.specs.changes.Changes.{Update, update_refusal, update_of}

@@ -1,6 +1,6 @@
 -- What is promised of the bytes that go out with a stop, and after an update (specification, 'Stops and updates'), as statements. Each is proved in proofs/
 -- under the name that its comment gives. Assumes nothing.
-use Rattle.std.specs.Prelude.{ℕ, ◌≤◌, ◌/◌, ◌%◌, ◌≡◌, List, [], ◌∷◌, ◌++◌, map, Bool, true, false, ◌&&◌, length}
+use Rattle.std.specs.Prelude.{ℕ, ◌/◌, ◌%◌, ◌≡◌, List, [], ◌∷◌, ◌++◌, map, Bool, false, ◌&&◌}
 use Rattle.wire.specs.labels.Labels.{encode}
 use Rattle.wire.specs.message.Message.{Record, Message}
 use Rattle.wire.specs.message.Layout.{read, message_at}
@@ -8,7 +8,7 @@ use Rattle.wire.specs.declared.message.Layout.{Layout}
 use Rattle.own.specs.declared.records.Setup.{Setup}
 use Rattle.own.specs.records.Setups.{host_labels}
 use Rattle.own.specs.records.Records.{has_record, own_name, own_rdata}
-use Rattle.own.specs.changes.Changes.{NewData, new_port, new_txt, revised, change_of}
+use Rattle.own.specs.changes.Changes.{NewData, new_port, new_txt, change_of}
 use Rattle.claims.specs.Claims.{held_now, claim_of}
 use Rattle.claims.specs.records.Own.{all, claim_for, carries_data, own_type, own_class, has}
 use Rattle.claims.specs.records.Sets.{picked, only}

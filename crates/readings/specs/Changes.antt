@@ -1,5 +1,5 @@
 -- Stops and updates: one table, evaluated by a single statement over the definitions that the contracts of `responder` cite. Assumes nothing.
-use Rattle.std.specs.Prelude.{ℕ, ◌≡◌, refl, Bool, true, false, List, [], ◌∷◌, replicate}
+use Rattle.std.specs.Prelude.{ℕ, ◌≡◌, refl, true, false, [], ◌∷◌, replicate}
 use Rattle.wire.specs.rdata.Rdata.{strings_fill}
 use Rattle.wire.specs.expansion.Equal.{same_bytes}
 use Rattle.own.specs.utf8.Utf8 as utf8

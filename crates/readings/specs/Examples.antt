@@ -16,7 +16,6 @@ use Rattle.claims.specs.holds.Holds.{no_holds}
 use Rattle.claims.specs.declared.holds.Address.{Address}
 use Rattle.responder.specs.Handed.{Arrival}
 use Rattle.responder.specs.declared.State.{State}
-use Rattle.cache.specs.declared.entries.Entry.{Entry}
 use Rattle.cache.specs.entries.Cache.{Cache, at_start}
 
 -- bytes at the front of an array of so many

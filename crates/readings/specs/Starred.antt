@@ -1,6 +1,6 @@
 -- Specification, 'Corner readings': the twelve starred ones as one table, evaluated by a single statement. Each row is about the definitions that the
 -- contracts cite. Assumes nothing.
-use Rattle.std.specs.Prelude.{◌≡◌, refl, List, [], ◌∷◌, ◌++◌, true, false, ℕ, pos, negsuc, length, replicate}
+use Rattle.std.specs.Prelude.{◌≡◌, refl, [], ◌∷◌, true, pos, negsuc, replicate}
 use Rattle.wire.specs.case_folding.Fold.{same_name}
 use Rattle.wire.specs.name_pieces.Pieces.{piece_at}
 use Rattle.wire.specs.names.Names.{read_from, from_run, name_at}

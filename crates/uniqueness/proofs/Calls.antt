@@ -3,7 +3,7 @@ use mathlib.Core.Path.{◌≡◌, refl, sym, ap, subst, ◌∙◌}
 use mathlib.Core.Bool.{Bool, true, false, cond, not, ◌||◌}
 use mathlib.Core.Logic.{◌≢◌, ◌⊎◌, inl, inr}
 use mathlib.Core.Option.{none, some}
-use mathlib.Core.List.{List, [], ◌∷◌, ◌++◌, map}
+use mathlib.Core.List.{List, [], ◌++◌, map}
 use Prim.Native.Nat.{ℕ, zero, suc, ◌+◌, ◌≤◌}
 use native.Mathlib.Omega.{arith}
 use lib.Dec.{eqb, ltb}
@@ -30,12 +30,11 @@ use Rattle.claims.specs.records.Sets as sets
 use Rattle.claims.specs.records.Sets.{no_record}
 use Rattle.responder.specs.Refusals.{wrong_state, start_refusal, receive_refusal, tick_refusal}
 use Rattle.responder.specs.Calls.{answer_with, answer_of, packet_for, plain_for, reply_to, brought_back, from_mdns, start_state, start_of, heard_of, received_packet, unicast_packet, receive_of, walked_of, ticked_packet, tick_of}
-use Rattle.responder.specs.changes.Changes.{Update, refusal_to, packet_to, update_to, update_refusal, updated_packet, update_of}
+use Rattle.responder.specs.changes.Changes.{Update, update_to, update_refusal, updated_packet, update_of}
 use Rattle.responder.specs.declared.State.{State}
 use Rattle.writer.specs.own_packets.Own.{response_records, response_packet}
 use Rattle.responder.specs.declared.Answer.TheVariants.{Refused, Quiet, Sent, Unicast, Both}
 use Rattle.responder.proofs.Replying.{first-named}
-use Rattle.responder.proofs.changes.Accepted.{UpdateAccepted}
 use Rattle.responder.proofs.changes.Updates as changed
 use Rattle.responder.proofs.Refusals.{StartAccepted, ReceiveAccepted, TickAccepted, start-accepted, receive-accepted, tick-accepted}
 use Rattle.link.specs.Responder as link

@@ -1,7 +1,7 @@
 -- The lists of specs/Contending.antt, evaluated: they meet the premises, and the theorems say of them who holds. Assumes nothing.
 use mathlib.Core.Path.{◌≡◌, refl, sym, ◌∙◌}
 use mathlib.Core.Logic.{◌⊎◌, ⊎_elim}
-use mathlib.Core.Bool.{true, false, not}
+use mathlib.Core.Bool.{true, false}
 use mathlib.Core.List.{List, [], ◌∷◌}
 use Prim.Native.Nat.{ℕ, ◌+◌, ◌<◌}
 use Rattle.wire.specs.case_folding.Fold.{same_name}
@@ -49,7 +49,7 @@ use Rattle.link.specs.Contention.{wants, probes_for, begun, LeftAlone, Latest, H
 use Rattle.link.specs.ContentionWitness.{hears_from, is_from_list, kept_on, not_updated, left_alone, other_data, apart, not_later, latest as is_latest, switched_on}
 use Rattle.uniqueness.specs.Tiebreak.{later, tiebreak}
 use Rattle.uniqueness.specs.Example.{setup_of, rivals, contest, plain_query, one, rivals_at, contest_at}
-use Rattle.uniqueness.specs.Contending.{alike, early, at_once_at, at_once, rivals_on, contest_on, latest}
+use Rattle.uniqueness.specs.Contending.{alike, early, at_once_at, at_once, rivals_on, contest_on}
 use native.Mathlib.Omega.{arith}
 use lib.ListN.{length}
 use Rattle.link.specs.Premises.{Premises}

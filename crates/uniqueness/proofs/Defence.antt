@@ -2,18 +2,17 @@
 -- all, since a quarter of a TTL is more than the 250 ms for which a record may be left out. Assumes nothing.
 use mathlib.Core.Path.{◌≡◌, refl, sym, ap, subst, ◌∙◌}
 use mathlib.Core.Logic.{◌⊎◌, inl, inr}
-use mathlib.Core.Bool.{Bool, true, false, not, ◌&&◌, ◌||◌}
+use mathlib.Core.Bool.{Bool, true, false, ◌&&◌, ◌||◌}
 use mathlib.Core.Option.{some}
 use mathlib.Core.List.{List}
-use Prim.Native.Nat.{ℕ, ◌-◌, ◌≤◌, ◌<◌}
+use Prim.Native.Nat.{ℕ, ◌-◌, ◌≤◌}
 use native.Mathlib.Omega.{arith}
-use lib.Dec.{eqb, ltb}
-use borrow.Author.Tests.{ltb-true, ltb-false, le-ltb}
+use lib.Dec.{eqb}
+use borrow.Author.Tests.{ltb-false, le-ltb}
 use Rattle.wire.specs.case_folding.Fold.{same_name}
-use Rattle.wire.specs.message.Message.{Message, is_response}
+use Rattle.wire.specs.message.Message.{Message}
 use Rattle.own.specs.declared.records.Setup.{Setup}
 use Rattle.own.specs.records.Setups.{valid_setup}
-use Rattle.own.specs.records.Records.{has_record}
 use Rattle.claims.specs.Time.{recently, sent_of}
 use Rattle.claims.specs.Claims.{claim_of, held_now}
 use Rattle.claims.specs.records.Own.{own_type, claim_for, has}
@@ -22,7 +21,7 @@ use Rattle.claims.specs.declared.records.Own.{Own}
 use Rattle.claims.specs.declared.When.{When}
 use Rattle.claims.specs.declared.When.TheVariants.{Never, At}
 use Rattle.wire.specs.Lists.{some as some_of}
-use Rattle.claims.specs.answers.Answers.{heard_for, wanted_of, multicast_asks, unicast_asks, quarter_ttl, gap_of, judged_of}
+use Rattle.claims.specs.answers.Answers.{heard_for, wanted_of, unicast_asks, quarter_ttl, judged_of}
 use Rattle.claims.specs.declared.answers.Received as received
 use Rattle.claims.proofs.answers.Asking.{probe-judged, judged_is}
 use Rattle.claims.specs.declared.answers.Heard.{Heard}
@@ -38,9 +37,8 @@ use Rattle.responder.proofs.Causes.{wanted_exactly, unicast-exactly}
 use Rattle.link.specs.Responder.{Claim, Destination, everyone, unicast}
 use Rattle.link.specs.Laws as law
 use Rattle.responder.specs.Handed.{Arrival, coming_of}
-use Rattle.uniqueness.specs.Responder.{own_claim, halves, back_to, rdata, name, responder}
+use Rattle.uniqueness.specs.Responder.{own_claim, halves, rdata, name, responder}
 use Rattle.uniqueness.specs.Rules.{told, claim_at, rules}
-use Rattle.uniqueness.proofs.Lists.{never}
 use Rattle.uniqueness.proofs.Owned.{Owned, srv, txt, a, aaaa, owned, Has, has-data, own_claim_lem, own_owner, own_carries, own_at_once}
 use Rattle.uniqueness.proofs.Data.{no_response, is-probe}
 use Rattle.uniqueness.proofs.Hearing.{query-facts, query-heard}

@@ -56,7 +56,7 @@ use Rattle.link.specs.Holding.{is_and, any_of, responds_for, conflicts_with, def
 use Rattle.link.specs.Demand3.{Unopposed, holding_time}
 use Rattle.link.specs.Witness.{every, some_below, all_of, same_bytes as same_packets, reaches, address_in, ordered, at_one_rate, owed, takes, taken, delivered_to, all_delivered, all_on_time, meets}
 use Rattle.link.proofs.Witness.{met, below}
-use Rattle.uniqueness.specs.Responder.{sends, halves, back_to, start, tick, receive, due_times, due, responds, conflicts, defeats, responder}
+use Rattle.uniqueness.specs.Responder.{sends, halves, start, tick, receive, due_times, due, responds, conflicts, defeats, responder}
 use Rattle.uniqueness.proofs.Lists.{never}
 use Rattle.uniqueness.specs.Example as example
 use Rattle.uniqueness.specs.Example.{setup_of, one, other, srv_and_txt, somewhere, alone_at, contest_at, rivals_at, three_at, divided_at, alone, contest, rivals, ptr_query, truncated_query, plain_query, three, divided}

@@ -2,14 +2,11 @@
 -- the first, does not hold it after that call, and never again both hold it. Assumes nothing.
 use mathlib.Core.Path.{◌≡◌, refl, sym, subst}
 use mathlib.Core.Logic.{inl}
-use mathlib.Core.Bool.{Bool, true, false, not, ◌||◌}
-use mathlib.Core.Option.{Option, some}
-use mathlib.Core.List.{List, [], ◌∷◌, ◌++◌}
-use Prim.Native.Nat.{ℕ}
+use mathlib.Core.Bool.{true, false}
+use mathlib.Core.Option.{some}
+use mathlib.Core.List.{List, [], ◌∷◌}
 use native.Mathlib.Omega.{arith}
-use lib.ListN.{length, get_or}
-use lib.Dec.{leb, ltb}
-use borrow.Author.Tests.{leb-true, ltb-true}
+use lib.ListN.{length}
 use Rattle.wire.specs.case_folding.Fold.{same_name}
 use Rattle.wire.specs.name_pieces.Pieces.{piece_at}
 use Rattle.wire.specs.names.Names.{name_at, from_run, read_from, labels_fill}
@@ -25,9 +22,7 @@ use Rattle.claims.specs.Time.{after_ms, marked_all}
 use Rattle.claims.specs.Claims as claims
 use Rattle.claims.specs.records.Sets as sets
 use Rattle.claims.specs.records.Sets.{only}
-use Rattle.claims.specs.declared.records.Own.TheVariants.{Ptr, Srv, Txt}
-use Rattle.claims.specs.declared.ClaimState.{ClaimState}
-use Rattle.claims.specs.declared.ClaimState.TheVariants.{Waiting, Probing1, Probing2, Probing3, Deferred, Announced, Held, Lost}
+use Rattle.claims.specs.declared.records.Own.TheVariants.{Srv}
 use Rattle.claims.specs.Refusals.{multicasts_kept, holds_kept, kept, wrong_time}
 use Rattle.claims.specs.steps.Steps.{more_due, action_of, unsent_of}
 use Rattle.claims.specs.steps.Tick as steps
@@ -50,21 +45,14 @@ use Rattle.responder.specs.changes.Changes as calls
 use Rattle.responder.specs.changes.Changes.{Update, stopped_packet}
 use Rattle.claims.specs.changes.Changes as changes
 use Rattle.writer.specs.own_packets.Goodbye.{goodbye_packet}
-use Rattle.own.specs.changes.Changes.{new_port}
-use Rattle.own.proofs.changes.Revised.{name-stays}
-use Rattle.wire.proofs.case_folding.Equal.{same_refl}
-use Rattle.claims.specs.records.Own.{first_of}
-use Rattle.claims.specs.declared.records.Claim.TheVariants.{Instance}
-use Rattle.responder.specs.declared.State.{State}
 use Rattle.link.specs.Responder.{instance, everyone, Parcel}
-use Rattle.link.specs.Entries.{entry, clock_of, owner_of, owner_at, setup_in, time_at, reply, returned, unless_stopped, called, after, is_some, runs, is_accepted, accepted_at, parcels_of, sent_at, heard_in, heard_at, source_in, revised as link_revised, data_at, update_in, update_at, Entry}
+use Rattle.link.specs.Entries.{entry, clock_of, owner_of, setup_in, reply, returned, unless_stopped, called, after, is_accepted, parcels_of, sent_at, heard_in, heard_at, source_in, revised as link_revised, data_at, update_in}
 use Rattle.link.specs.Premises.{Among}
 use Rattle.link.specs.Holding.{is_and, any_of, responds_for, conflicts_with, defeats_of, writes, hears, holds}
-use Rattle.link.specs.Joined.{PremisesFrom, Unchanged, Two, Hearing, Together, Parted, Joined}
+use Rattle.link.specs.Joined.{PremisesFrom, Unchanged, Two, Hearing, Parted, Joined}
 use Rattle.link.specs.Witness.{every, some_below, all_of, same_bytes as same_packets, reaches, address_in, owed, takes, taken, delivered_to, starts_at, ordered_from, at_rates, delivered_from, on_time_from, meets_from, unchanged_from}
 use Rattle.link.proofs.JoinedWitness.{met_from, unchanged}
-use Rattle.uniqueness.specs.Responder.{sends, claim_record, of_type, name, start, tick, receive, stop, update, due_times, due, responds, conflicts, defeats, responder}
-use Rattle.uniqueness.proofs.Lists.{never}
+use Rattle.uniqueness.specs.Responder.{start, tick, receive, stop, update, due_times, due, responds, conflicts, defeats, responder}
 use Rattle.uniqueness.specs.Example.{setup_of, one, other}
 use Rattle.uniqueness.specs.Joining.{joined_at, no_shift, srv_query, joined}
 use Rattle.uniqueness.proofs.Example.{lost_by}

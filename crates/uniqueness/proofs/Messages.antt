@@ -22,7 +22,6 @@ use Rattle.claims.specs.declared.records.Set.{Set}
 use Rattle.claims.specs.declared.steps.Output.{Output}
 use Rattle.claims.specs.declared.steps.Output.TheVariants.{Nothing, Probe, Response}
 use Rattle.wire.specs.Lists.{some as some_of}
-use Rattle.facts.specs.probe.Probe.{under}
 use Rattle.writer.specs.declared.own_packets.Style.{Style}
 use Rattle.writer.specs.own_packets.Styles.{response_style, plain_style, own_record}
 use Rattle.writer.specs.own_packets.Own.{response_records, response_of, none_if_empty, response_packet, probe_packet, probe_of, plain_records, plain_reply_of, plain_packet}
@@ -34,7 +33,7 @@ use Rattle.link.specs.Laws.{Sent, to_all, ReadAs}
 use Rattle.uniqueness.specs.Responder.{sends, own_claim, claim_record, name, message_of, read_as, is_data, data_under, responds}
 use Rattle.uniqueness.specs.Rules.{unless_empty, response_for, messages_for, replies_for, Carried}
 use Rattle.uniqueness.proofs.Lists.{clash, never, and_left, and_right, and_both, or_left, or_right, some_in, some_out, in_append, out_append, in_map, out_map, in_picked, out_picked}
-use Rattle.uniqueness.proofs.Owned.{Owned, srv, txt, a, aaaa, owned, own_owner, own_data}
+use Rattle.uniqueness.proofs.Owned.{Owned, own_owner, own_data}
 
 among_all : (r : Own) → Among r all
 among_all Ptr = inl refl

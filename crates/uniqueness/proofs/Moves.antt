@@ -12,7 +12,7 @@ use Rattle.claims.specs.Claims.{claim_of, held_now}
 use Rattle.claims.proofs.changes.Updates as changes
 use Rattle.own.specs.changes.Changes.{change_of}
 use Rattle.claims.specs.records.Own.{has}
-use Rattle.claims.specs.records.Sets.{records_of, under}
+use Rattle.claims.specs.records.Sets.{records_of}
 use Rattle.claims.proofs.Times.{after-exact}
 use Rattle.claims.specs.declared.ClaimState.{ClaimState}
 use Rattle.claims.specs.declared.ClaimState.TheVariants.{Waiting, Probing1, Probing2, Probing3, Deferred, Announced, Held, Lost}
@@ -26,14 +26,13 @@ use Rattle.facts.specs.Facts.{facts_of}
 use Rattle.claims.proofs.steps.Moves.{Move, stays, probes, announces, repeats, answers, tick-move}
 use Rattle.writer.specs.own_packets.Own.{response_of, probe_of}
 use Rattle.responder.specs.Calls.{walked_of}
-use Rattle.responder.specs.changes.Changes.{Update}
 use Rattle.responder.specs.declared.State.{State}
 use Rattle.link.specs.Responder.{Claim, instance, host}
 use Rattle.link.specs.Premises.{Among}
 use Rattle.link.specs.Laws as law
 use Rattle.responder.specs.Handed.{Arrival, Tick}
 use Rattle.uniqueness.specs.Responder.{own_claim, responder}
-use Rattle.uniqueness.specs.Rules.{messages_for, renewed, stage_of, claim_at, Fits, rules}
+use Rattle.uniqueness.specs.Rules.{messages_for, stage_of, claim_at, Fits, rules}
 use Rattle.uniqueness.proofs.Lists.{clash, never}
 use Rattle.uniqueness.proofs.Owned.{owned, Has, has-data}
 use Rattle.uniqueness.proofs.Messages.{goes_out, carries, says-name}

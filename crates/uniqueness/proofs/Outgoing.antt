@@ -20,7 +20,6 @@ use Rattle.link.specs.Laws as law
 use Rattle.uniqueness.specs.Responder.{revise, responder}
 use Rattle.uniqueness.specs.Rules.{response_for, messages_for, replies_for, to_asker, told, served, output_of, rules}
 use Rattle.uniqueness.proofs.Lists.{out_append, out_map}
-use Rattle.uniqueness.proofs.Owned.{a}
 use Rattle.uniqueness.proofs.Messages.{only_one}
 use Rattle.uniqueness.proofs.Facts.{unless_out}
 

@@ -1,5 +1,5 @@
 -- What an update changes: one record of the instance claim, no name and no other record; and that a claim that is held announces it. Assumes nothing.
-use mathlib.Core.Path.{◌≡◌, refl, sym, ap, subst, ◌∙◌}
+use mathlib.Core.Path.{◌≡◌, refl, sym, ap, ◌∙◌}
 use mathlib.Core.Logic.{◌⊎◌, inl, inr}
 use mathlib.Core.Bool.{Bool, true, false, cond}
 use mathlib.Core.Option.{Option, none, some}
@@ -17,28 +17,24 @@ use Rattle.claims.specs.Claims.{held_now}
 use Rattle.claims.specs.records.Own.{own_type, first_of, has}
 use Rattle.claims.specs.records.Sets as sets
 use Rattle.claims.specs.records.Sets.{only}
-use Rattle.claims.specs.changes.Changes.{changed_record, lost_to_update}
+use Rattle.claims.specs.changes.Changes.{changed_record}
 use Rattle.claims.specs.declared.changes.Change.{Change}
 use Rattle.claims.specs.declared.changes.Change.TheVariants.{Port, Txt}
 use Rattle.claims.specs.declared.records.Own.{Own}
-use Rattle.claims.specs.declared.records.Own.TheVariants as own
 use Rattle.claims.specs.declared.records.Set.{Set}
 use Rattle.claims.specs.declared.records.Claim.TheVariants.{Host}
 use Rattle.claims.specs.declared.steps.Output.TheVariants.{Response}
 use Rattle.claims.proofs.Times.{after-exact}
 use Rattle.claims.proofs.changes.Updates as laws
-use Rattle.facts.specs.probe.Probe.{is_probe}
-use Rattle.facts.specs.tiebreak.Lists.{own_list}
 use Rattle.facts.specs.Facts.{theirs_later}
-use Rattle.writer.specs.own_packets.Styles.{probe_style, own_record}
+use Rattle.writer.specs.own_packets.Styles.{own_record}
 use Rattle.writer.specs.own_packets.Own.{probe_records, probe_of}
 use Rattle.responder.specs.changes.Changes.{Update}
 use Rattle.responder.specs.declared.State.{State}
 use Rattle.link.specs.Responder.{Claim, instance, host, everyone}
 use Rattle.link.specs.Laws as law
 use Rattle.uniqueness.specs.Responder.{own_claim, changes, revise, of_type, claim_record, data_of, rdata, name, defeats, responder}
-use Rattle.uniqueness.specs.Rules.{renewed, stage_of, Fits, rules}
-use Rattle.uniqueness.proofs.Lists.{clash}
+use Rattle.uniqueness.specs.Rules.{stage_of, Fits, rules}
 use Rattle.uniqueness.proofs.Owned.{Owned, srv, txt, a, aaaa, owned, Has, has-data}
 use Rattle.uniqueness.proofs.Facts.{stage_held}
 use Rattle.uniqueness.proofs.Sent.{told-all}

@@ -1,15 +1,13 @@
 -- The lists of specs/Updating.antt, evaluated: they meet the premises; after an update two hold one name with different data, as demand 3 allows, until one of
 -- them hears it; a stop ends a holding; and the 1,200 ms run from an update. Assumes nothing.
-use mathlib.Core.Path.{◌≡◌, refl, sym, ap, ◌∙◌}
+use mathlib.Core.Path.{◌≡◌, refl, ap, ◌∙◌}
 use mathlib.Core.Logic.{◌⊎◌, inr}
-use mathlib.Core.Bool.{Bool, true, false, not, ◌||◌}
-use mathlib.Core.Option.{Option, some}
-use mathlib.Core.List.{List, [], ◌∷◌, ◌++◌}
+use mathlib.Core.Bool.{true, false}
+use mathlib.Core.Option.{some}
+use mathlib.Core.List.{List}
 use Prim.Native.Nat.{ℕ, ◌≤◌}
 use native.Mathlib.Omega.{arith}
 use lib.ListN.{length, get_or}
-use lib.Dec.{leb, ltb}
-use borrow.Author.Tests.{leb-true, ltb-true}
 use Rattle.wire.specs.case_folding.Fold.{same_name}
 use Rattle.wire.specs.name_pieces.Pieces.{piece_at}
 use Rattle.wire.specs.names.Names.{name_at, from_run, read_from, labels_fill}
@@ -25,9 +23,7 @@ use Rattle.claims.specs.Time.{after_ms, marked_all}
 use Rattle.claims.specs.Claims as claims
 use Rattle.claims.specs.records.Sets as sets
 use Rattle.claims.specs.records.Sets.{only}
-use Rattle.claims.specs.declared.records.Own.TheVariants.{Ptr, Srv, Txt}
-use Rattle.claims.specs.declared.ClaimState.{ClaimState}
-use Rattle.claims.specs.declared.ClaimState.TheVariants.{Waiting, Probing1, Probing2, Probing3, Deferred, Announced, Held, Lost}
+use Rattle.claims.specs.declared.records.Own.TheVariants.{Srv}
 use Rattle.claims.specs.Refusals.{multicasts_kept, holds_kept, kept, wrong_time}
 use Rattle.claims.specs.steps.Steps.{more_due, action_of, unsent_of}
 use Rattle.claims.specs.steps.Tick as steps
@@ -55,16 +51,14 @@ use Rattle.own.proofs.changes.Revised.{name-stays}
 use Rattle.wire.proofs.case_folding.Equal.{same_refl}
 use Rattle.claims.specs.records.Own.{first_of}
 use Rattle.claims.specs.declared.records.Claim.TheVariants.{Instance}
-use Rattle.responder.specs.declared.State.{State}
-use Rattle.link.specs.Responder.{Claim, instance, host, everyone, unicast}
-use Rattle.link.specs.Entries.{entry, clock_of, owner_of, owner_at, setup_in, time_at, reply, returned, unless_stopped, called, after, is_some, runs, is_accepted, accepted_at, parcels_of, sent_at, heard_in, source_in, revised as link_revised, data_at, update_in, update_at, Entry}
+use Rattle.link.specs.Responder.{instance, everyone}
+use Rattle.link.specs.Entries.{entry, clock_of, owner_of, setup_in, reply, returned, unless_stopped, called, after, runs, is_accepted, accepted_at, parcels_of, sent_at, heard_in, source_in, revised as link_revised, data_at, update_in, update_at}
 use Rattle.link.specs.Premises.{Premises}
-use Rattle.link.specs.Holding.{is_and, any_of, responds_for, conflicts_with, defeats_of, writes, hears, holds}
+use Rattle.link.specs.Holding.{any_of, responds_for, conflicts_with, defeats_of, writes, hears, holds}
 use Rattle.link.specs.Demand3.{TwoHolders, JustUpdated, Unopposed, Demand3}
 use Rattle.link.specs.Witness.{every, some_below, all_of, same_bytes as same_packets, reaches, address_in, ordered, at_one_rate, owed, takes, taken, delivered_to, all_delivered, all_on_time, meets}
-use Rattle.link.proofs.Witness.{met, below}
+use Rattle.link.proofs.Witness.{met}
 use Rattle.uniqueness.specs.Responder.{sends, claim_record, of_type, name, start, tick, receive, stop, update, due_times, due, responds, conflicts, defeats, responder}
-use Rattle.uniqueness.proofs.Lists.{never}
 use Rattle.uniqueness.specs.Example.{setup_of, one}
 use Rattle.uniqueness.specs.Updating.{renewed, overlap_at, overlap, stopped_at, stopped, revised_at, revised}
 use Rattle.uniqueness.proofs.Example.{Asked, Holds, unopposed}
