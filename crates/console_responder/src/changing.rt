@@ -41,23 +41,29 @@ fn renew_txt(held: State, time: u64, txt: &[u8], out: &mut [u8], n: usize) -> Up
 }
 
 // `stop NOW`, with OUT or without: of the form of `tick`
-pub fn stop(line: &[u8], held: State, out: &mut [u8], text: &mut [u8; 4096]) -> State
+pub fn stop(
+    line: &[u8],
+    held: State,
+    out: &mut [u8],
+    rt: &impl Print,
+    text: &mut [u8; 4096],
+) -> State
     ensures state { result ≡ (after_stop line.now (having held out.old [])).state }
     ensures out { out.new ≡ (after_stop line.now (having held out.old [])).out }
 {
     if !is_tick(line) {
-        bad_line(text);
+        bad_line(rt, text);
         return held;
     }
     let time = number(line, 1);
     let n = lent(line, 2);
     if out.len() < n {
-        bad_line(text);
+        bad_line(rt, text);
         return held;
     }
     let stopped = end(held, time, out, n);
     let answer = stopped.answer;
-    shown(answer, false, out, b"", text);
+    shown(answer, false, out, b"", rt, text);
     stopped.state
 }
 
@@ -119,21 +125,27 @@ fn renew(line: &[u8], held: State, out: &mut [u8], n: usize) -> Updated
 }
 
 // `update NOW port PORT` or `update NOW txt TXT`, with OUT or without. TXT that is too long is handed on, so that the responder refuses it.
-pub fn update(line: &[u8], held: State, out: &mut [u8], text: &mut [u8; 4096]) -> State
+pub fn update(
+    line: &[u8],
+    held: State,
+    out: &mut [u8],
+    rt: &impl Print,
+    text: &mut [u8; 4096],
+) -> State
     ensures state { result ≡ (after_update line.now (having held out.old [])).state }
     ensures out { out.new ≡ (after_update line.now (having held out.old [])).out }
 {
     if !is_update(line) {
-        bad_line(text);
+        bad_line(rt, text);
         return held;
     }
     let n = lent(line, 4);
     if out.len() < n {
-        bad_line(text);
+        bad_line(rt, text);
         return held;
     }
     let updated = renew(line, held, out, n);
     let answer = updated.answer;
-    shown(answer, false, out, b"", text);
+    shown(answer, false, out, b"", rt, text);
     updated.state
 }

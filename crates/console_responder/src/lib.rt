@@ -59,6 +59,7 @@ pub fn call(
     held: State,
     out: &mut [u8; 4096],
     unicast: &mut [u8; 4096],
+    rt: &impl Print,
     text: &mut [u8; 4096],
 ) -> State
     ensures state { result ≡ (responder_after line.now (having held out.old unicast.old)).state }
@@ -68,36 +69,36 @@ pub fn call(
 {
     let word = console_text::lines::field(line, 0);
     if wire::expansion::same_bytes(word, b"start") {
-        return setup::start(line, held, text);
+        return setup::start(line, held, rt, text);
     }
     if wire::expansion::same_bytes(word, b"recv") {
-        return sending::recv(line, held, out, unicast, text);
+        return sending::recv(line, held, out, unicast, rt, text);
     }
     if wire::expansion::same_bytes(word, b"tick") {
-        return sending::tick(line, held, out, text);
+        return sending::tick(line, held, out, rt, text);
     }
     if wire::expansion::same_bytes(word, b"stop") {
-        return changing::stop(line, held, out, text);
+        return changing::stop(line, held, out, rt, text);
     }
     if wire::expansion::same_bytes(word, b"update") {
-        return changing::update(line, held, out, text);
+        return changing::update(line, held, out, rt, text);
     }
     if wire::expansion::same_bytes(word, b"claims") {
-        showing::claims(line, held, text);
+        showing::claims(line, held, rt, text);
         return held;
     }
     if wire::expansion::same_bytes(word, b"holds") {
-        showing::holds(line, held, text);
+        showing::holds(line, held, rt, text);
         return held;
     }
     if wire::expansion::same_bytes(word, b"out") {
-        showing::part(line, word, out, text);
+        showing::part(line, word, out, rt, text);
         return held;
     }
     if wire::expansion::same_bytes(word, b"unicast") {
-        showing::part(line, word, unicast, text);
+        showing::part(line, word, unicast, rt, text);
         return held;
     }
-    bad_line(text);
+    bad_line(rt, text);
     held
 }

@@ -144,6 +144,7 @@ pub fn recv(
     held: State,
     out: &mut [u8],
     unicast: &mut [u8],
+    rt: &impl Print,
     text: &mut [u8; 4096],
 ) -> State
     ensures state { result ≡ (after_recv line.now (having held out.old unicast.old)).state }
@@ -151,7 +152,7 @@ pub fn recv(
     ensures unicast { unicast.new ≡ (after_recv line.now (having held out.old unicast.old)).unicast }
 {
     if !is_recv(line) {
-        bad_line(text);
+        bad_line(rt, text);
         return held;
     }
     let time = number(line, 1);
@@ -164,11 +165,11 @@ pub fn recv(
     let n = lent(line, 7);
     let m = lent(line, 8);
     if out.len() < n {
-        bad_line(text);
+        bad_line(rt, text);
         return held;
     }
     if unicast.len() < m {
-        bad_line(text);
+        bad_line(rt, text);
         return held;
     }
     let received = receive(
@@ -185,7 +186,7 @@ pub fn recv(
         m,
     );
     let answer = received.answer;
-    shown(answer, false, out, unicast, text);
+    shown(answer, false, out, unicast, rt, text);
     received.state
 }
 
@@ -206,22 +207,28 @@ pub fn is_tick(line: &[u8]) -> bool
 }
 
 // `tick NOW` or `tick NOW OUT`
-pub fn tick(line: &[u8], held: State, out: &mut [u8], text: &mut [u8; 4096]) -> State
+pub fn tick(
+    line: &[u8],
+    held: State,
+    out: &mut [u8],
+    rt: &impl Print,
+    text: &mut [u8; 4096],
+) -> State
     ensures state { result ≡ (after_tick line.now (having held out.old [])).state }
     ensures out { out.new ≡ (after_tick line.now (having held out.old [])).out }
 {
     if !is_tick(line) {
-        bad_line(text);
+        bad_line(rt, text);
         return held;
     }
     let time = number(line, 1);
     let n = lent(line, 2);
     if out.len() < n {
-        bad_line(text);
+        bad_line(rt, text);
         return held;
     }
     let ticked = step(held, time, out, n);
     let answer = ticked.answer;
-    shown(answer, ticked.more, out, b"", text);
+    shown(answer, ticked.more, out, b"", rt, text);
     ticked.state
 }

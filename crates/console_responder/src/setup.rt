@@ -158,34 +158,34 @@ pub fn is_start(line: &[u8]) -> bool
 }
 
 // `start NOW DRAW INSTANCE SERVICE PROTOCOL HOST DOMAIN PORT TXT A AAAA`: the state after it.
-pub fn start(line: &[u8], held: State, text: &mut [u8; 4096]) -> State
+pub fn start(line: &[u8], held: State, rt: &impl Print, text: &mut [u8; 4096]) -> State
     ensures { result ≡ after_start line.now held }
 {
     if !is_start(line) {
-        bad_line(text);
+        bad_line(rt, text);
         return held;
     }
     let started = responder::start(told(line), number(line, 1), number(line, 2));
     let answer = started.answer;
     match answer {
         Answer::Refused(n) => {
-            refused(text, n as u64);
+            refused(rt, text, n as u64);
             held
         }
         Answer::Quiet => {
-            only(text, b"started");
+            only(rt, text, b"started");
             started.state
         }
         Answer::Sent(_) => {
-            only(text, b"started");
+            only(rt, text, b"started");
             started.state
         }
         Answer::Unicast(_) => {
-            only(text, b"started");
+            only(rt, text, b"started");
             started.state
         }
         Answer::Both(_, _) => {
-            only(text, b"started");
+            only(rt, text, b"started");
             started.state
         }
     }

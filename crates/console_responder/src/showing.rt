@@ -4,110 +4,118 @@ use claims::holds::{Address, Hold, Holds};
 use claims::{ClaimState, When};
 use console_calls::output::{bad_line, bytes, finish, first, only, refused, word};
 use console_text::fields::{is_number, number};
+use itoa::Buffer;
 use responder::{Answer, State};
 
 // Shows the packet that goes to where the message came from.
-fn replied(packet: &[u8], text: &mut [u8; 4096]) {
-    let used = first(text, b"unicast");
-    let used = bytes(text, used, packet);
-    finish(text, used);
+fn replied(packet: &[u8], rt: &impl Print, text: &mut [u8; 4096]) {
+    let used = first(rt, text, b"unicast");
+    let used = bytes(rt, text, used, packet);
+    finish(rt, text, used);
 }
 
 // Shows the packet that was sent, and whether more is due.
-fn sent(packet: &[u8], more: bool, text: &mut [u8; 4096]) {
-    let used = first(text, b"sent");
-    let used = bytes(text, used, packet);
+fn sent(packet: &[u8], more: bool, rt: &impl Print, text: &mut [u8; 4096]) {
+    let used = first(rt, text, b"sent");
+    let used = bytes(rt, text, used, packet);
     if more {
-        let used = word(text, used, b"more");
-        finish(text, used);
+        let used = word(rt, text, used, b"more");
+        finish(rt, text, used);
         return;
     }
-    finish(text, used);
+    finish(rt, text, used);
 }
 
 // Shows both packets: the one that goes to all, and the one that goes to where the message came from.
-fn sent_and_replied(to_all: &[u8], to_asker: &[u8], text: &mut [u8; 4096]) {
-    let used = first(text, b"sent");
-    let used = bytes(text, used, to_all);
-    let used = word(text, used, b"unicast");
-    let used = bytes(text, used, to_asker);
-    finish(text, used);
+fn sent_and_replied(to_all: &[u8], to_asker: &[u8], rt: &impl Print, text: &mut [u8; 4096]) {
+    let used = first(rt, text, b"sent");
+    let used = bytes(rt, text, used, to_all);
+    let used = word(rt, text, used, b"unicast");
+    let used = bytes(rt, text, used, to_asker);
+    finish(rt, text, used);
 }
 
 // The answer of a call that may send what stands at the start of the out buffers.
-pub fn shown(answer: Answer, more: bool, out: &[u8], unicast: &[u8], text: &mut [u8; 4096]) {
+pub fn shown(
+    answer: Answer,
+    more: bool,
+    out: &[u8],
+    unicast: &[u8],
+    rt: &impl Print,
+    text: &mut [u8; 4096],
+) {
     match answer {
-        Answer::Refused(n) => refused(text, n as u64),
-        Answer::Quiet => only(text, b"quiet"),
-        Answer::Sent(n) => sent(console_text::lines::front(out, n), more, text),
-        Answer::Unicast(m) => replied(console_text::lines::front(unicast, m), text),
+        Answer::Refused(n) => refused(rt, text, n as u64),
+        Answer::Quiet => only(rt, text, b"quiet"),
+        Answer::Sent(n) => sent(console_text::lines::front(out, n), more, rt, text),
+        Answer::Unicast(m) => replied(console_text::lines::front(unicast, m), rt, text),
         Answer::Both(n, m) => sent_and_replied(
             console_text::lines::front(out, n),
             console_text::lines::front(unicast, m),
+            rt,
             text,
         ),
     }
 }
 
 // Begins an answer with a number.
-fn first_number(text: &mut [u8; 4096], n: u64) -> usize {
-    let mut digits = [0u8; 20];
-    let k = io::decimal(n, &mut digits);
-    first(text, &digits[..k])
+fn first_number(rt: &impl Print, text: &mut [u8; 4096], n: u64) -> usize {
+    let mut digits = Buffer::new();
+    first(rt, text, digits.format(n).as_bytes())
 }
 
 // Adds a state and the time at which its next step is due.
-fn timed(text: &mut [u8; 4096], used: usize, state: &[u8], due: u64) -> usize {
-    let used = word(text, used, state);
-    console_calls::output::number(text, used, due)
+fn timed(rt: &impl Print, text: &mut [u8; 4096], used: usize, state: &[u8], due: u64) -> usize {
+    let used = word(rt, text, used, state);
+    console_calls::output::number(rt, text, used, due)
 }
 
 // Adds a state that has no next step.
-fn untimed(text: &mut [u8; 4096], used: usize, state: &[u8]) -> usize {
-    let used = word(text, used, state);
-    word(text, used, b"-")
+fn untimed(rt: &impl Print, text: &mut [u8; 4096], used: usize, state: &[u8]) -> usize {
+    let used = word(rt, text, used, state);
+    word(rt, text, used, b"-")
 }
 
 // Adds a claim: ` STATE DUE`.
-fn claim(text: &mut [u8; 4096], used: usize, c: ClaimState) -> usize {
+fn claim(rt: &impl Print, text: &mut [u8; 4096], used: usize, c: ClaimState) -> usize {
     match c {
-        ClaimState::Waiting(due) => timed(text, used, b"waiting", due),
-        ClaimState::Probing1(due) => timed(text, used, b"probing", due),
-        ClaimState::Probing2(due) => timed(text, used, b"probing", due),
-        ClaimState::Probing3(due) => timed(text, used, b"probing", due),
-        ClaimState::Deferred(due) => timed(text, used, b"deferred", due),
-        ClaimState::Announced(due) => timed(text, used, b"held", due),
-        ClaimState::Held => untimed(text, used, b"held"),
-        ClaimState::Lost => untimed(text, used, b"lost"),
+        ClaimState::Waiting(due) => timed(rt, text, used, b"waiting", due),
+        ClaimState::Probing1(due) => timed(rt, text, used, b"probing", due),
+        ClaimState::Probing2(due) => timed(rt, text, used, b"probing", due),
+        ClaimState::Probing3(due) => timed(rt, text, used, b"probing", due),
+        ClaimState::Deferred(due) => timed(rt, text, used, b"deferred", due),
+        ClaimState::Announced(due) => timed(rt, text, used, b"held", due),
+        ClaimState::Held => untimed(rt, text, used, b"held"),
+        ClaimState::Lost => untimed(rt, text, used, b"lost"),
     }
 }
 
 // Adds a time that is set or not, behind its word: the PTR reply, ` reply DUE`, or the last update, ` updated TIME`.
-fn when(text: &mut [u8; 4096], used: usize, name: &[u8], w: When) -> usize {
+fn when(rt: &impl Print, text: &mut [u8; 4096], used: usize, name: &[u8], w: When) -> usize {
     match w {
-        When::At(time) => timed(text, used, name, time),
-        When::Never => untimed(text, used, name),
+        When::At(time) => timed(rt, text, used, name, time),
+        When::Never => untimed(rt, text, used, name),
     }
 }
 
 // `claims`: `LAST instance STATE DUE host STATE DUE reply DUE updated TIME`
-pub fn claims(line: &[u8], held: State, text: &mut [u8; 4096]) {
+pub fn claims(line: &[u8], held: State, rt: &impl Print, text: &mut [u8; 4096]) {
     if console_text::lines::arguments(line) != 0 {
-        return bad_line(text);
+        return bad_line(rt, text);
     }
     let progress = held.progress;
     let instance = progress.instance;
     let host = progress.host;
     let due = progress.reply;
     let updated = progress.updated;
-    let used = first_number(text, progress.last);
-    let used = word(text, used, b"instance");
-    let used = claim(text, used, instance);
-    let used = word(text, used, b"host");
-    let used = claim(text, used, host);
-    let used = when(text, used, b"reply", due);
-    let used = when(text, used, b"updated", updated);
-    finish(text, used);
+    let used = first_number(rt, text, progress.last);
+    let used = word(rt, text, used, b"instance");
+    let used = claim(rt, text, used, instance);
+    let used = word(rt, text, used, b"host");
+    let used = claim(rt, text, used, host);
+    let used = when(rt, text, used, b"reply", due);
+    let used = when(rt, text, used, b"updated", updated);
+    finish(rt, text, used);
 }
 
 // The eight bytes of a number.
@@ -135,15 +143,15 @@ fn address_bytes(a: Address) -> [u8; 16] {
 }
 
 // Adds a held query: ` FROM DUE`; a free place adds nothing.
-fn hold(text: &mut [u8; 4096], used: usize, h: Hold) -> usize {
+fn hold(rt: &impl Print, text: &mut [u8; 4096], used: usize, h: Hold) -> usize {
     let from = h.from;
     let due = h.due;
     match due {
         When::Never => used,
         When::At(time) => {
             let address = address_bytes(from);
-            let used = bytes(text, used, &address);
-            console_calls::output::number(text, used, time)
+            let used = bytes(rt, text, used, &address);
+            console_calls::output::number(rt, text, used, time)
         }
     }
 }
@@ -167,35 +175,42 @@ fn none_held(holds: Holds) -> bool {
 }
 
 // `holds`: `holds FROM DUE ..` in order of arrival, or `holds -`
-pub fn holds(line: &[u8], held: State, text: &mut [u8; 4096]) {
+pub fn holds(line: &[u8], held: State, rt: &impl Print, text: &mut [u8; 4096]) {
     if console_text::lines::arguments(line) != 0 {
-        return bad_line(text);
+        return bad_line(rt, text);
     }
     let progress = held.progress;
     let holds = progress.holds;
     if none_held(holds) {
-        return only(text, b"holds -");
+        return only(rt, text, b"holds -");
     }
-    let used = first(text, b"holds");
-    let used = hold(text, used, holds.first);
-    let used = hold(text, used, holds.second);
-    let used = hold(text, used, holds.third);
-    let used = hold(text, used, holds.fourth);
-    finish(text, used);
+    let used = first(rt, text, b"holds");
+    let used = hold(rt, text, used, holds.first);
+    let used = hold(rt, text, used, holds.second);
+    let used = hold(rt, text, used, holds.third);
+    let used = hold(rt, text, used, holds.fourth);
+    finish(rt, text, used);
 }
 
 // The answer `WORD BYTES`, of bytes of an out buffer from an offset on.
-fn bytes_from(word: &[u8], out: &[u8], at: usize, n: usize, text: &mut [u8; 4096]) {
+fn bytes_from(
+    word: &[u8],
+    out: &[u8],
+    at: usize,
+    n: usize,
+    rt: &impl Print,
+    text: &mut [u8; 4096],
+) {
     if out.len() < at {
-        return bad_line(text);
+        return bad_line(rt, text);
     }
     if out.len() - at < n {
-        return bad_line(text);
+        return bad_line(rt, text);
     }
     let end = at + n;
-    let used = first(text, word);
-    let used = bytes(text, used, &out[at..end]);
-    finish(text, used);
+    let used = first(rt, text, word);
+    let used = bytes(rt, text, used, &out[at..end]);
+    finish(rt, text, used);
 }
 
 // Whether a line is of the form `WORD AT LEN`.
@@ -210,15 +225,16 @@ fn is_part(line: &[u8]) -> bool {
 }
 
 // `out AT LEN` or `unicast AT LEN`, by the word of the line
-pub fn part(line: &[u8], word: &[u8], out: &[u8], text: &mut [u8; 4096]) {
+pub fn part(line: &[u8], word: &[u8], out: &[u8], rt: &impl Print, text: &mut [u8; 4096]) {
     if !is_part(line) {
-        return bad_line(text);
+        return bad_line(rt, text);
     }
     bytes_from(
         word,
         out,
         number(line, 1) as usize,
         number(line, 2) as usize,
+        rt,
         text,
     )
 }

@@ -22,13 +22,13 @@ pub fn is_call(word: &[u8]) -> bool
 }
 
 // Answers one of these calls. Any other line is a bad one.
-pub fn call(line: &[u8], text: &mut [u8; 4096]) {
+pub fn call(line: &[u8], rt: &impl Print, text: &mut [u8; 4096]) {
     let word = console_text::lines::field(line, 0);
     if wire::expansion::same_bytes(word, b"trace") {
-        return showing::trace(line, text);
+        return showing::trace(line, rt, text);
     }
     if wire::expansion::same_bytes(word, b"record") {
-        return recording::record(line, text);
+        return recording::record(line, rt, text);
     }
-    bad_line(text)
+    bad_line(rt, text)
 }

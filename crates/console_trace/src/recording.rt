@@ -118,27 +118,27 @@ fn write_all(line: &[u8], out: &mut [u8]) -> usize {
 }
 
 // The trace, where there is room for it.
-fn recorded(line: &[u8], size: usize, text: &mut [u8; 4096]) {
+fn recorded(line: &[u8], size: usize, rt: &impl Print, text: &mut [u8; 4096]) {
     if number(line, 1) < size as u64 {
-        return refused(text, wire::refusals::BUFFER as u64);
+        return refused(rt, text, wire::refusals::BUFFER as u64);
     }
     let mut out = [0u8; MOST_TRACE];
     let n = write_all(line, &mut out);
-    let used = first(text, b"trace");
-    let used = bytes(text, used, console_text::lines::front(&out, n));
-    finish(text, used);
+    let used = first(rt, text, b"trace");
+    let used = bytes(rt, text, used, console_text::lines::front(&out, n));
+    finish(rt, text, used);
 }
 
 // `record SIZE ..`
-pub fn record(line: &[u8], text: &mut [u8; 4096]) {
+pub fn record(line: &[u8], rt: &impl Print, text: &mut [u8; 4096]) {
     if !is_number(line, 1) {
-        return bad_line(text);
+        return bad_line(rt, text);
     }
     if !are_events(line) {
-        return bad_line(text);
+        return bad_line(rt, text);
     }
     match trace_size(line) {
-        Size::Bytes(size) => recorded(line, size, text),
-        Size::Unfit(offset) => refused_at(offset, text),
+        Size::Bytes(size) => recorded(line, size, rt, text),
+        Size::Unfit(offset) => refused_at(offset, rt, text),
     }
 }

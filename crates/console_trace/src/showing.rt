@@ -4,11 +4,11 @@ use console_calls::output::{bad_line, bytes, finish, first, number, word};
 use trace::reading::{Checked, Event, Step};
 
 // The answer to a trace or to events that are refused as 12, with the offset.
-pub fn refused_at(offset: usize, text: &mut [u8; 4096]) {
-    let used = first(text, b"refused");
-    let used = number(text, used, wire::refusals::TRACE as u64);
-    let used = number(text, used, offset as u64);
-    finish(text, used);
+pub fn refused_at(offset: usize, rt: &impl Print, text: &mut [u8; 4096]) {
+    let used = first(rt, text, b"refused");
+    let used = number(rt, text, used, wire::refusals::TRACE as u64);
+    let used = number(rt, text, used, offset as u64);
+    finish(rt, text, used);
 }
 
 // The eight bytes of a number.
@@ -26,32 +26,39 @@ fn number_bytes(n: u64) -> [u8; 8] {
 }
 
 // Adds the sixteen bytes of an address.
-fn address(text: &mut [u8; 4096], used: usize, from: Address) -> usize {
+fn address(rt: &impl Print, text: &mut [u8; 4096], used: usize, from: Address) -> usize {
     let high = number_bytes(from.high);
     let low = number_bytes(from.low);
     let mut all = [0u8; 16];
     wire::buffer::put(&mut all, 0, &high);
     wire::buffer::put(&mut all, 8, &low);
-    bytes(text, used, &all)
+    bytes(rt, text, used, &all)
 }
 
 // Adds a word and a time.
-fn timed(text: &mut [u8; 4096], used: usize, name: &[u8], time: u64) -> usize {
-    let used = word(text, used, name);
-    number(text, used, time)
+fn timed(rt: &impl Print, text: &mut [u8; 4096], used: usize, name: &[u8], time: u64) -> usize {
+    let used = word(rt, text, used, name);
+    number(rt, text, used, time)
 }
 
 // Adds the bytes that the event at an offset brings.
-fn brought(trace: &[u8], at: usize, text: &mut [u8; 4096], used: usize) -> usize {
+fn brought(trace: &[u8], at: usize, rt: &impl Print, text: &mut [u8; 4096], used: usize) -> usize {
     let mut data = [0u8; 20000];
     let n = trace::reading::bytes(trace, at, &mut data);
-    bytes(text, used, console_text::lines::front(&data, n))
+    bytes(rt, text, used, console_text::lines::front(&data, n))
 }
 
 // Adds the event at an offset.
-fn event(trace: &[u8], at: usize, e: Event, text: &mut [u8; 4096], used: usize) -> usize {
+fn event(
+    trace: &[u8],
+    at: usize,
+    e: Event,
+    rt: &impl Print,
+    text: &mut [u8; 4096],
+    used: usize,
+) -> usize {
     match e {
-        Event::Tick(time) => timed(text, used, b"tick", time),
+        Event::Tick(time) => timed(rt, text, used, b"tick", time),
         Event::Packet {
             time,
             from,
@@ -59,33 +66,33 @@ fn event(trace: &[u8], at: usize, e: Event, text: &mut [u8; 4096], used: usize) 
             draw,
             hold,
         } => {
-            let used = timed(text, used, b"recv", time);
-            let used = address(text, used, from);
-            let used = number(text, used, port);
-            let used = number(text, used, draw);
-            let used = number(text, used, hold);
-            brought(trace, at, text, used)
+            let used = timed(rt, text, used, b"recv", time);
+            let used = address(rt, text, used, from);
+            let used = number(rt, text, used, port);
+            let used = number(rt, text, used, draw);
+            let used = number(rt, text, used, hold);
+            brought(trace, at, rt, text, used)
         }
         Event::Claim { last, claim, state } => {
-            let used = timed(text, used, b"claim", last);
-            let used = number(text, used, claim);
-            number(text, used, state)
+            let used = timed(rt, text, used, b"claim", last);
+            let used = number(rt, text, used, claim);
+            number(rt, text, used, state)
         }
-        Event::Stop(time) => timed(text, used, b"stop", time),
+        Event::Stop(time) => timed(rt, text, used, b"stop", time),
         Event::Port { time, port } => {
-            let used = timed(text, used, b"port", time);
-            number(text, used, port)
+            let used = timed(rt, text, used, b"port", time);
+            number(rt, text, used, port)
         }
         Event::Txt(time) => {
-            let used = timed(text, used, b"txt", time);
-            brought(trace, at, text, used)
+            let used = timed(rt, text, used, b"txt", time);
+            brought(trace, at, rt, text, used)
         }
     }
 }
 
 // Shows the events of a trace that is read. Each takes a byte at least, so that the trace has no more events than bytes.
-fn events(trace: &[u8], text: &mut [u8; 4096]) {
-    let mut used = first(text, b"events");
+fn events(trace: &[u8], rt: &impl Print, text: &mut [u8; 4096]) {
+    let mut used = first(rt, text, b"events");
     let mut at = 0;
     let mut left = trace.len();
     while 0 < left {
@@ -93,7 +100,7 @@ fn events(trace: &[u8], text: &mut [u8; 4096]) {
         match trace::reading::next(trace, at) {
             Step::Found(entry) => {
                 let e = entry.event;
-                used = event(trace, at, e, text, used);
+                used = event(trace, at, e, rt, text, used);
                 at = entry.next;
             }
             Step::End => {
@@ -104,27 +111,27 @@ fn events(trace: &[u8], text: &mut [u8; 4096]) {
             }
         }
     }
-    finish(text, used);
+    finish(rt, text, used);
 }
 
 // The answer for a trace.
-fn shown(trace: &[u8], text: &mut [u8; 4096]) {
+fn shown(trace: &[u8], rt: &impl Print, text: &mut [u8; 4096]) {
     match trace::reading::check(trace) {
-        Checked::Read => events(trace, text),
-        Checked::Refused(offset) => refused_at(offset, text),
+        Checked::Read => events(trace, rt, text),
+        Checked::Refused(offset) => refused_at(offset, rt, text),
     }
 }
 
 // `trace TRACE`
-pub fn trace(line: &[u8], text: &mut [u8; 4096]) {
+pub fn trace(line: &[u8], rt: &impl Print, text: &mut [u8; 4096]) {
     if console_text::lines::arguments(line) != 1 {
-        return bad_line(text);
+        return bad_line(rt, text);
     }
     let field = console_text::lines::field(line, 1);
     if !console_text::hex::is_bytes(field) {
-        return bad_line(text);
+        return bad_line(rt, text);
     }
     let mut bytes = [0u8; 20000];
     let n = console_text::hex::fill(field, &mut bytes);
-    shown(console_text::lines::front(&bytes, n), text)
+    shown(console_text::lines::front(&bytes, n), rt, text)
 }
