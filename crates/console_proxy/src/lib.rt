@@ -53,14 +53,15 @@ pub fn call(
     held: Domains,
     table: Table,
     store: &[u8],
+    rt: &impl Print,
     text: &mut [u8; 4096],
 ) -> Domains
     ensures { result ≡ domains_after line.now held }
 {
     let word = console_text::lines::field(line, 0);
     if wire::expansion::same_bytes(word, b"proxy") {
-        return setup::proxy(line, held, text);
+        return setup::proxy(line, held, rt, text);
     }
-    mapping::call(line, held, table, store, text);
+    mapping::call(line, held, table, store, rt, text);
     held
 }

@@ -31,9 +31,9 @@ fn is_question(line: &[u8]) -> bool {
 }
 
 // `question NAME TYPE`
-fn question(line: &[u8], held: Domains, text: &mut [u8; 4096]) {
+fn question(line: &[u8], held: Domains, rt: &impl Print, text: &mut [u8; 4096]) {
     if !is_question(line) {
-        return bad_line(text);
+        return bad_line(rt, text);
     }
     let rich = held.rich;
     let ldh = held.ldh;
@@ -51,28 +51,28 @@ fn question(line: &[u8], held: Domains, text: &mut [u8; 4096]) {
     let b = q.name;
     match asked {
         Asked::Name(len) => {
-            let used = first(text, b"ask");
-            let used = bytes(text, used, front(&b, len));
-            finish(text, used)
+            let used = first(rt, text, b"ask");
+            let used = bytes(rt, text, used, front(&b, len));
+            finish(rt, text, used)
         }
-        Asked::Negative => only(text, b"negative"),
-        Asked::Refused(refusal) => refused(text, refusal as u64),
+        Asked::Negative => only(rt, text, b"negative"),
+        Asked::Refused(refusal) => refused(rt, text, refusal as u64),
     }
 }
 
 // The answer `record OWNER TYPE CLASS TTL RDATA`.
-fn record(f: Fields, owner: &[u8], rdata: &[u8], text: &mut [u8; 4096]) {
-    let used = first(text, b"record");
-    let used = bytes(text, used, owner);
-    let used = console_calls::output::number(text, used, f.rtype as u64);
-    let used = console_calls::output::number(text, used, f.class as u64);
-    let used = console_calls::output::number(text, used, f.ttl as u64);
-    let used = bytes(text, used, rdata);
-    finish(text, used)
+fn record(f: Fields, owner: &[u8], rdata: &[u8], rt: &impl Print, text: &mut [u8; 4096]) {
+    let used = first(rt, text, b"record");
+    let used = bytes(rt, text, used, owner);
+    let used = console_calls::output::number(rt, text, used, f.rtype as u64);
+    let used = console_calls::output::number(rt, text, used, f.class as u64);
+    let used = console_calls::output::number(rt, text, used, f.ttl as u64);
+    let used = bytes(rt, text, used, rdata);
+    finish(rt, text, used)
 }
 
 // What became of a record, whose rdata lies at hand: that is shown where it holds no name.
-fn passed(p: Passed, lies: &[u8], text: &mut [u8; 4096]) {
+fn passed(p: Passed, lies: &[u8], rt: &impl Print, text: &mut [u8; 4096]) {
     let passing = p.passing;
     let o = p.owner;
     let d = p.rdata;
@@ -80,12 +80,12 @@ fn passed(p: Passed, lies: &[u8], text: &mut [u8; 4096]) {
         Passing::Record(f) => {
             let form = wire::rdata::form_of(f.rtype);
             if form.named {
-                return record(f, front(&o, f.owner), front(&d, f.rdata), text);
+                return record(f, front(&o, f.owner), front(&d, f.rdata), rt, text);
             }
-            record(f, front(&o, f.owner), lies, text)
+            record(f, front(&o, f.owner), lies, rt, text)
         }
-        Passing::Left => only(text, b"left"),
-        Passing::Refused(refusal) => refused(text, refusal as u64),
+        Passing::Left => only(rt, text, b"left"),
+        Passing::Refused(refusal) => refused(rt, text, refusal as u64),
     }
 }
 
@@ -122,9 +122,9 @@ fn ttl(line: &[u8]) -> u32 {
 }
 
 // `answer OWNER TYPE CLASS TTL RDATA`
-fn answer(line: &[u8], held: Domains, text: &mut [u8; 4096]) {
+fn answer(line: &[u8], held: Domains, rt: &impl Print, text: &mut [u8; 4096]) {
     if !is_answer(line) {
-        return bad_line(text);
+        return bad_line(rt, text);
     }
     let rich = held.rich;
     let ldh = held.ldh;
@@ -143,7 +143,7 @@ fn answer(line: &[u8], held: Domains, text: &mut [u8; 4096]) {
         ttl(line),
         front(&rdata, m),
     );
-    passed(p, front(&rdata, m), text)
+    passed(p, front(&rdata, m), rt, text)
 }
 
 // Whether a line is of the form `cached NOW K`, of an entry that the table has.
@@ -161,46 +161,61 @@ fn is_cached(line: &[u8], table: Table) -> bool {
 }
 
 // The record of an entry and its slot.
-fn entry(e: Entry, slot: &[u8], time: u64, held: Domains, text: &mut [u8; 4096]) {
+fn entry(e: Entry, slot: &[u8], time: u64, held: Domains, rt: &impl Print, text: &mut [u8; 4096]) {
     let rich = held.rich;
     let ldh = held.ldh;
     let r = rich.bytes;
     let l = ldh.bytes;
     let p = proxy::records::cached(front(&r, rich.len), front(&l, ldh.len), time, e, slot);
-    passed(p, wire::rdata::part(slot, 256, e.rdata as usize), text)
+    passed(p, wire::rdata::part(slot, 256, e.rdata as usize), rt, text)
 }
 
 // `cached NOW K`. The refusals of the whole table come first: they are those of a lookup, here of the root, from past the last slot on.
-fn cached(line: &[u8], held: Domains, table: Table, store: &[u8], text: &mut [u8; 4096]) {
+fn cached(
+    line: &[u8],
+    held: Domains,
+    table: Table,
+    store: &[u8],
+    rt: &impl Print,
+    text: &mut [u8; 4096],
+) {
     if !is_cached(line, table) {
-        return bad_line(text);
+        return bad_line(rt, text);
     }
     let time = number(line, 1);
     let k = number(line, 2) as usize;
     let numbers = console_table::look_up(table, store, time, b"\x00", 0, MOST_ENTRIES);
     if numbers.refusal != 0 {
-        return refused(text, numbers.refusal as u64);
+        return refused(rt, text, numbers.refusal as u64);
     }
     entry(
         console_table::entry_at(table, k),
         cache::entries::slot_of(store, k),
         time,
         held,
+        rt,
         text,
     )
 }
 
 // Answers one of these calls. Any other line is a bad one.
-pub fn call(line: &[u8], held: Domains, table: Table, store: &[u8], text: &mut [u8; 4096]) {
+pub fn call(
+    line: &[u8],
+    held: Domains,
+    table: Table,
+    store: &[u8],
+    rt: &impl Print,
+    text: &mut [u8; 4096],
+) {
     let word = console_text::lines::field(line, 0);
     if wire::expansion::same_bytes(word, b"question") {
-        return question(line, held, text);
+        return question(line, held, rt, text);
     }
     if wire::expansion::same_bytes(word, b"answer") {
-        return answer(line, held, text);
+        return answer(line, held, rt, text);
     }
     if wire::expansion::same_bytes(word, b"cached") {
-        return cached(line, held, table, store, text);
+        return cached(line, held, table, store, rt, text);
     }
-    bad_line(text)
+    bad_line(rt, text)
 }

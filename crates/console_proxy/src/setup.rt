@@ -43,15 +43,15 @@ fn is_proxy(line: &[u8]) -> bool
 }
 
 // The set-up of two domains, or what is held where it is refused.
-fn set_up(rich: &[u8], ldh: &[u8], held: Domains, text: &mut [u8; 4096]) -> Domains
+fn set_up(rich: &[u8], ldh: &[u8], held: Domains, rt: &impl Print, text: &mut [u8; 4096]) -> Domains
     ensures { result ≡ domains_of rich.now ldh.now held }
 {
     let refusal = proxy::domains::setup_refusal(rich, ldh);
     if refusal != 0 {
-        refused(text, refusal as u64);
+        refused(rt, text, refusal as u64);
         return held;
     }
-    only(text, b"proxied");
+    only(rt, text, b"proxied");
     Domains {
         rich: domain(rich),
         ldh: domain(ldh),
@@ -59,11 +59,11 @@ fn set_up(rich: &[u8], ldh: &[u8], held: Domains, text: &mut [u8; 4096]) -> Doma
 }
 
 // `proxy RICH LDH`: the domains after it.
-pub fn proxy(line: &[u8], held: Domains, text: &mut [u8; 4096]) -> Domains
+pub fn proxy(line: &[u8], held: Domains, rt: &impl Print, text: &mut [u8; 4096]) -> Domains
     ensures { result ≡ after_proxy line.now held }
 {
     if !is_proxy(line) {
-        bad_line(text);
+        bad_line(rt, text);
         return held;
     }
     let mut rich = [0u8; 20000];
@@ -74,6 +74,7 @@ pub fn proxy(line: &[u8], held: Domains, text: &mut [u8; 4096]) -> Domains
         console_text::lines::front(&rich, n),
         console_text::lines::front(&ldh, m),
         held,
+        rt,
         text,
     )
 }
