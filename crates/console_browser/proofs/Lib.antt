@@ -1,3 +1,2 @@
--- Laws that belong to no one function: calls of the exported browser as steps of a walk, and what a line makes of the browser.
-mod Calls
+-- Laws that belong to no one function: what a line makes of the browser.
 mod After

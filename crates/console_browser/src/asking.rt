@@ -9,26 +9,33 @@ use console_table::Table;
 use console_text::fields::number;
 
 // Shows a packet, and whether more is due.
-fn sent(packet: &[u8], more: bool, text: &mut [u8; 4096]) {
-    let used = first(text, b"sent");
-    let used = bytes(text, used, packet);
+fn sent(packet: &[u8], more: bool, rt: &impl Print, text: &mut [u8; 4096]) {
+    let used = first(rt, text, b"sent");
+    let used = bytes(rt, text, used, packet);
     if more {
-        let used = word(text, used, b"more");
-        finish(text, used);
+        let used = word(rt, text, used, b"more");
+        finish(rt, text, used);
         return;
     }
-    finish(text, used);
+    finish(rt, text, used);
 }
 
 // The answer of a tick that may send what stands at the start of the out buffer.
-fn shown(refusal: u8, length: usize, more: bool, out: &[u8], text: &mut [u8; 4096]) {
+fn shown(
+    refusal: u8,
+    length: usize,
+    more: bool,
+    out: &[u8],
+    rt: &impl Print,
+    text: &mut [u8; 4096],
+) {
     if refusal != 0 {
-        return refused(text, refusal as u64);
+        return refused(rt, text, refusal as u64);
     }
     if length == 0 {
-        return only(text, b"quiet");
+        return only(rt, text, b"quiet");
     }
-    sent(console_text::lines::front(out, length), more, text)
+    sent(console_text::lines::front(out, length), more, rt, text)
 }
 
 // Ticks over the first bytes of the out buffer, `n` of them.
@@ -54,22 +61,23 @@ pub fn ask(
     table: Table,
     store: &[u8],
     out: &mut [u8],
+    rt: &impl Print,
     text: &mut [u8; 4096],
 ) -> BrowserNumbers
     ensures browser { result ≡ (after_ask line.now table store.now (browsing held out.old)).browser }
     ensures out { out.new ≡ (after_ask line.now table store.now (browsing held out.old)).out }
 {
     if !is_tick(line) {
-        bad_line(text);
+        bad_line(rt, text);
         return held;
     }
     let time = number(line, 1);
     let n = lent(line, 2);
     if out.len() < n {
-        bad_line(text);
+        bad_line(rt, text);
         return held;
     }
     let ticked = step(table, store, held, time, out, n);
-    shown(ticked.refusal, ticked.length, ticked.more, out, text);
+    shown(ticked.refusal, ticked.length, ticked.more, out, rt, text);
     ticked.browser
 }

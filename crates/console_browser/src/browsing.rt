@@ -56,18 +56,23 @@ fn begin(line: &[u8]) -> StartedNumbers
 }
 
 // `browse NOW DRAW REFRESH SERVICE PROTOCOL DOMAIN`: the browser after it.
-pub fn browse(line: &[u8], held: BrowserNumbers, text: &mut [u8; 4096]) -> BrowserNumbers
+pub fn browse(
+    line: &[u8],
+    held: BrowserNumbers,
+    rt: &impl Print,
+    text: &mut [u8; 4096],
+) -> BrowserNumbers
     ensures { result ≡ after_browse line.now held }
 {
     if !is_browse(line) {
-        bad_line(text);
+        bad_line(rt, text);
         return held;
     }
     let started = begin(line);
     if started.refusal != 0 {
-        refused(text, started.refusal as u64);
+        refused(rt, text, started.refusal as u64);
         return held;
     }
-    only(text, b"browsing");
+    only(rt, text, b"browsing");
     started.browser
 }

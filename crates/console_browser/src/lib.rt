@@ -54,6 +54,7 @@ pub fn call(
     table: Table,
     store: &[u8],
     out: &mut [u8; 4096],
+    rt: &impl Print,
     text: &mut [u8; 4096],
 ) -> BrowserNumbers
     ensures browser { result ≡ (browser_after line.now table store.now (browsing held out.old)).browser }
@@ -61,15 +62,15 @@ pub fn call(
 {
     let word = console_text::lines::field(line, 0);
     if wire::expansion::same_bytes(word, b"browse") {
-        return browsing::browse(line, held, text);
+        return browsing::browse(line, held, rt, text);
     }
     if wire::expansion::same_bytes(word, b"ask") {
-        return asking::ask(line, held, table, store, out, text);
+        return asking::ask(line, held, table, store, out, rt, text);
     }
     if wire::expansion::same_bytes(word, b"list") {
-        listing::list(line, held, table, store, text);
+        listing::list(line, held, table, store, rt, text);
         return held;
     }
-    bad_line(text);
+    bad_line(rt, text);
     held
 }

@@ -5,10 +5,18 @@ use console_table::{MOST_ENTRIES, Table};
 use console_text::fields::{has_arguments, is_number};
 
 // Adds ` K TARGET`.
-fn row(text: &mut [u8; 4096], used: usize, table: Table, store: &[u8], k: usize) -> usize {
+fn row(
+    rt: &impl Print,
+    text: &mut [u8; 4096],
+    used: usize,
+    table: Table,
+    store: &[u8],
+    k: usize,
+) -> usize {
     let e = console_table::entry_at(table, k);
-    let used = number(text, used, k as u64);
+    let used = number(rt, text, used, k as u64);
     bytes(
+        rt,
         text,
         used,
         wire::rdata::part(cache::entries::slot_of(store, k), 256, e.rdata as usize),
@@ -17,6 +25,7 @@ fn row(text: &mut [u8; 4096], used: usize, table: Table, store: &[u8], k: usize)
 
 // Adds a row for each slot that is listed.
 fn rows(
+    rt: &impl Print,
     text: &mut [u8; 4096],
     used: usize,
     table: Table,
@@ -36,7 +45,7 @@ fn rows(
         if MOST_ENTRIES <= k {
             return taken;
         }
-        taken = row(text, taken, table, store, k);
+        taken = row(rt, text, taken, table, store, k);
         from = k + 1;
         left -= 1;
     }
@@ -52,19 +61,26 @@ fn is_list(line: &[u8]) -> bool {
 }
 
 // `list NOW`
-pub fn list(line: &[u8], held: BrowserNumbers, table: Table, store: &[u8], text: &mut [u8; 4096]) {
+pub fn list(
+    line: &[u8],
+    held: BrowserNumbers,
+    table: Table,
+    store: &[u8],
+    rt: &impl Print,
+    text: &mut [u8; 4096],
+) {
     if !is_list(line) {
-        return bad_line(text);
+        return bad_line(rt, text);
     }
     let time = console_text::fields::number(line, 1);
     let listed = crate::lending::list(table, store, held, time, 0);
     if listed.refusal != 0 {
-        return refused(text, listed.refusal as u64);
+        return refused(rt, text, listed.refusal as u64);
     }
     if !listed.found {
-        return only(text, b"list -");
+        return only(rt, text, b"list -");
     }
-    let used = first(text, b"list");
-    let used = rows(text, used, table, store, held, time);
-    finish(text, used);
+    let used = first(rt, text, b"list");
+    let used = rows(rt, text, used, table, store, held, time);
+    finish(rt, text, used);
 }
