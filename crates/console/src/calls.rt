@@ -36,6 +36,7 @@ pub fn call(
     store: &mut [u8; 525312],
     out: &mut [u8; 4096],
     unicast: &mut [u8; 4096],
+    rt: &impl Print,
     text: &mut [u8; 4096],
 ) -> Held
     ensures held { (let c : Console = record { held = held; store = store.old; out = out.old; unicast = unicast.old } in
@@ -54,7 +55,7 @@ pub fn call(
         let browser = held.browser;
         let domains = held.domains;
         return Held {
-            state: console_responder::call(line, state, out, unicast, text),
+            state: console_responder::call(line, state, out, unicast, rt, text),
             table,
             browser,
             domains,
@@ -67,7 +68,7 @@ pub fn call(
         let domains = held.domains;
         return Held {
             state,
-            table: console_calls::cache_calls::call(line, table, store, text),
+            table: console_calls::cache_calls::call(line, table, store, rt, text),
             browser,
             domains,
         };
@@ -80,7 +81,7 @@ pub fn call(
         return Held {
             state,
             table,
-            browser: console_browser::call(line, browser, table, store, out, text),
+            browser: console_browser::call(line, browser, table, store, out, rt, text),
             domains,
         };
     }
@@ -93,13 +94,13 @@ pub fn call(
             state,
             table,
             browser,
-            domains: console_proxy::call(line, domains, table, store, text),
+            domains: console_proxy::call(line, domains, table, store, rt, text),
         };
     }
     if console_trace::is_call(word) {
-        console_trace::call(line, text);
+        console_trace::call(line, rt, text);
         return held;
     }
-    console_calls::reader_calls::call(line, text);
+    console_calls::reader_calls::call(line, rt, text);
     held
 }

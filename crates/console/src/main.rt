@@ -8,18 +8,21 @@ ghost use Rattle.std.specs.Prelude.{◌≡◌, ◌+◌, ◌≤◌, length};
 ghost use Rattle.console.specs.Lines.{Console, after_line};
 
 use calls::Held;
-use libc::STDIN_FILENO;
+use std::io::Read;
 
 // The most bytes that a line has, its LF not counted.
 const MOST_LINE: usize = 40000;
 
-// Reads once into what is free of the buffer, of which `held` bytes are taken, and tells how many are taken then: no more at the input's end.
-fn refill(input: &mut [u8], held: usize) -> usize
+// Reads once into what is free of the buffer, of which `held` bytes are taken, and tells how many are taken then: no more at the input's end, or
+// where a read fails.
+fn refill(from: &mut impl Read, input: &mut [u8], held: usize) -> usize
     requires { held ≤ length input.old }
     ensures { (held ≤ result) × (result ≤ length input.new) }
 {
-    let got = libc::read(STDIN_FILENO, &mut input[held..]);
-    held + io::count(got, &input[held..])
+    match from.read(&mut input[held..]) {
+        Ok(n) => held + n,
+        Err(_) => held,
+    }
 }
 
 // Moves `n` bytes from an offset to the start of the buffer.
@@ -55,6 +58,7 @@ fn answer_line(
     store: &mut [u8; 525312],
     out: &mut [u8; 4096],
     unicast: &mut [u8; 4096],
+    rt: &impl Print,
     text: &mut [u8; 4096],
 ) -> Held
     ensures held { (let c : Console = record { held = held; store = store.old; out = out.old; unicast = unicast.old } in
@@ -73,19 +77,21 @@ fn answer_line(
         return held;
     }
     if MOST_LINE < line.len() {
-        console_calls::output::bad_line(text);
+        console_calls::output::bad_line(rt, text);
         return held;
     }
-    calls::call(line, held, store, out, unicast, text)
+    calls::call(line, held, store, out, unicast, rt, text)
 }
 
 // Reads and answers line by line until the input ends. Of the buffer's first `filled` bytes the line begins at `start`, and no LF stands before
 // `seen`. Nothing says that the input ends, so the loop counts its turns down, from a number of lines and reads that no run uses up.
 fn serve(
+    from: &mut impl Read,
     input: &mut [u8],
     store: &mut [u8; 525312],
     out: &mut [u8; 4096],
     unicast: &mut [u8; 4096],
+    rt: &impl Print,
     text: &mut [u8; 4096],
 ) {
     let mut held = calls::at_first();
@@ -95,17 +101,17 @@ fn serve(
     let mut turns = u64::MAX;
     while 0 < turns {
         turns -= 1;
-        let end = bytes::scan::find(input, seen, filled, b'\n');
+        let end = seen + console_text::scan::find(&input[seen..filled], b'\n');
         if end < filled {
             let next = end + 1;
-            held = answer_line(&input[start..end], held, store, out, unicast, text);
+            held = answer_line(&input[start..end], held, store, out, unicast, rt, text);
             start = next;
             seen = start;
         } else {
             let kept = keep(input, start, filled);
             start = 0;
             seen = kept;
-            filled = refill(input, kept);
+            filled = refill(from, input, kept);
             if filled == kept {
                 return;
             }
@@ -113,11 +119,20 @@ fn serve(
     }
 }
 
-fn main() {
+fn main(rt: HostRuntime) {
+    let mut from = rt.stdin();
     let mut input = [0u8; 65536];
     let mut store = [0u8; 525312];
     let mut out = [0u8; 4096];
     let mut unicast = [0u8; 4096];
     let mut text = [0u8; 4096];
-    serve(&mut input, &mut store, &mut out, &mut unicast, &mut text);
+    serve(
+        &mut from,
+        &mut input,
+        &mut store,
+        &mut out,
+        &mut unicast,
+        &rt,
+        &mut text,
+    );
 }

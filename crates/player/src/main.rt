@@ -6,9 +6,10 @@
 ghost use Rattle.std.specs.Prelude.{◌≤◌, length};
 
 use console_calls::output::{finish, first, word};
-use libc::{STDERR_FILENO, STDIN_FILENO};
+use itoa::Buffer;
 use playing::{Line, Turn};
 use responder::{Answer, State};
+use std::io::Read;
 use trace::reading::Checked;
 
 // The most bytes of the input: there is no heap, and the trace is checked as a whole before anything is printed.
@@ -21,40 +22,39 @@ const START: usize = 6;
 const MOST_LINE: usize = 40006;
 
 // Says on standard error that the first line is not of its form.
-fn bad_line() {
-    io::write_all(STDERR_FILENO, b"bad line\n");
+fn bad_line(rt: &impl Eprint) {
+    let _ = eprintln!(rt; "bad line");
 }
 
 // Says on standard error that the input is longer than the most.
-fn too_long() {
-    io::write_all(STDERR_FILENO, b"too long\n");
+fn too_long(rt: &impl Eprint) {
+    let _ = eprintln!(rt; "too long");
 }
 
 // Says a refusal on standard error.
-fn refused(n: u8) {
-    io::write_all(STDERR_FILENO, b"refused ");
-    io::print_decimal(STDERR_FILENO, n as u64);
-    io::write_all(STDERR_FILENO, b"\n");
+fn refused(rt: &impl Eprint, n: u8) {
+    let _ = eprintln!(rt; "refused {n}");
 }
 
 // Says the refusal of a trace on standard error.
-fn refused_at(offset: usize) {
-    io::write_all(STDERR_FILENO, b"refused 12 ");
-    io::print_decimal(STDERR_FILENO, offset as u64);
-    io::write_all(STDERR_FILENO, b"\n");
+fn refused_at(rt: &impl Eprint, offset: usize) {
+    let _ = eprintln!(rt; "refused 12 {offset}");
 }
 
-// Reads once into what is free of the buffer, of which `held` bytes are taken, and tells how many are taken then: no more at the input's end.
-fn refill(input: &mut [u8], held: usize) -> usize
+// Reads once into what is free of the buffer, of which `held` bytes are taken, and tells how many are taken then: no more at the input's end, or
+// where a read fails.
+fn refill(from: &mut impl Read, input: &mut [u8], held: usize) -> usize
     requires { held ≤ length input.old }
     ensures { (held ≤ result) × (result ≤ length input.new) }
 {
-    let got = libc::read(STDIN_FILENO, &mut input[held..]);
-    held + io::count(got, &input[held..])
+    match from.read(&mut input[held..]) {
+        Ok(n) => held + n,
+        Err(_) => held,
+    }
 }
 
 // Reads the input behind the first bytes of a buffer, to its end or until the buffer is full, and tells how many bytes are taken then.
-fn read_all(input: &mut [u8], start: usize) -> usize
+fn read_all(from: &mut impl Read, input: &mut [u8], start: usize) -> usize
     requires { start ≤ length input.old }
     ensures { result ≤ length input.new }
 {
@@ -62,7 +62,7 @@ fn read_all(input: &mut [u8], start: usize) -> usize
     let mut turns = u64::MAX;
     while 0 < turns {
         turns -= 1;
-        let next = refill(input, filled);
+        let next = refill(from, input, filled);
         if next == filled {
             return filled;
         }
@@ -72,50 +72,49 @@ fn read_all(input: &mut [u8], start: usize) -> usize
 }
 
 // Begins a line with its time.
-fn time(text: &mut [u8; 4096], last: u64) -> usize {
-    let mut digits = [0u8; 20];
-    let k = io::decimal(last, &mut digits);
-    first(text, &digits[..k])
+fn time(rt: &impl Print, text: &mut [u8; 4096], last: u64) -> usize {
+    let mut digits = Buffer::new();
+    first(rt, text, digits.format(last).as_bytes())
 }
 
 // Adds the claim by its number.
-fn claim(text: &mut [u8; 4096], used: usize, k: u64) -> usize {
+fn claim(rt: &impl Print, text: &mut [u8; 4096], used: usize, k: u64) -> usize {
     if k == 0 {
-        return word(text, used, b"instance");
+        return word(rt, text, used, b"instance");
     }
-    word(text, used, b"host")
+    word(rt, text, used, b"host")
 }
 
 // Adds the state by its number.
-fn state(text: &mut [u8; 4096], used: usize, number: u64) -> usize {
+fn state(rt: &impl Print, text: &mut [u8; 4096], used: usize, number: u64) -> usize {
     match number {
-        0 => word(text, used, b"waiting"),
-        1 => word(text, used, b"probing"),
-        2 => word(text, used, b"deferred"),
-        3 => word(text, used, b"held"),
-        _ => word(text, used, b"lost"),
+        0 => word(rt, text, used, b"waiting"),
+        1 => word(rt, text, used, b"probing"),
+        2 => word(rt, text, used, b"deferred"),
+        3 => word(rt, text, used, b"held"),
+        _ => word(rt, text, used, b"lost"),
     }
 }
 
 // Adds the verdict.
-fn verdict(text: &mut [u8; 4096], used: usize, agrees: bool) -> usize {
+fn verdict(rt: &impl Print, text: &mut [u8; 4096], used: usize, agrees: bool) -> usize {
     if agrees {
-        return word(text, used, b"ok");
+        return word(rt, text, used, b"ok");
     }
-    word(text, used, b"bad")
+    word(rt, text, used, b"bad")
 }
 
 // Prints a line.
-fn show(line: Line, text: &mut [u8; 4096]) {
-    let used = time(text, line.last);
-    let used = claim(text, used, line.claim);
-    let used = state(text, used, line.state);
-    let used = verdict(text, used, line.agrees);
-    finish(text, used);
+fn show(line: Line, rt: &impl Print, text: &mut [u8; 4096]) {
+    let used = time(rt, text, line.last);
+    let used = claim(rt, text, used, line.claim);
+    let used = state(rt, text, used, line.state);
+    let used = verdict(rt, text, used, line.agrees);
+    finish(rt, text, used);
 }
 
 // Plays a trace that is read, from its start on. Each event takes a byte at least, so that the trace has no more events than bytes.
-fn play(trace: &[u8], begun: State, text: &mut [u8; 4096]) {
+fn play(trace: &[u8], begun: State, rt: &impl Print, text: &mut [u8; 4096]) {
     let mut state = begun;
     let mut at = 0;
     let mut left = trace.len();
@@ -135,7 +134,7 @@ fn play(trace: &[u8], begun: State, text: &mut [u8; 4096]) {
                 at = next;
             }
             Turn::Shown(line, next) => {
-                show(line, text);
+                show(line, rt, text);
                 at = next;
             }
         }
@@ -143,20 +142,20 @@ fn play(trace: &[u8], begun: State, text: &mut [u8; 4096]) {
 }
 
 // Plays a trace to a responder that has begun, where the trace is read.
-fn checked(trace: &[u8], begun: State, text: &mut [u8; 4096]) {
+fn checked(trace: &[u8], begun: State, rt: &(impl Print + Eprint), text: &mut [u8; 4096]) {
     match trace::reading::check(trace) {
-        Checked::Read => play(trace, begun, text),
-        Checked::Refused(offset) => refused_at(offset),
+        Checked::Read => play(trace, begun, rt, text),
+        Checked::Refused(offset) => refused_at(rt, offset),
     }
 }
 
 // Starts a responder by the first line, and plays the trace to it.
-fn run(line: &[u8], trace: &[u8], text: &mut [u8; 4096]) {
+fn run(line: &[u8], trace: &[u8], rt: &(impl Print + Eprint), text: &mut [u8; 4096]) {
     if MOST_LINE < line.len() {
-        return bad_line();
+        return bad_line(rt);
     }
     if !console_responder::setup::is_start(line) {
-        return bad_line();
+        return bad_line(rt);
     }
     let setup = console_responder::setup::told(line);
     let time = console_text::fields::number(line, 1);
@@ -164,37 +163,43 @@ fn run(line: &[u8], trace: &[u8], text: &mut [u8; 4096]) {
     let started = responder::start(setup, time, draw);
     let answer = started.answer;
     match answer {
-        Answer::Refused(n) => refused(n),
-        _ => checked(trace, started.state, text),
+        Answer::Refused(n) => refused(rt, n),
+        _ => checked(trace, started.state, rt, text),
     }
 }
 
 // The line and the trace of an input.
-fn split(input: &[u8], text: &mut [u8; 4096]) {
+fn split(input: &[u8], rt: &(impl Print + Eprint), text: &mut [u8; 4096]) {
     let size = input.len();
-    let end = bytes::scan::find(input, 0, size, b'\n');
+    let end = console_text::scan::find(input, b'\n');
     if size <= end {
-        return bad_line();
+        return bad_line(rt);
     }
     let next = end + 1;
-    run(&input[..end], &input[next..], text)
+    run(&input[..end], &input[next..], rt, text)
 }
 
 // Reads the input behind the word of a start, and plays what it says.
-fn serve(input: &mut [u8], text: &mut [u8; 4096]) {
+fn serve(
+    from: &mut impl Read,
+    input: &mut [u8],
+    rt: &(impl Print + Eprint),
+    text: &mut [u8; 4096],
+) {
     if input.len() < START {
         return;
     }
     wire::buffer::put(input, 0, b"start ");
-    let filled = read_all(input, START);
+    let filled = read_all(from, input, START);
     if filled == input.len() {
-        return too_long();
+        return too_long(rt);
     }
-    split(&input[..filled], text)
+    split(&input[..filled], rt, text)
 }
 
-fn main() {
+fn main(rt: HostRuntime) {
+    let mut from = rt.stdin();
     let mut input = [0u8; MOST_INPUT];
     let mut text = [0u8; 4096];
-    serve(&mut input, &mut text);
+    serve(&mut from, &mut input, &rt, &mut text);
 }
