@@ -8,9 +8,8 @@
     tests/wrong_programs.py --apply            only says whether each edit, of must-fail/ too, still applies: no proof, a second
     tests/wrong_programs.py --cover            only says which public functions have fewer than two edits in their own text
 
-A crate is first proved as it stands, by `rt check`. An edit is tried in a copy outside the checkout, over a copy of what that check kept, so that only what the
-edit touches is checked again. So a refusal here is a test, and never a verdict of proof: nothing is called proved by it. The edits of must-fail/ are tried by
-`rt ci`.
+A crate is first proved as it stands, by `rt check`. An edit is tried in a copy of it, over a copy of what that check kept, so that only what the edit touches is
+checked again. So a refusal here is a test, and never a verdict of proof: nothing is called proved by it. The edits of must-fail/ are tried by `rt ci`.
 
 An edit may say in which file it has to be refused (`first: proofs/Calls.antt`): then a fact has to fail there.
 
@@ -32,6 +31,7 @@ the refusal only says that the proof no longer has the code's shape (a name that
 import argparse
 import concurrent.futures
 import difflib
+import fcntl
 import hashlib
 import os
 import pathlib
@@ -203,13 +203,19 @@ def ran(words, folder):
 
 
 class Kit:
-    """The prover, and copies of crates for it, outside the checkout: `rt ci` reads every source in that."""
+    """The prover, and copies of crates for it, where `rt ci` reads no source: in .git, where links to what `rt` kept can be made, or among the temporary files."""
 
     def __init__(self):
         if not shutil.which("rt"):
             sys.exit("the Rattle kit's command rt is missing")
         self.uses = uses_of_all()
-        self.room = pathlib.Path(tempfile.mkdtemp(prefix="kurgashel-wrong-"))
+        git = ROOT / ".git"
+        self.room = git / "wrong-programs" if git.is_dir() else pathlib.Path(tempfile.mkdtemp(prefix="kurgashel-wrong-"))
+        # one run at a time in a checkout
+        self.turn = (self.room.parent / "wrong-programs.lock").open("w") if git.is_dir() else None
+        if self.turn:
+            fcntl.flock(self.turn, fcntl.LOCK_EX)
+            shutil.rmtree(self.room, ignore_errors=True)
         self.lock, self.proved, self.mine = threading.Lock(), {}, threading.local()
         self.tops = 0
 
