@@ -335,6 +335,11 @@ def named_anew(log, crate, function, texts):
     for line in log.splitlines():
         place = re.match(r"(?:\./)?(\S+?):\d+:\d+: error", line)
         if place and pathlib.Path(place.group(1)).parent == function.proof:
+            # a loop that no longer reads a parameter knows it as it was at entry
+            unread = re.search(r"record `[^`]*\.Live-[\w-]+` has no field `(\w+)`", line)
+            name = f"{function.proof}/Invariants.antt"
+            if unread and name in files:
+                files[name] = re.sub(rf"(?<![\w.-])(\w+)\.{unread.group(1)}(?![\w-])", rf"\1.fn.{unread.group(1)}", files[name])
             lost = re.search(r"has no field `([^`]+)` \(nearest: ([^)]*)\)", line)
             if lost:
                 found = [it.strip().lstrip(".") for it in lost.group(2).split(",")]
