@@ -2,11 +2,9 @@
 use mathlib.Core.Path.{◌≡◌, refl, sym, ap, subst, ◌∙◌}
 use mathlib.Core.Bool.{Bool, true, false}
 use mathlib.Core.List.{List}
-use Prim.Native.Nat.{ℕ, ◌<◌}
+use Prim.Native.Nat.{ℕ}
 use native.Mathlib.Omega.{arith}
 use borrow.Author.Tests.{leb-true}
-use lib.Dec.{eqb}
-use lib.ListN.{length}
 use Rattle.own.specs.changes.Changes.{new_port, new_txt}
 use Rattle.trace.specs.reading.Reading.{step_at}
 use Rattle.trace.specs.reading.Events.{Occurrence, occurrence, data_in}
@@ -17,7 +15,7 @@ use Rattle.trace.specs.declared.reading.Step.TheVariants.{End, Found, Refused}
 use Rattle.trace.proofs.Numbers.{Bytes}
 use Rattle.trace.proofs.EventsWritten.{wrote}
 use Rattle.responder.specs.declared.State.{State}
-use Rattle.responder.specs.Runs.{received, ticked, stopped, updated, state_after}
+use Rattle.responder.specs.Runs.{received, ticked, stopped, updated}
 use Rattle.playing.specs.Playing.{room, arrival_of, tick_of, update_of, call_of, state_behind, refusal_behind, turn_of, port_fits, played_by, played_at}
 use Rattle.playing.specs.declared.Played.{Played}
 use Rattle.playing.proofs.Laws.{fits-port}
@@ -26,7 +24,7 @@ use Rattle.capi_responder.proofs.States.{same_received, same_ticked, same_stoppe
 use Rattle.capi_player.specs.Laid.{Lays}
 use Rattle.capi_player.specs.declared.PlayedTurn.{PlayedTurn}
 use Rattle.capi_player.specs.Played.{turn_numbers, no_state, is_state, answer_of, is_taken, bytes_by, bytes_behind, bytes_played, state_played, Plays}
-use Rattle.capi_player.proofs.Same.{Leaves, port-holds, txt-holds, same_holds, kept, taken}
+use Rattle.capi_player.proofs.Same.{port-holds, txt-holds, same_holds, kept, taken}
 
 clash : {A : Type 0} → ◌≡◌ {A = Bool} false true → A
 clash e = let z : ◌≡◌ {A = ℕ} 0 1 = cc in absurd (omega arith)
