@@ -1,7 +1,4 @@
 use Rattle.std.proofs.Common.{rules}
-use mathlib.Core.Path.{◌≡◌}
-use Prim.Native.Nat.{◌≤◌}
-use lib.ListN.{length}
 use Rattle.console.proofs.serve.Goals as goal
 
 pub loop-turns-preserved-then-end-filled : goal.loop-turns-preserved-then-end-filled
