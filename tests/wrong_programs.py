@@ -4,7 +4,8 @@
     tests/wrong_programs.py                    every edit
     tests/wrong_programs.py NAME [LABEL ..]    those of a crate, or some of them
     tests/wrong_programs.py --gate             those that may have come to another end since all were tried, and one in eight of the others
-    tests/wrong_programs.py --record           every edit; where all are refused tests/wrong_tried.txt says so, of the commit that is checked out
+    tests/wrong_programs.py --record [NAME ..] every edit, or those of these crates; where all of a crate are refused tests/wrong_tried.txt says so, of the commit
+                                               that is checked out
     tests/wrong_programs.py --apply            only says whether each edit, of must-fail/ too, still applies: no proof, a second
     tests/wrong_programs.py --cover            only says which public functions have fewer than two edits in their own text
 
@@ -21,10 +22,11 @@ theorem) is tried alone, in the whole crate.
 What is known at each place of a function is called after the conditions and the calls above it (`if-b-gt90`), and so is each goal. Where an edit changes such a
 name, the proof as it stands says nothing: it cites what is not there. The copy's proof then has the new name in the place of the old one, and is checked again.
 
-How an edit ends depends on its crate, on what that rests on and on the kit, and on nothing else. tests/wrong_tried.txt has a commit and a kit at which all edits
-were refused that are as they were then; with --gate those are tried whose crate has changed since, edits too, or a crate below it but in its proofs alone, and of
-the others one in eight, other ones at each commit. Where the commit can't be found, or the kit is another, crate after crate is tried in an order drawn by the
-commit, for so many minutes (--minutes); the last line says how many were tried of how many, and the others are not known to be refused.
+How an edit ends depends on its crate, on what that rests on and on the kit, and on nothing else. tests/wrong_tried.txt has a commit, a kit and the crates of which all
+edits were refused then; with --gate those of them are tried whose crate has changed since, edits too, or a crate below it but in its proofs alone, and of the others of
+these crates one in eight, other ones at each commit. The edits of crates that it does not name are not known to be refused by this kit: the gate leaves them to
+--record, and its last line says how many they are. Where it names none for this kit, crate after crate is tried in an order drawn by the commit, for so many minutes
+(--minutes).
 
 An edit fails the run where the copy is not refused, where the prover was not reached, where its text no longer stands exactly once in its file, or where
 the refusal only says that the proof no longer has the code's shape (a name that is not there)."""
@@ -508,22 +510,37 @@ def drawn(words):
     return int.from_bytes(hashlib.sha256(f"{head} {words}".encode()).digest()[:4], "big")
 
 
+def recorded():
+    """The commit of tests/wrong_tried.txt and the crates that it names, where it is of this kit; else nothing."""
+    lines = TRIED.read_text().splitlines() if TRIED.is_file() else []
+    commit, _, kit = lines[0].partition(" ") if lines else ("", "", "")
+    return (commit, lines[1:]) if lines and kit == said("rt", "version") else (None, [])
+
+
 def chosen_for_gate(every):
-    """The edits that the gate tries, in a line which they are, and whether it is known that the others were refused."""
-    commit, kit = TRIED.read_text().splitlines()[0].split(" ", 1) if TRIED.is_file() else ("none", "")
-    changed = changed_crates(commit) if kit == said("rt", "version") else None
+    """The edits that the gate tries, in a line which they are, and whether it is known which were refused."""
+    commit, crates = recorded()
+    changed = changed_crates(commit) if crates else None
     if changed is None:
         return every, "it can't be told what has changed since all wrong programs were tried with this kit: crate after crate is tried, by the clock", False
-    some = [edit for edit in every if crate_of(edit) in changed or drawn(title(edit)) % 8 == 0]
-    which = f"of crates changed since {commit[:12]}, where all were refused ({len(changed)}), and one in eight of the others"
-    return some, f"{len(some)} of {len(every)} wrong programs: {which}", True
+    known = [edit for edit in every if crate_of(edit) in crates]
+    some = [edit for edit in known if crate_of(edit) in changed or drawn(title(edit)) % 8 == 0]
+    which = f"of crates changed since {commit[:12]} ({len(changed.intersection(crates))}), where all of theirs were refused, and one in eight of the other {len(crates)} crates tried then"
+    left = f"; {len(every) - len(known)} of other crates are left to --record" if len(known) < len(every) else ""
+    return some, f"{len(some)} of {len(every)} wrong programs: {which}{left}", True
 
 
-def record():
-    """Says that all edits were refused at the commit that is checked out, if no source differs from it."""
+def record(names):
+    """Says that all edits of these crates, or of all, were refused at the commit that is checked out, if no source differs from it."""
     if said("git", "status", "--porcelain", "crates", "crates.txt") != "":
         sys.exit("not recorded: the sources are not those of a commit")
-    TRIED.write_text(f"{said('git', 'rev-parse', 'HEAD')} {said('rt', 'version')}\n")
+    commit, crates = recorded()
+    head = said("git", "rev-parse", "HEAD")
+    # what was refused at another commit counts on where nothing of it has changed since
+    changed = changed_crates(commit) if crates else set()
+    kept = [crate for crate in crates if changed is not None and crate not in changed]
+    crates = sorted(set(kept) | set(names))
+    TRIED.write_text("\n".join([f"{head} {said('rt', 'version')}", *crates]) + "\n")
 
 
 def try_all(name, labels, jobs, gate=False, minutes=MINUTES):
@@ -564,16 +581,17 @@ def main():
     parser.add_argument("--cover", action="store_true", help="only say which public functions have fewer than two")
     parser.add_argument("--gate", action="store_true", help="try those that may end otherwise since all were tried, and one in eight of the others")
     parser.add_argument("--minutes", type=float, default=MINUTES, help=f"how long --gate goes on where it can't tell what has changed ({MINUTES})")
-    parser.add_argument("--record", action="store_true", help="try all, and record where all are refused")
+    parser.add_argument("--record", nargs="*", metavar="NAME", help="try all, or those of these crates, and record of which crates all are refused")
     parser.add_argument("--jobs", type=int, default=os.cpu_count(), help="so many at a time (the number of cores)")
     parser.add_argument("crate", nargs="?", help="the edits of this crate alone")
     parser.add_argument("label", nargs="*", help="these edits alone")
     words = parser.parse_args()
-    if words.record and words.crate:
-        parser.error("--record is of every edit")
+    if words.record is not None:
+        names = words.record or sorted({crate_of(edit) for edit in edits("wrong")})
+        refused = [name for name in names if try_all(name, [], words.jobs)]
+        record(refused)
+        sys.exit(0 if refused == names else 1)
     done = apply_all() if words.apply else cover_all(words.crate) if words.cover else try_all(words.crate, words.label, words.jobs, words.gate, words.minutes)
-    if done and words.record:
-        record()
     sys.exit(0 if done else 1)
 
 
