@@ -5,7 +5,8 @@
 
 Words are in snake case, types and facts in camel case. A dash stays where it joins a definition's name to what a lemma says of it; elsewhere it becomes an
 underscore. Two names that would fall together are told apart: a lemma gets `_lem`, and a number after that. Functions of src/, exported names, strings,
-inputs and outputs keep their names. With --check nothing is written. A second run changes nothing."""
+inputs and outputs keep their names. With --check nothing is written. Kept so that the port can be made again; it is for the tree that port.py leaves, whose
+proofs are Proof.antt files, and does nothing to any other."""
 import collections
 import pathlib
 import re
@@ -140,6 +141,8 @@ def turn(text, renamed, answers, fields=frozenset()):
 
 
 def main():
+    if not any(is_answer(path) for path in sources()):
+        sys.exit("this tree is not as port.py leaves it: nothing is done")
     renamed, names = renamings()
     fields = {name for name in names if "F" in names[name]}
     changed = 0
