@@ -1,4 +1,6 @@
 -- For callers: which test refuses a message. Assumes nothing.
+use Rattle.std.specs.Prelude.{Err, Ok, Result}
+use Rattle.wire.specs.declared.refusals.Refusal.{Refusal}
 use mathlib.Core.Path.{◌≡◌, refl, sym, ap, ◌∙◌}
 use mathlib.Core.List.{List}
 use mathlib.Core.Bool.{Bool, true, false, cond, not, ◌||◌}
@@ -12,8 +14,6 @@ use Rattle.wire.specs.message.Message.{Message}
 use Rattle.wire.specs.message.Layout.{Listing, listing, cut, question_at, record_at, list_from, Reads, read, refused, and_then, sections_of, wrong_length, wrong_header, message_at, read_of, refusal_of}
 use Rattle.wire.specs.message.Refusals.{wrong_port, is_refused, is_malformed, packet_refusal, message_refusal, or_refused, message_from}
 use Rattle.wire.specs.declared.message.Layout.{Layout}
-use Rattle.wire.specs.declared.message.MessageRead.{MessageRead}
-use Rattle.wire.specs.declared.message.MessageRead.TheVariants as answer
 use Rattle.wire.proofs.message.Cursor.{as_read}
 
 -- what a result is by its contract and by a test of it
@@ -60,7 +60,7 @@ module _ (p : List ℕ) where
       go false true = refl
       go false false = malformed_is
 
-  pub number_is : (r : MessageRead) → r ≡ read_of (message_at p) → refusal_of r ≡ packet_refusal p
+  pub number_is : (r : (Result Layout Refusal)) → r ≡ read_of (message_at p) → refusal_of r ≡ packet_refusal p
   number_is r h = ap refusal_of h ∙ refusal_is
 
   -- a packet is refused as 4, 5 or 6, if at all
@@ -134,14 +134,14 @@ module _ (p : List ℕ) where
 
 -- what is read, or a refusal: the answer of a function, and what a caller learns from it
 module _ (refusal : ℕ) (x : Reads) where
-  pub refusing : (refusal ≡ 0 → ⊥) → answer.Refused refusal ≡ read_of (or_refused refusal x)
+  pub refusing : (refusal ≡ 0 → ⊥) → Err refusal ≡ read_of (or_refused refusal x)
   refusing z = sym (simp (ne_eqb refusal 0 z))
 
-  pub reading : (r : MessageRead) → refusal ≡ 0 → r ≡ read_of x → r ≡ read_of (or_refused refusal x)
+  pub reading : (r : (Result Layout Refusal)) → refusal ≡ 0 → r ≡ read_of x → r ≡ read_of (or_refused refusal x)
   reading r z h = h ∙ sym (simp (eq-eqb refusal 0 z))
 
-  module _ (r : MessageRead) (is : r ≡ read_of (or_refused refusal x)) where
-    pub was_read : (l : Layout) → r ≡ answer.Read l → (refusal ≡ 0) × (says : Message) × (x ≡ read l says)
+  module _ (r : (Result Layout Refusal)) (is : r ≡ read_of (or_refused refusal x)) where
+    pub was_read : (l : Layout) → r ≡ Ok l → (refusal ≡ 0) × (says : Message) × (x ≡ read l says)
     was_read l e = go (eqb refusal 0) refl is
       where
         go : (b : Bool) → eqb refusal 0 ≡ b → r ≡ read_of (cond b x (refused refusal)) → (refusal ≡ 0) × (says : Message) × (x ≡ read l says)
@@ -149,33 +149,33 @@ module _ (refusal : ℕ) (x : Reads) where
         go false t h = let z : ◌≡◌ {A = ℕ} 0 1 = cc in absurd (omega arith)
 
     -- of a message that is read where nothing is refused
-    pub was_refused : (n : ℕ) → r ≡ answer.Refused n → (refusal ≡ 0 → (l : Layout) × (says : Message) × (x ≡ read l says)) → (refusal ≡ n) × (n ≡ 0 → ⊥)
+    pub was_refused : (n : ℕ) → r ≡ Err n → (refusal ≡ 0 → (l : Layout) × (says : Message) × (x ≡ read l says)) → (refusal ≡ n) × (n ≡ 0 → ⊥)
     was_refused n e full = go (eqb refusal 0) refl is
       where
         go : (b : Bool) → eqb refusal 0 ≡ b → r ≡ read_of (cond b x (refused refusal)) → (refusal ≡ n) × (n ≡ 0 → ⊥)
         go true t h =
             let f = full (eqb-true refusal 0 t) in
-            let k : r ≡ answer.Read f.0 = h ∙ ap read_of f.2 in
+            let k : r ≡ Ok f.0 = h ∙ ap read_of f.2 in
             let z : ◌≡◌ {A = ℕ} 0 1 = cc in absurd (omega arith)
         go false t h = let i : refusal ≡ n = cc in (i, λ z. eqb-false refusal 0 t (i ∙ z))
 
 -- the answers of `read_from`
 module _ (p : List ℕ) (port : ℕ) where
-  refuses_from : (n : ℕ) → message_refusal port p ≡ n → (n ≡ 0 → ⊥) → answer.Refused n ≡ read_of (message_from port p)
+  refuses_from : (n : ℕ) → message_refusal port p ≡ n → (n ≡ 0 → ⊥) → Err n ≡ read_of (message_from port p)
   unfolding message_from
-  refuses_from n h z = ap answer.Refused (sym h) ∙ refusing (message_refusal port p) (message_at p) (λ e. z (sym h ∙ e))
+  refuses_from n h z = ap Err (sym h) ∙ refusing (message_refusal port p) (message_at p) (λ e. z (sym h ∙ e))
 
-  pub short_from : length p < 12 → answer.Refused 4 ≡ read_of (message_from port p)
+  pub short_from : length p < 12 → Err 4 ≡ read_of (message_from port p)
   short_from h = refuses_from 4 (from-short p port h) (λ e. omega arith)
 
-  pub long_from : 8972 < length p → answer.Refused 4 ≡ read_of (message_from port p)
+  pub long_from : 8972 < length p → Err 4 ≡ read_of (message_from port p)
   long_from h = refuses_from 4 (from-long p port h) (λ e. omega arith)
 
   module _ (least : 12 ≤ length p) (most : length p ≤ 8972) where
-    pub elsewhere_from : wrong_port port p ≡ true → answer.Refused 5 ≡ read_of (message_from port p)
+    pub elsewhere_from : wrong_port port p ≡ true → Err 5 ≡ read_of (message_from port p)
     elsewhere_from h = refuses_from 5 (from-elsewhere p port least most h) (λ e. omega arith)
 
-  pub read_from_lem : wrong_port port p ≡ false → (r : MessageRead) → r ≡ read_of (message_at p) → r ≡ read_of (message_from port p)
+  pub read_from_lem : wrong_port port p ≡ false → (r : (Result Layout Refusal)) → r ≡ read_of (message_at p) → r ≡ read_of (message_from port p)
   unfolding message_from
   read_from_lem h r is = go (message_at p) refl
     where
@@ -189,11 +189,11 @@ module _ (p : List ℕ) (port : ℕ) where
           is ∙ ap read_of e ∙ refuses_from n i (λ z. omega (arith, (refused_as p n e).0))
 
   -- what a caller of `read_from` learns from its answer
-  module _ (r : MessageRead) (is : r ≡ read_of (message_from port p)) where
-    pub taken-from : (l : Layout) → r ≡ answer.Read l → (message_refusal port p ≡ 0) × (says : Message) × (message_at p ≡ read l says)
+  module _ (r : (Result Layout Refusal)) (is : r ≡ read_of (message_from port p)) where
+    pub taken-from : (l : Layout) → r ≡ Ok l → (message_refusal port p ≡ 0) × (says : Message) × (message_at p ≡ read l says)
     unfolding message_from
     taken-from l e = was_read (message_refusal port p) (message_at p) r is l e
 
-    pub refused_from : (n : ℕ) → r ≡ answer.Refused n → (message_refusal port p ≡ n) × (n ≡ 0 → ⊥)
+    pub refused_from : (n : ℕ) → r ≡ Err n → (message_refusal port p ≡ n) × (n ≡ 0 → ⊥)
     unfolding message_from
     refused_from n e = was_refused (message_refusal port p) (message_at p) r is n e (λ z. let t = accepted_from p port z in (t.1, t.2, t.3))
