@@ -197,16 +197,8 @@ pub fn name_at(p: &[u8], at: usize) -> Option<Span>
     loop {
         match piece_at(p, start, here, used) {
             Piece::Root => {
-                if end == 0 {
-                    return Some(Span {
-                        end: here + 1,
-                        len: used + 1,
-                        labels,
-                        first,
-                    });
-                }
                 return Some(Span {
-                    end,
+                    end: or_later(end, here + 1),
                     len: used + 1,
                     labels,
                     first,

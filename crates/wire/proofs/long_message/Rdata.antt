@@ -1,4 +1,5 @@
 -- Whether rdata is as its type asks, by where the name in it ends; and what is past a question and a record. Assumes nothing.
+use Rattle.std.specs.Option.{option_eq}
 use Rattle.std.specs.Prelude.{None, Option, Some}
 use mathlib.Core.Path.{◌≡◌, refl, sym, ap, ◌∙◌}
 use mathlib.Core.List.{List, ◌++◌}
@@ -32,11 +33,12 @@ pub as_none : (x : Reading) (r : (Option ℕ)) → r ≡ past_name x → r ≡ N
 as_none (name bs d) r h k = let z : ◌≡◌ {A = ℕ} 0 1 = cc in absurd (omega arith)
 as_none malformed r h k = refl
 
-pub ends_there : (p : List ℕ) (at : ℕ) (r : (Option ℕ)) (e end : ℕ) → r ≡ past_name (name_at p at) → r ≡ Some e → eqb e end ≡ ends_at end (name_at p at)
-ends_there p at r e end h k = sym (ap (ends_at end) (as_past (name_at p at) r e h k).1)
-
-pub ends_nowhere : (p : List ℕ) (at : ℕ) (r : (Option ℕ)) (end : ℕ) → r ≡ past_name (name_at p at) → r ≡ None → false ≡ ends_at end (name_at p at)
-ends_nowhere p at r end h k = sym (ap (ends_at end) (as_none (name_at p at) r h k))
+pub ends_as : (p : List ℕ) (at : ℕ) (r : Option ℕ) (end : ℕ) → r ≡ past_name (name_at p at) → option_eq eqb r (Some end) ≡ ends_at end (name_at p at)
+ends_as p at r end h = ap (λ (x : Option ℕ). option_eq eqb x (Some end)) h ∙ go (name_at p at)
+  where
+    go : (x : Reading) → option_eq eqb (past_name x) (Some end) ≡ ends_at end x
+    go (name bs e) = refl
+    go malformed = refl
 
 fits-cond : (b : Bool) (d : List ℕ) → fits (cond b (rdata d) unfit) ≡ b
 fits-cond true d = refl

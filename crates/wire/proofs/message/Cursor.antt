@@ -1,4 +1,5 @@
 -- For callers: walking a section with a cursor meets exactly the elements of its list, and never anything malformed. Assumes nothing.
+use Rattle.wire.specs.declared.refusals.Refusal.TheVariants.{Length, Header}
 use Rattle.std.specs.Prelude.{Err, None, Ok, Option, Result, Some}
 use Rattle.wire.specs.declared.refusals.Refusal.{Refusal}
 use mathlib.Core.Path.{◌≡◌, refl, sym, ap, ◌∙◌}
@@ -243,7 +244,7 @@ past_tests : (p : List ℕ) (l : Layout) (says : Message) → message_at p ≡ r
 unfolding message_at
 past_tests p l says h = go (wrong_length p) (wrong_header p) h
   where
-    go : (a b : Bool) → cond a (refused 4) (cond b (refused 5) (sections_of p)) ≡ read l says → sections_of p ≡ read l says
+    go : (a b : Bool) → cond a (refused Length) (cond b (refused Header) (sections_of p)) ≡ read l says → sections_of p ≡ read l says
     go true b e = let z : ◌≡◌ {A = ℕ} 0 1 = cc in absurd (omega arith)
     go false true e = let z : ◌≡◌ {A = ℕ} 0 1 = cc in absurd (omega arith)
     go false false e = e
@@ -275,6 +276,6 @@ pub as_read : (x : Reads) (a : (Result Layout Refusal)) (l : Layout) → a ≡ r
 as_read (read k says) a l h e = let i : k ≡ l = cc in (says, ap (λ (y : Layout). read y says) i)
 as_read (refused n) a l h e = let z : ◌≡◌ {A = ℕ} 0 1 = cc in absurd (omega arith)
 
-pub as_refused : (x : Reads) (a : (Result Layout Refusal)) (n : ℕ) → a ≡ read_of x → a ≡ Err n → x ≡ refused n
+pub as_refused : (x : Reads) (a : Result Layout Refusal) (n : Refusal) → a ≡ read_of x → a ≡ Err n → x ≡ refused n
 as_refused (read k says) a n h e = let z : ◌≡◌ {A = ℕ} 0 1 = cc in absurd (omega arith)
 as_refused (refused k) a n h e = let i : k ≡ n = cc in ap refused i

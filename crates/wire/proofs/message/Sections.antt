@@ -1,4 +1,5 @@
 -- The four sections of a message one after the other. Assumes nothing.
+use Rattle.wire.specs.declared.refusals.Refusal.TheVariants.{Length, Header, Malformed}
 use Rattle.std.specs.Prelude.{Err, None, Ok, Option, Result, Some}
 use Rattle.wire.specs.declared.message.Layout.{Layout}
 use Rattle.wire.specs.declared.refusals.Refusal.{Refusal}
@@ -34,7 +35,7 @@ module _ {A : Type 0} (part : ℕ → Item A) (n k at : ℕ) (e : n ≡ k) (r : 
 
 module _ (p : List ℕ) (n₀ n₁ n₂ n₃ : ℕ) (e₀ : n₀ ≡ word16 p 4) (e₁ : n₁ ≡ word16 p 6) (e₂ : n₂ ≡ word16 p 8) (e₃ : n₃ ≡ word16 p 10)
     (q : (Option ℕ)) (hq : q ≡ past_list (list_from (question_at p) n₀ 12)) where
-  pub questions-cut : q ≡ None → Err 6 ≡ read_of (sections_of p)
+  pub questions-cut : q ≡ None → Err Malformed ≡ read_of (sections_of p)
   unfolding and_then
   questions-cut e = simp (now_cut (question_at p) n₀ (word16 p 4) 12 e₀ q hq e)
 
@@ -42,7 +43,7 @@ module _ (p : List ℕ) (n₀ n₁ n₂ n₃ : ℕ) (e₀ : n₀ ≡ word16 p 4)
     qs : list_from (question_at p) (word16 p 4) 12 ≡ listing (now_list (question_at p) n₀ (word16 p 4) 12 e₀ q hq a ea).0 a
     qs = (now_list (question_at p) n₀ (word16 p 4) 12 e₀ q hq a ea).1
 
-    pub answers_cut : r₁ ≡ None → Err 6 ≡ read_of (sections_of p)
+    pub answers_cut : r₁ ≡ None → Err Malformed ≡ read_of (sections_of p)
     unfolding and_then
     answers_cut e = simp (qs, now_cut (record_at p) n₁ (word16 p 6) a e₁ r₁ h₁ e)
 
@@ -50,7 +51,7 @@ module _ (p : List ℕ) (n₀ n₁ n₂ n₃ : ℕ) (e₀ : n₀ ≡ word16 p 4)
       an : list_from (record_at p) (word16 p 6) a ≡ listing (now_list (record_at p) n₁ (word16 p 6) a e₁ r₁ h₁ b eb).0 b
       an = (now_list (record_at p) n₁ (word16 p 6) a e₁ r₁ h₁ b eb).1
 
-      pub authorities_cut : r₂ ≡ None → Err 6 ≡ read_of (sections_of p)
+      pub authorities_cut : r₂ ≡ None → Err Malformed ≡ read_of (sections_of p)
       unfolding and_then
       authorities_cut e = simp (qs, an, now_cut (record_at p) n₂ (word16 p 8) b e₂ r₂ h₂ e)
 
@@ -58,7 +59,7 @@ module _ (p : List ℕ) (n₀ n₁ n₂ n₃ : ℕ) (e₀ : n₀ ≡ word16 p 4)
         ns : list_from (record_at p) (word16 p 8) b ≡ listing (now_list (record_at p) n₂ (word16 p 8) b e₂ r₂ h₂ c ec).0 c
         ns = (now_list (record_at p) n₂ (word16 p 8) b e₂ r₂ h₂ c ec).1
 
-        pub additionals_cut : r₃ ≡ None → Err 6 ≡ read_of (sections_of p)
+        pub additionals_cut : r₃ ≡ None → Err Malformed ≡ read_of (sections_of p)
         unfolding and_then
         additionals_cut e = simp (qs, an, ns, now_cut (record_at p) n₃ (word16 p 10) c e₃ r₃ h₃ e)
 
@@ -135,10 +136,10 @@ module _ (p : List ℕ) (n₀ : ℕ) (e₀ : n₀ ≡ word16 p 4) (q : (Option �
   abbrev past : ℕ → ℕ → (Option ℕ)
   past n at = past_list (list_from (record_at p) (word16 p n) at)
 
-  pub through_cut : k < 3 → (n : ℕ) → n ≡ word16 p (6 + 2 * k) → (r : (Option ℕ)) → r ≡ past_list (list_from (record_at p) n e) → r ≡ None → Err 6 ≡ read_of (sections_of p)
+  pub through_cut : k < 3 → (n : ℕ) → n ≡ word16 p (6 + 2 * k) → (r : (Option ℕ)) → r ≡ past_list (list_from (record_at p) n e) → r ≡ None → Err Malformed ≡ read_of (sections_of p)
   through_cut lt n en r h f = go k refl
     where
-      go : (j : ℕ) → k ≡ j → Err 6 ≡ read_of (sections_of p)
+      go : (j : ℕ) → k ≡ j → Err Malformed ≡ read_of (sections_of p)
       go zero z =
           answers_cut p n₀ (word16 p 6) (word16 p 8) (word16 p 10) e₀ refl refl refl q hq a ea
           r (here p a k b c e so lt n en r h 0 6 z refl ∙ ap (past 6) (so.none z)) f
@@ -177,12 +178,12 @@ module _ (p : List ℕ) (n₀ : ℕ) (e₀ : n₀ ≡ word16 p 4) (q : (Option �
 
 -- the tests before the sections
 module _ (p : List ℕ) where
-  pub message_short : length p < 12 → Err 4 ≡ read_of (message_at p)
+  pub message_short : length p < 12 → Err Length ≡ read_of (message_at p)
   unfolding message_at
   message_short h = simp (lt-ltb _ _ h)
 
   module _ (h : 12 ≤ length p) where
-    pub message_long : 8972 < length p → Err 4 ≡ read_of (message_at p)
+    pub message_long : 8972 < length p → Err Length ≡ read_of (message_at p)
     unfolding message_at
     message_long l = simp (le-ltb _ _ h, lt-ltb _ _ l)
 
@@ -190,7 +191,7 @@ module _ (p : List ℕ) where
       header : plain_header (word16 p 2) ≡ v
       header = sym (e ∙ ap plain_header ef)
 
-      pub message_header : v ≡ false → Err 5 ≡ read_of (message_at p)
+      pub message_header : v ≡ false → Err Header ≡ read_of (message_at p)
       unfolding message_at
       message_header t = simp (le-ltb _ _ h, le-ltb _ _ l, header ∙ t)
 

@@ -85,8 +85,11 @@ module _ (p : List ℕ) (start at used : ℕ) (r : Piece) (is : r ≡ piece_at p
       twice e d malformed = refl
 
 -- where a chain ends no pointer stands
-pub not-pointer : (p : List ℕ) (at used : ℕ) (r x : Piece) → r ≡ piece_at p at at used → r ≡ x → is_pointer x ≡ false → is_pointer (piece_at p at at used) ≡ false
-not-pointer p at used r x is e h = ap is_pointer (sym is ∙ e) ∙ h
+pub no_pointer : (x : Piece) → ((t : ℕ) → x ≡ Pointer t → ⊥) → is_pointer x ≡ false
+no_pointer Root h = refl
+no_pointer (Label n) h = refl
+no_pointer (Pointer t) h = absurd (h t refl)
+no_pointer Bad h = refl
 
 pub chased_none : (p : List ℕ) (used from : ℕ) → Chased p used from from
 chased_none p used from = record { back = omega arith; same = λ d. refl }
@@ -132,19 +135,11 @@ seen_before used n end labels first xs z h (name ys e) =
     known (suc f) e = let k : suc f ≡ 0 → ⊥ = λ q. omega arith in k (sym (simp (ne_eqb (suc f) 0 k)) ∙ e)
 seen_before used n end labels first xs z h malformed = refl
 
-seen_first : (used at labels first : ℕ) (x : Reading) → seen_of used 0 labels first (ending (at + 2) x) ≡ seen_of used (at + 2) labels first x
-seen_first used at labels first (name ys e) = let h : at + 2 ≡ 0 → ⊥ = λ z. omega arith in simp (ne_eqb _ _ h)
-seen_first used at labels first malformed = refl
-
-seen_later : (used end labels first d : ℕ) → (end ≡ 0 → ⊥) → (x : Reading) → seen_of used end labels first (ending d x) ≡ seen_of used end labels first x
-seen_later used end labels first d h (name ys e) = simp (ne_eqb _ _ h)
-seen_later used end labels first d h malformed = refl
-
 module _ (p : List ℕ) (start at used end labels first : ℕ) (r : Piece) (is : r ≡ piece_at p start at used) where
   here : (x : Piece) → r ≡ x → piece_at p start at used ≡ x
   here x e = sym is ∙ e
 
-  root_seen : (e : ℕ) → e ≡ or_later end (at + 1) → r ≡ Root
+  pub root_seen : (e : ℕ) → e ≡ or_later end (at + 1) → r ≡ Root
       → Some (record { end = e; len = used + 1; labels = labels; first = first }) ≡ seen_of used end labels first (from_run p start at used)
   unfolding starts
   root_seen e h k =
@@ -179,11 +174,23 @@ module _ (p : List ℕ) (start at used end labels first : ℕ) (r : Piece) (is :
 
 -- a pointer that is followed: the name ends in place behind the first
 module _ (p : List ℕ) (run at used end labels first : ℕ) where
+  pub passed : (e : ℕ) → e ≡ or_later end (at + 2)
+      → seen_of used e labels first (from_run p run run used) ≡ seen_of used end labels first (ending (at + 2) (from_run p run run used))
+  passed e h = ap (λ (k : ℕ). seen_of used k labels first (from_run p run run used)) h ∙ go (from_run p run run used)
+    where
+      go : (x : Reading) → seen_of used (or_later end (at + 2)) labels first x ≡ seen_of used end labels first (ending (at + 2) x)
+      go (name ys d) = ap (λ (k : ℕ). Some (record { end = k; len = used + length ys; labels = labels + labels_in ys; first = or_later first (first_in ys) })) (once end)
+        where
+          once : (k : ℕ) → or_later (or_later k (at + 2)) d ≡ or_later k (at + 2)
+          once zero = let z : at + 2 ≡ 0 → ⊥ = λ q. omega arith in simp (ne_eqb _ _ z)
+          once (suc k) = let z : suc k ≡ 0 → ⊥ = λ q. omega arith in simp (ne_eqb _ _ z)
+      go malformed = refl
+
   pub passed_first : end ≡ 0 → seen_of used (at + 2) labels first (from_run p run run used) ≡ seen_of used end labels first (ending (at + 2) (from_run p run run used))
-  passed_first z = sym (seen_first used at labels first (from_run p run run used)) ∙ ap (λ (k : ℕ). seen_of used k labels first (ending (at + 2) (from_run p run run used))) (sym z)
+  passed_first z = passed (at + 2) (sym (simp (eq-eqb _ _ z)))
 
   pub passed_later : (end ≡ 0 → ⊥) → seen_of used end labels first (from_run p run run used) ≡ seen_of used end labels first (ending (at + 2) (from_run p run run used))
-  passed_later z = sym (seen_later used end labels first (at + 2) z (from_run p run run used))
+  passed_later z = passed end (sym (simp (ne_eqb _ _ z)))
 
   pub passed_chain : (from : ℕ) → Chased p used from run
       → seen_of used end labels first (ending (at + 2) (from_run p run run used)) ≡ seen_of used end labels first (ending (at + 2) (from_run p from from used))

@@ -1,4 +1,5 @@
 -- The readers of a part: what each test makes of the answer, and what an answer says of the part. Assumes nothing.
+use Rattle.std.specs.Option.{is_some}
 use Rattle.std.specs.Prelude.{None, Option, Some}
 use mathlib.Core.Path.{◌≡◌, refl, sym, ap, ◌∙◌}
 use mathlib.Core.List.{List, [], ◌++◌}
@@ -112,9 +113,6 @@ module _ (d : List ℕ) (at : ℕ) where
       go false b e f h = let z : ◌≡◌ {A = ℕ} 0 1 = cc in absurd (omega arith)
 
 -- whether a name is found
-abbrev is_found : (Option Span) → Bool
-is_found (Some s) = true
-is_found None = false
 
 -- a name in a part
 module _ (p : List ℕ) (at : ℕ) (d : List ℕ) (before behind : ℕ) where
@@ -165,32 +163,29 @@ module _ (p : List ℕ) (at : ℕ) (d : List ℕ) (before behind : ℕ) where
       go false b e f h = let z : ◌≡◌ {A = ℕ} 0 1 = cc in absurd (omega arith)
 
   -- rdata with a name fits exactly where the name is found
-  name-fits : at + length d ≤ length p → is_found (name_in p at d before behind) ≡ fits (with_name p at d before behind)
+  name-fits : at + length d ≤ length p → is_some (name_in p at d before behind) ≡ fits (with_name p at d before behind)
   unfolding name_in
   name-fits inside =
-      ap (λ (b : Bool). is_found (cond b (cond (leb (before + behind) (length d)) (name_ending stop (name_at p (at + before))) None) None))
+      ap (λ (b : Bool). is_some (cond b (cond (leb (before + behind) (length d)) (name_ending stop (name_at p (at + before))) None) None))
       (le-leb _ _ inside)
       ∙ go (leb (before + behind) (length d)) (name_at p (at + before))
     where
       back : List ℕ
       back = drop (length d - behind) d
 
-      end : (bs : List ℕ) (e : ℕ) (b : Bool) → is_found (cond b (Some (span_of bs e)) None) ≡ fits (cond b (rdata (take before d ++ (bs ++ back))) unfit)
+      end : (bs : List ℕ) (e : ℕ) (b : Bool) → is_some (cond b (Some (span_of bs e)) None) ≡ fits (cond b (rdata (take before d ++ (bs ++ back))) unfit)
       end bs e true = refl
       end bs e false = refl
 
       go : (b : Bool) (x : Reading)
-          → is_found (cond b (name_ending stop x) None) ≡ fits (cond b (ending_name (take before d) (drop (length d - behind) d) stop x) unfit)
+          → is_some (cond b (name_ending stop x) None) ≡ fits (cond b (ending_name (take before d) (drop (length d - behind) d) stop x) unfit)
       go true (name bs e) = end bs e (eqb e stop)
       go true malformed = refl
       go false x = refl
 
   module _ (inside : at + length d ≤ length p) (r : (Option Span)) (is : r ≡ name_in p at d before behind) where
-    pub fits-found : (s : Span) → r ≡ Some s → true ≡ fits (with_name p at d before behind)
-    fits-found s k = ap is_found (sym k ∙ is) ∙ name-fits inside
-
-    pub fits-bad : r ≡ None → false ≡ fits (with_name p at d before behind)
-    fits-bad k = ap is_found (sym k ∙ is) ∙ name-fits inside
+    pub fits_name : is_some r ≡ fits (with_name p at d before behind)
+    fits_name = ap is_some is ∙ name-fits inside
 
 -- an SRV: its numbers, and its target as a name in the part
 module _ (p : List ℕ) (at : ℕ) (d : List ℕ) where
@@ -206,19 +201,10 @@ module _ (p : List ℕ) (at : ℕ) (d : List ℕ) where
     srv_bad k = ap (srv_with d (at + 6)) (sym k ∙ is)
 
   -- one is there exactly where its target is
-  module _ (r : (Option SrvAt)) (is : r ≡ srv_in p at d) where
-    pub srv_target : (f : SrvAt) → r ≡ Some f → (s : Span) × (name_in p at d 6 0 ≡ Some s)
-    unfolding srv_in
-    srv_target f k = go (name_in p at d 6 0) (sym is ∙ k)
-      where
-        go : (x : (Option Span)) → srv_with d (at + 6) x ≡ Some f → (s : Span) × (x ≡ Some s)
-        go (Some s) h = (s, refl)
-        go None h = let z : ◌≡◌ {A = ℕ} 0 1 = cc in absurd (omega arith)
-
-    pub srv_none : r ≡ None → name_in p at d 6 0 ≡ None
-    unfolding srv_in
-    srv_none k = go (name_in p at d 6 0) (sym is ∙ k)
-      where
-        go : (x : (Option Span)) → srv_with d (at + 6) x ≡ None → x ≡ None
-        go (Some s) h = let z : ◌≡◌ {A = ℕ} 0 1 = cc in absurd (omega arith)
-        go None h = refl
+  pub srv_named : (r : Option SrvAt) → r ≡ srv_in p at d → is_some r ≡ is_some (name_in p at d 6 0)
+  unfolding srv_in
+  srv_named r is = ap is_some is ∙ go (name_in p at d 6 0)
+    where
+      go : (x : Option Span) → is_some (srv_with d (at + 6) x) ≡ is_some x
+      go (Some s) = refl
+      go None = refl

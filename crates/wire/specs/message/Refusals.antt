@@ -1,6 +1,6 @@
 -- The refusals of a message (specification, 'Refusal numbers'), as a list of tests: of a packet alone, which is what the reader answers (`refusal_is` in
 -- proofs/message/Refused.antt), and of a packet with the port that it came from. Assumes nothing: these are definitions.
-use Rattle.std.specs.Prelude.{ℕ, List, [], ◌∷◌, Bool, true, false, cond, not, ◌&&◌, ◌||◌, eqb, Result, Ok, Err}
+use Rattle.std.specs.Prelude.{ℕ, List, [], ◌∷◌, Bool, true, false, not, ◌&&◌, ◌||◌, eqb, Result, Ok, Err}
 use Rattle.wire.specs.refusals.Numbers.{first_refusal, refused_by}
 use Rattle.wire.specs.declared.refusals.Refusal.{Refusal}
 use Rattle.wire.specs.declared.refusals.Refusal.TheVariants.{Length, Header, Malformed}
