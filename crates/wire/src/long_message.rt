@@ -210,7 +210,11 @@ fn past_record(p: &[u8], at: usize, noted: &mut [u8; 8972]) -> Option<usize>
         rdlength,
         next: rdata + rdlength,
     };
-    if fits_noted(p, f, noted) { Some(f.next) } else { None }
+    if fits_noted(p, f, noted) {
+        Some(f.next)
+    } else {
+        None
+    }
 }
 
 // Past so many questions.

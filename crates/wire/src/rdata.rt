@@ -73,7 +73,11 @@ pub fn address_in<'a>(d: &'a [u8], rtype: u16) -> &'a [u8]
     ensures bytes { result.now ≡ address_in rtype d.now }
     ensures start { result.ref_ptr ≡ d.entry.ref_ptr }
 {
-    if d.len() == address_bytes(rtype) { d } else { &d[..0] }
+    if d.len() == address_bytes(rtype) {
+        d
+    } else {
+        &d[..0]
+    }
 }
 
 // The string at a place of `d`, the rdata of a TXT.
@@ -132,7 +136,11 @@ pub fn name_in(p: &[u8], at: usize, d: &[u8], before: usize, behind: usize) -> O
         return None;
     }
     let span = name_at(p, at + before)?;
-    if span.end == at + (d.len() - behind) { Some(span) } else { None }
+    if span.end == at + (d.len() - behind) {
+        Some(span)
+    } else {
+        None
+    }
 }
 
 // The SRV in `d`, the part of `p` that starts at `at`: priority, weight, port and target.
