@@ -40,8 +40,8 @@ pub struct StringAt {
     pub next: usize,
 }
 
-// What stands at a place of a TXT: a string, the end of the TXT, or a string that runs past it. Each caller tells the three apart: an Option in a Result would be
-// two matches.
+// What stands at a place of a TXT: a string, the end of the TXT, or a string that runs past it. Each caller tells the three apart: an Option in a Result
+// would be two matches.
 #[derive(Clone, Copy)]
 pub enum StringRead {
     Found(StringAt),
