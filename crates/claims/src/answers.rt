@@ -188,10 +188,8 @@ pub fn wanted(progress: Progress, q: Asks, now: u64, aaaa: bool) -> Set
     ensures { result ≡ wanted_of progress q now aaaa }
 {
     let mut flags = [false; RECORDS];
-    let mut i = 0;
-    while i < RECORDS {
+    for i in 0..RECORDS {
         flags[i] = is_wanted(progress, q, now, aaaa, crate::records::record_at(i));
-        i += 1;
     }
     crate::records::set_of(flags)
 }
@@ -229,15 +227,13 @@ fn asked_by(unicast: bool, progress: Progress, f: Facts, now: u64) -> Set
     let q = asks_of(f);
     let asked = q.asked;
     let mut flags = [false; RECORDS];
-    let mut i = 0;
-    while i < RECORDS {
+    for i in 0..RECORDS {
         let o = crate::records::record_at(i);
         flags[i] = goes_by(
             unicast,
             crate::records::is_in(o, asked),
             is_to_asker(progress, f, now, o),
         );
-        i += 1;
     }
     crate::records::set_of(flags)
 }
@@ -418,10 +414,8 @@ fn due(progress: Progress, q: Asks, aaaa: bool) -> Set
     ensures { result ≡ due_to progress q aaaa }
 {
     let mut flags = [false; RECORDS];
-    let mut i = 0;
-    while i < RECORDS {
+    for i in 0..RECORDS {
         flags[i] = is_due(progress, q, aaaa, crate::records::record_at(i));
-        i += 1;
     }
     crate::records::set_of(flags)
 }

@@ -52,10 +52,8 @@ fn goodbye(progress: Progress, aaaa: bool) -> Set
     ensures { result ≡ goodbye_of progress aaaa }
 {
     let mut flags = [false; RECORDS];
-    let mut i = 0;
-    while i < RECORDS {
+    for i in 0..RECORDS {
         flags[i] = is_parting(progress, aaaa, crate::records::record_at(i));
-        i += 1;
     }
     crate::records::set_of(flags)
 }
@@ -134,14 +132,12 @@ fn without(set: Set, gone: Set) -> Set
     ensures { result ≡ without set gone }
 {
     let mut flags = [false; RECORDS];
-    let mut i = 0;
-    while i < RECORDS {
+    for i in 0..RECORDS {
         let o = crate::records::record_at(i);
         flags[i] = but_not(
             crate::records::is_in(o, set),
             crate::records::is_in(o, gone),
         );
-        i += 1;
     }
     crate::records::set_of(flags)
 }

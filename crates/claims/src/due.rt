@@ -29,13 +29,11 @@ pub fn next_due(progress: Progress) -> When
     ensures { result ≡ next_due progress }
 {
     let mut first = When::Never;
-    let mut i = 0;
-    while i < STEPS {
+    for i in 0..STEPS {
         first = earlier(
             first,
             crate::steps::step_due(crate::steps::step_at(i), progress),
         );
-        i += 1;
     }
     first
 }

@@ -203,11 +203,9 @@ pub fn union(a: Set, b: Set) -> Set
     ensures { result ≡ union a b }
 {
     let mut flags = [false; RECORDS];
-    let mut i = 0;
-    while i < RECORDS {
+    for i in 0..RECORDS {
         let o = crate::records::record_at(i);
         flags[i] = either(crate::records::is_in(o, a), crate::records::is_in(o, b));
-        i += 1;
     }
     crate::records::set_of(flags)
 }

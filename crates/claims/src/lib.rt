@@ -263,12 +263,10 @@ pub fn mark_all(set: Set, sent: Multicasts, now: u64) -> Multicasts
 {
     let never = Multicast { last: When::Never };
     let mut of = [never; RECORDS];
-    let mut i = 0;
-    while i < RECORDS {
+    for i in 0..RECORDS {
         let o = crate::records::record_at(i);
         let last = mark(crate::records::is_in(o, set), sent_of(o, sent), now);
         of[i] = Multicast { last };
-        i += 1;
     }
     Multicasts { of }
 }

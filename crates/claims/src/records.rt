@@ -279,12 +279,10 @@ pub fn only(o: Own) -> Set
 pub fn is_any(set: Set) -> bool
     ensures { result ≡ any_of set }
 {
-    let mut i = 0;
-    while i < RECORDS {
+    for i in 0..RECORDS {
         if is_in(record_at(i), set) {
             return true;
         }
-        i += 1;
     }
     false
 }
@@ -294,11 +292,9 @@ pub fn at_once(set: Set) -> Set
     ensures { result ≡ at_once set }
 {
     let mut flags = [false; RECORDS];
-    let mut i = 0;
-    while i < RECORDS {
+    for i in 0..RECORDS {
         let o = record_at(i);
         flags[i] = both(goes_at_once(o), is_in(o, set));
-        i += 1;
     }
     set_of(flags)
 }
@@ -308,11 +304,9 @@ pub fn with_data(set: Set) -> Set
     ensures { result ≡ with_data set }
 {
     let mut flags = [false; RECORDS];
-    let mut i = 0;
-    while i < RECORDS {
+    for i in 0..RECORDS {
         let o = record_at(i);
         flags[i] = both(carries_data(o), is_in(o, set));
-        i += 1;
     }
     set_of(flags)
 }
@@ -322,14 +316,12 @@ pub fn records_of(claim: Claim, aaaa: bool) -> Set
     ensures { result ≡ records_of claim aaaa }
 {
     let mut flags = [false; RECORDS];
-    let mut i = 0;
-    while i < RECORDS {
+    for i in 0..RECORDS {
         let o = record_at(i);
         flags[i] = both(
             same_claim(claim_for(o), claim),
             both(carries_data(o), is_present(o, aaaa)),
         );
-        i += 1;
     }
     set_of(flags)
 }

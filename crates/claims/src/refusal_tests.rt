@@ -25,13 +25,11 @@ fn claim_kept(c: ClaimState, most: u64) -> bool
 fn multicasts_kept(sent: Multicasts, most: u64) -> bool
     ensures { result ≡ multicasts_kept most sent }
 {
-    let mut i = 0;
-    while i < RECORDS {
+    for i in 0..RECORDS {
         let last = crate::sent_of(crate::records::record_at(i), sent);
         if !crate::is_within(last, most) {
             return false;
         }
-        i += 1;
     }
     true
 }

@@ -101,12 +101,10 @@ pub fn step_due(s: Step, progress: Progress) -> When
 fn more_due(progress: Progress, now: u64) -> bool
     ensures { result ≡ more_due progress now }
 {
-    let mut i = 0;
-    while i < STEPS {
+    for i in 0..STEPS {
         if crate::has_come(step_due(step_at(i), progress), now) {
             return true;
         }
-        i += 1;
     }
     false
 }
@@ -153,11 +151,9 @@ fn unsent_of(set: Set, sent: Multicasts, now: u64) -> Set
     ensures { result ≡ unsent_of set sent now }
 {
     let mut flags = [false; RECORDS];
-    let mut i = 0;
-    while i < RECORDS {
+    for i in 0..RECORDS {
         let o = crate::records::record_at(i);
         flags[i] = is_unsent(crate::records::is_in(o, set), crate::sent_of(o, sent), now);
-        i += 1;
     }
     crate::records::set_of(flags)
 }
@@ -376,8 +372,7 @@ fn walk_steps(aaaa: bool, now: u64, progress: Progress) -> Turn
     ensures { result ≡ walked steps.steps aaaa now progress }
 {
     let mut here = progress;
-    let mut i = 0;
-    while i < STEPS {
+    for i in 0..STEPS {
         let t = step_turn(step_at(i), aaaa, now, here);
         let output = t.output;
         match output {
@@ -392,7 +387,6 @@ fn walk_steps(aaaa: bool, now: u64, progress: Progress) -> Turn
                 return t;
             }
         }
-        i += 1;
     }
     Turn {
         progress: here,

@@ -1,13 +1,8 @@
-use Rattle.claims.specs.records.Own.{records}
 use Rattle.claims.proofs.records.Filled.{filled}
-use Prim.Native.Nat.{◌≤◌, ◌-◌}
 use mathlib.Core.Path.{◌≡◌}
 use mathlib.Core.Bool.{false}
 use Rattle.claims.specs.answers.Answers.{is_wanted}
 use Rattle.claims.proofs.answers.wanted.Given as goal
 
 abbrev pub invariant-loop-i : goal.invariant-loop-i
-invariant-loop-i l = (l.i ≤ records) × (l.flags ≡ filled false (is_wanted l.progress l.q l.now l.aaaa) l.i)
-
-abbrev pub decreases-loop-i : goal.decreases-loop-i
-decreases-loop-i l = records - l.i
+invariant-loop-i l = l.flags ≡ filled false (is_wanted l.progress l.q l.now l.aaaa) l.i

@@ -1,13 +1,9 @@
-use Rattle.claims.specs.records.Own.{records, has}
+use Rattle.claims.specs.records.Own.{has}
 use Rattle.claims.proofs.records.Filled.{filled}
-use Prim.Native.Nat.{◌≤◌, ◌-◌}
 use mathlib.Core.Path.{◌≡◌}
 use mathlib.Core.Bool.{false, ◌&&◌}
 use Rattle.claims.specs.records.Own.{goes_at_once}
 use Rattle.claims.proofs.records.at_once.Given as goal
 
 abbrev pub invariant-loop-i : goal.invariant-loop-i
-invariant-loop-i l = (l.i ≤ records) × (l.flags ≡ filled false (λ o. goes_at_once o && has o l.set) l.i)
-
-abbrev pub decreases-loop-i : goal.decreases-loop-i
-decreases-loop-i l = records - l.i
+invariant-loop-i l = l.flags ≡ filled false (λ o. goes_at_once o && has o l.set) l.i

@@ -1,6 +1,5 @@
-use Rattle.claims.specs.records.Own.{records, has}
+use Rattle.claims.specs.records.Own.{has}
 use Rattle.claims.proofs.records.Filled.{filled}
-use Prim.Native.Nat.{◌≤◌, ◌-◌}
 use mathlib.Core.Path.{◌≡◌}
 use mathlib.Core.Bool.{false}
 use Rattle.claims.specs.Time.{sent_of}
@@ -8,7 +7,4 @@ use Rattle.claims.specs.steps.Steps.{unsent}
 use Rattle.claims.proofs.steps.unsent_of.Given as goal
 
 abbrev pub invariant-loop-i : goal.invariant-loop-i
-invariant-loop-i l = (l.i ≤ records) × (l.flags ≡ filled false (λ o. unsent (has o l.set) (sent_of o l.sent) l.now) l.i)
-
-abbrev pub decreases-loop-i : goal.decreases-loop-i
-decreases-loop-i l = records - l.i
+invariant-loop-i l = l.flags ≡ filled false (λ o. unsent (has o l.set) (sent_of o l.sent) l.now) l.i
