@@ -7,7 +7,7 @@ ghost use Rattle.claims.specs.answers.Held.{to_hold, hold_of, held_back, receive
 
 use crate::holds::{Address, Hold, Holds};
 use crate::records::{Claim, Own, RECORDS, Set};
-use crate::{ClaimState, Progress, When};
+use crate::{ClaimState, Progress};
 
 // A deferred claim sends its next first probe after 1,000 ms.
 const DEFERRAL: u64 = 1000;
@@ -267,17 +267,17 @@ fn unicast_asks(progress: Progress, f: Facts, now: u64) -> Asks
 }
 
 // The PTR reply after a message that asks for it or not; a reply that is set stays.
-fn set_reply(asks: bool, reply: When, due: u64) -> When
+fn set_reply(asks: bool, reply: Option<u64>, due: u64) -> Option<u64>
     ensures { result ≡ set_reply asks reply due }
 {
     match reply {
-        When::Never => {
+        None => {
             if asks {
-                return When::At(due);
+                return Some(due);
             }
-            When::Never
+            None
         }
-        When::At(was) => When::At(was),
+        Some(was) => Some(was),
     }
 }
 
@@ -366,7 +366,7 @@ fn hold_of(c: Coming, f: Facts) -> Hold
     let known = f.known;
     Hold {
         from,
-        due: When::At(crate::after(c.now, c.hold)),
+        due: Some(crate::after(c.now, c.hold)),
         asked,
         known,
     }

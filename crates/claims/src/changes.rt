@@ -7,7 +7,7 @@ ghost use Rattle.claims.specs.changes.Changes.{forgetting_all, update_of, is_los
 use crate::holds::{Hold, Holds};
 use crate::records::{Own, RECORDS, Set};
 use crate::steps::ANNOUNCEMENT_GAP;
-use crate::{ClaimState, Progress, When};
+use crate::{ClaimState, Progress};
 
 // An update is refused until 6,000 ms after the last.
 pub const UPDATE_GAP: u64 = 6000;
@@ -192,7 +192,7 @@ pub fn update(progress: Progress, now: u64, change: Change) -> Updated
             sent: crate::mark_all(goes, sent, now),
             reply,
             holds: forget_all(changed_record(change), holds),
-            updated: When::At(now),
+            updated: Some(now),
             draw: progress.draw,
             last: now,
         },

@@ -3,18 +3,18 @@
 ghost use Rattle.std.specs.Prelude.{◌≡◌};
 ghost use Rattle.claims.specs.due.Due.{earliest, next_due};
 
+use crate::Progress;
 use crate::steps::STEPS;
-use crate::{Progress, When};
 
 // The earlier of two.
-fn earlier(a: When, b: When) -> When
+fn earlier(a: Option<u64>, b: Option<u64>) -> Option<u64>
     ensures { result ≡ earliest a b }
 {
     match a {
-        When::Never => b,
-        When::At(first) => match b {
-            When::Never => a,
-            When::At(second) => {
+        None => b,
+        Some(first) => match b {
+            None => a,
+            Some(second) => {
                 if first <= second {
                     return a;
                 }
@@ -25,10 +25,10 @@ fn earlier(a: When, b: When) -> When
 }
 
 // When the next step is due.
-pub fn next_due(progress: Progress) -> When
+pub fn next_due(progress: Progress) -> Option<u64>
     ensures { result ≡ next_due progress }
 {
-    let mut first = When::Never;
+    let mut first = None;
     for i in 0..STEPS {
         first = earlier(
             first,

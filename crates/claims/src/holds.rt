@@ -4,7 +4,6 @@ ghost use Rattle.std.specs.Prelude.{◌≡◌, ◌||◌};
 ghost use Rattle.claims.specs.holds.Holds.{is_taken, no_hold, no_holds, hold_at, with_hold, same_address, is_from, some_from, some_free, union, knowing};
 ghost use Rattle.claims.specs.holds.Holds.{knowing_all, queued};
 
-use crate::When;
 use crate::records::{RECORDS, Set};
 
 // An address of 16 bytes, as two numbers, the first eight bytes in `high`; an IPv4 address is ::ffff:a.b.c.d.
@@ -19,7 +18,7 @@ pub struct Address {
 #[derive(Clone, Copy)]
 pub struct Hold {
     pub from: Address,
-    pub due: When,
+    pub due: Option<u64>,
     pub asked: Set,
     pub known: Set,
 }
@@ -48,7 +47,7 @@ pub fn no_hold() -> Hold
 {
     Hold {
         from: Address { high: 0, low: 0 },
-        due: When::Never,
+        due: None,
         asked: crate::records::no_record(),
         known: crate::records::no_record(),
     }
@@ -73,8 +72,8 @@ pub fn is_taken(h: Hold) -> bool
 {
     let due = h.due;
     match due {
-        When::Never => false,
-        When::At(_) => true,
+        None => false,
+        Some(_) => true,
     }
 }
 

@@ -24,13 +24,6 @@ const END_OF_TIME: u64 = 18446744073709551615;
 // A record that was multicast less than 1,000 ms ago is not sent again.
 pub const MULTICAST_GAP: u64 = 1000;
 
-// Never, or at a time.
-#[derive(Clone, Copy)]
-pub enum When {
-    Never,
-    At(u64),
-}
-
 // The state of a claim, each case with the time at which its next step is due: `Probing1` has sent one probe, `Announced` holds the name and has its second
 // announcement to come.
 #[derive(Clone, Copy)]
@@ -48,7 +41,7 @@ pub enum ClaimState {
 // When a record was last multicast.
 #[derive(Clone, Copy)]
 pub struct Multicast {
-    pub last: When,
+    pub last: Option<u64>,
 }
 
 // The last multicast of each own record, by its index.
@@ -64,9 +57,9 @@ pub struct Progress {
     pub instance: ClaimState,
     pub host: ClaimState,
     pub sent: Multicasts,
-    pub reply: When,
+    pub reply: Option<u64>,
     pub holds: Holds,
-    pub updated: When,
+    pub updated: Option<u64>,
     pub draw: u64,
     pub last: u64,
 }
@@ -92,32 +85,32 @@ fn ms_ago(time: u64, now: u64) -> u64
 }
 
 // Was a record that was last multicast then multicast less than `gap` ms ago?
-pub fn was_recent(last: When, now: u64, gap: u64) -> bool
+pub fn was_recent(last: Option<u64>, now: u64, gap: u64) -> bool
     ensures { result ≡ recently last now gap }
 {
     match last {
-        When::Never => false,
-        When::At(time) => ms_ago(time, now) < gap,
+        None => false,
+        Some(time) => ms_ago(time, now) < gap,
     }
 }
 
 // Has the time come?
-pub fn has_come(due: When, now: u64) -> bool
+pub fn has_come(due: Option<u64>, now: u64) -> bool
     ensures { result ≡ due_by due now }
 {
     match due {
-        When::Never => false,
-        When::At(time) => time <= now,
+        None => false,
+        Some(time) => time <= now,
     }
 }
 
 // Is the time, if there is one, at most `most`?
-pub fn is_within(kept: When, most: u64) -> bool
+pub fn is_within(kept: Option<u64>, most: u64) -> bool
     ensures { result ≡ at_most most kept }
 {
     match kept {
-        When::Never => true,
-        When::At(time) => time <= most,
+        None => true,
+        Some(time) => time <= most,
     }
 }
 
@@ -138,18 +131,18 @@ pub fn state_number(c: ClaimState) -> u8
 }
 
 // When the claim's next step is due.
-pub fn due_of(c: ClaimState) -> When
+pub fn due_of(c: ClaimState) -> Option<u64>
     ensures { result ≡ due_of c }
 {
     match c {
-        ClaimState::Waiting(due) => When::At(due),
-        ClaimState::Probing1(due) => When::At(due),
-        ClaimState::Probing2(due) => When::At(due),
-        ClaimState::Probing3(due) => When::At(due),
-        ClaimState::Deferred(due) => When::At(due),
-        ClaimState::Announced(due) => When::At(due),
-        ClaimState::Held => When::Never,
-        ClaimState::Lost => When::Never,
+        ClaimState::Waiting(due) => Some(due),
+        ClaimState::Probing1(due) => Some(due),
+        ClaimState::Probing2(due) => Some(due),
+        ClaimState::Probing3(due) => Some(due),
+        ClaimState::Deferred(due) => Some(due),
+        ClaimState::Announced(due) => Some(due),
+        ClaimState::Held => None,
+        ClaimState::Lost => None,
     }
 }
 
@@ -182,7 +175,7 @@ pub fn claim_of(claim: Claim, progress: Progress) -> ClaimState
 pub fn never_sent() -> Multicasts
     ensures { result ≡ never_sent }
 {
-    let never = Multicast { last: When::Never };
+    let never = Multicast { last: None };
     Multicasts {
         of: [never; RECORDS],
     }
@@ -197,9 +190,9 @@ pub fn start(now: u64, draw: u64) -> Progress
         instance: ClaimState::Waiting(due),
         host: ClaimState::Waiting(due),
         sent: never_sent(),
-        reply: When::Never,
+        reply: None,
         holds: crate::holds::no_holds(),
-        updated: When::Never,
+        updated: None,
         draw,
         last: now,
     }
@@ -238,7 +231,7 @@ pub fn after_probe(c: ClaimState, due: u64) -> ClaimState
 }
 
 // When the record was last multicast.
-pub fn sent_of(o: Own, sent: Multicasts) -> When
+pub fn sent_of(o: Own, sent: Multicasts) -> Option<u64>
     ensures { result ≡ sent_of o sent }
 {
     let i = crate::records::index_of(o);
@@ -248,11 +241,11 @@ pub fn sent_of(o: Own, sent: Multicasts) -> When
 }
 
 // The last multicast of a record after a packet, with the record in it or not.
-fn mark(went: bool, last: When, now: u64) -> When
+fn mark(went: bool, last: Option<u64>, now: u64) -> Option<u64>
     ensures { result ≡ marked went last now }
 {
     if went {
-        return When::At(now);
+        return Some(now);
     }
     last
 }
@@ -261,7 +254,7 @@ fn mark(went: bool, last: When, now: u64) -> When
 pub fn mark_all(set: Set, sent: Multicasts, now: u64) -> Multicasts
     ensures { result ≡ marked_all set sent now }
 {
-    let never = Multicast { last: When::Never };
+    let never = Multicast { last: None };
     let mut of = [never; RECORDS];
     for i in 0..RECORDS {
         let o = crate::records::record_at(i);

@@ -8,7 +8,7 @@ ghost use Rattle.claims.specs.steps.Steps as steps;
 
 use crate::holds::Place;
 use crate::records::{Claim, Own, RECORDS, Set};
-use crate::{ClaimState, Multicasts, Progress, When};
+use crate::{ClaimState, Multicasts, Progress};
 
 // The first probe is followed by two more, and each probe by the next step, after 250 ms; the first announcement by the second after 1,000 ms.
 const PROBE_GAP: u64 = 250;
@@ -79,7 +79,7 @@ pub fn step_at(i: usize) -> Step
 }
 
 // When the query that is held at a place is answered.
-fn hold_due(place: Place, progress: Progress) -> When
+fn hold_due(place: Place, progress: Progress) -> Option<u64>
     ensures { result ≡ hold_due place progress }
 {
     let h = crate::holds::hold_at(place, progress.holds);
@@ -87,7 +87,7 @@ fn hold_due(place: Place, progress: Progress) -> When
 }
 
 // When a step is due.
-pub fn step_due(s: Step, progress: Progress) -> When
+pub fn step_due(s: Step, progress: Progress) -> Option<u64>
     ensures { result ≡ step_due s progress }
 {
     match s {
@@ -138,7 +138,7 @@ fn claim_action(c: ClaimState, now: u64) -> Action
 }
 
 // Is a record wanted, and not multicast too short a time ago?
-fn is_unsent(wanted: bool, last: When, now: u64) -> bool
+fn is_unsent(wanted: bool, last: Option<u64>, now: u64) -> bool
     ensures { result ≡ unsent wanted last now }
 {
     if wanted {
@@ -223,7 +223,7 @@ fn without_reply(progress: Progress) -> Progress
         instance,
         host,
         sent,
-        reply: When::Never,
+        reply: None,
         holds,
         updated,
         draw: progress.draw,

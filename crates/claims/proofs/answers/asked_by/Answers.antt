@@ -9,7 +9,7 @@ loop-i-init c = none_filled false _
 
 pub loop-i-preserved : goal.loop-i-preserved
 loop-i-preserved c = next_filled false _ _ _ _ c.loop-i.invariant
-      (simp (c.goes_by.ensures, c.is_to_asker.ensures, c.is_in.ensures, c.record_at-o.ensures))
+    (simp (c.goes_by.ensures, c.is_to_asker.ensures, c.is_in.ensures, c.record_at-o.ensures))
 
 pub returns : goal.returns
 unfolding asked_by
