@@ -4,23 +4,15 @@ ghost use Rattle.std.specs.Prelude.{◌≡◌};
 ghost use Rattle.claims.specs.due.Due.{earliest, next_due};
 
 use crate::Progress;
-use crate::steps::STEPS;
+use crate::steps::{STEPS, step_at, step_due};
 
 // The earlier of two.
 fn earlier(a: Option<u64>, b: Option<u64>) -> Option<u64>
     ensures { result ≡ earliest a b }
 {
-    match a {
-        None => b,
-        Some(first) => match b {
-            None => a,
-            Some(second) => {
-                if first <= second {
-                    return a;
-                }
-                b
-            }
-        },
+    match (a, b) {
+        (Some(first), Some(second)) => Some(first.min(second)),
+        _ => a.or(b),
     }
 }
 
@@ -30,10 +22,7 @@ pub fn next_due(progress: Progress) -> Option<u64>
 {
     let mut first = None;
     for i in 0..STEPS {
-        first = earlier(
-            first,
-            crate::steps::step_due(crate::steps::step_at(i), progress),
-        );
+        first = earlier(first, step_due(step_at(i), progress));
     }
     first
 }

@@ -15,11 +15,8 @@ ghost use Rattle.std.specs.Prelude.{◌≡◌};
 ghost use Rattle.claims.specs.Time.{after_ms, age, recently, due_by, at_most, never_sent, sent_of, marked, marked_all};
 ghost use Rattle.claims.specs.Claims.{state_number, due_of, held_now, claim_of, begun_at, after_conflict, after_probe};
 
-use crate::holds::Holds;
-use crate::records::{Claim, Own, RECORDS, Set};
-
-// The last time that 64 bits hold.
-const END_OF_TIME: u64 = 18446744073709551615;
+use crate::holds::{Holds, no_holds};
+use crate::records::{Claim, Own, RECORDS, Set, index_of, is_in, record_at};
 
 // A record that was multicast less than 1,000 ms ago is not sent again.
 pub const MULTICAST_GAP: u64 = 1000;
@@ -68,50 +65,28 @@ pub struct Progress {
 pub fn after(now: u64, ms: u64) -> u64
     ensures { result ≡ after_ms now ms }
 {
-    if END_OF_TIME - now < ms {
-        return END_OF_TIME;
-    }
-    now + ms
-}
-
-// How long ago a kept time is.
-fn ms_ago(time: u64, now: u64) -> u64
-    ensures { result ≡ age time now }
-{
-    if now < time {
-        return 0;
-    }
-    now - time
+    now.saturating_add(ms)
 }
 
 // Was a record that was last multicast then multicast less than `gap` ms ago?
 pub fn was_recent(last: Option<u64>, now: u64, gap: u64) -> bool
     ensures { result ≡ recently last now gap }
 {
-    match last {
-        None => false,
-        Some(time) => ms_ago(time, now) < gap,
-    }
+    last.is_some_and(|time| now.saturating_sub(time) < gap)
 }
 
 // Has the time come?
 pub fn has_come(due: Option<u64>, now: u64) -> bool
     ensures { result ≡ due_by due now }
 {
-    match due {
-        None => false,
-        Some(time) => time <= now,
-    }
+    due.is_some_and(|time| time <= now)
 }
 
 // Is the time, if there is one, at most `most`?
 pub fn is_within(kept: Option<u64>, most: u64) -> bool
     ensures { result ≡ at_most most kept }
 {
-    match kept {
-        None => true,
-        Some(time) => time <= most,
-    }
+    kept.is_none_or(|time| time <= most)
 }
 
 // The number of a claim's state: 0 waiting, 1 probing, 2 deferred, 3 held, 4 lost.
@@ -120,12 +95,9 @@ pub fn state_number(c: ClaimState) -> u8
 {
     match c {
         ClaimState::Waiting(_) => 0,
-        ClaimState::Probing1(_) => 1,
-        ClaimState::Probing2(_) => 1,
-        ClaimState::Probing3(_) => 1,
+        ClaimState::Probing1(_) | ClaimState::Probing2(_) | ClaimState::Probing3(_) => 1,
         ClaimState::Deferred(_) => 2,
-        ClaimState::Announced(_) => 3,
-        ClaimState::Held => 3,
+        ClaimState::Announced(_) | ClaimState::Held => 3,
         ClaimState::Lost => 4,
     }
 }
@@ -135,30 +107,20 @@ pub fn due_of(c: ClaimState) -> Option<u64>
     ensures { result ≡ due_of c }
 {
     match c {
-        ClaimState::Waiting(due) => Some(due),
-        ClaimState::Probing1(due) => Some(due),
-        ClaimState::Probing2(due) => Some(due),
-        ClaimState::Probing3(due) => Some(due),
-        ClaimState::Deferred(due) => Some(due),
-        ClaimState::Announced(due) => Some(due),
-        ClaimState::Held => None,
-        ClaimState::Lost => None,
+        ClaimState::Waiting(due)
+        | ClaimState::Probing1(due)
+        | ClaimState::Probing2(due)
+        | ClaimState::Probing3(due)
+        | ClaimState::Announced(due)
+        | ClaimState::Deferred(due) => Some(due),
+        ClaimState::Held | ClaimState::Lost => None,
     }
 }
 
 pub fn is_held(c: ClaimState) -> bool
     ensures { result ≡ held_now c }
 {
-    match c {
-        ClaimState::Waiting(_) => false,
-        ClaimState::Probing1(_) => false,
-        ClaimState::Probing2(_) => false,
-        ClaimState::Probing3(_) => false,
-        ClaimState::Deferred(_) => false,
-        ClaimState::Announced(_) => true,
-        ClaimState::Held => true,
-        ClaimState::Lost => false,
-    }
+    matches!(c, ClaimState::Announced(_) | ClaimState::Held)
 }
 
 // The state of one of the two claims.
@@ -175,9 +137,8 @@ pub fn claim_of(claim: Claim, progress: Progress) -> ClaimState
 pub fn never_sent() -> Multicasts
     ensures { result ≡ never_sent }
 {
-    let never = Multicast { last: None };
     Multicasts {
-        of: [never; RECORDS],
+        of: [Multicast { last: None }; RECORDS],
     }
 }
 
@@ -191,7 +152,7 @@ pub fn start(now: u64, draw: u64) -> Progress
         host: ClaimState::Waiting(due),
         sent: never_sent(),
         reply: None,
-        holds: crate::holds::no_holds(),
+        holds: no_holds(),
         updated: None,
         draw,
         last: now,
@@ -202,15 +163,10 @@ pub fn start(now: u64, draw: u64) -> Progress
 pub fn after_conflict(c: ClaimState, due: u64) -> ClaimState
     ensures { result ≡ after_conflict c due }
 {
-    match c {
-        ClaimState::Waiting(_) => ClaimState::Lost,
-        ClaimState::Probing1(_) => ClaimState::Lost,
-        ClaimState::Probing2(_) => ClaimState::Lost,
-        ClaimState::Probing3(_) => ClaimState::Lost,
-        ClaimState::Deferred(_) => ClaimState::Lost,
-        ClaimState::Announced(_) => ClaimState::Waiting(due),
-        ClaimState::Held => ClaimState::Waiting(due),
-        ClaimState::Lost => ClaimState::Lost,
+    if is_held(c) {
+        ClaimState::Waiting(due)
+    } else {
+        ClaimState::Lost
     }
 }
 
@@ -219,14 +175,10 @@ pub fn after_probe(c: ClaimState, due: u64) -> ClaimState
     ensures { result ≡ after_probe c due }
 {
     match c {
-        ClaimState::Waiting(was) => ClaimState::Waiting(was),
-        ClaimState::Probing1(_) => ClaimState::Deferred(due),
-        ClaimState::Probing2(_) => ClaimState::Deferred(due),
-        ClaimState::Probing3(_) => ClaimState::Deferred(due),
-        ClaimState::Deferred(was) => ClaimState::Deferred(was),
-        ClaimState::Announced(was) => ClaimState::Announced(was),
-        ClaimState::Held => ClaimState::Held,
-        ClaimState::Lost => ClaimState::Lost,
+        ClaimState::Probing1(_) | ClaimState::Probing2(_) | ClaimState::Probing3(_) => {
+            ClaimState::Deferred(due)
+        }
+        _ => c,
     }
 }
 
@@ -234,31 +186,24 @@ pub fn after_probe(c: ClaimState, due: u64) -> ClaimState
 pub fn sent_of(o: Own, sent: Multicasts) -> Option<u64>
     ensures { result ≡ sent_of o sent }
 {
-    let i = crate::records::index_of(o);
-    let of = sent.of;
-    let m = of[i];
-    m.last
+    sent.of[index_of(o)].last
 }
 
 // The last multicast of a record after a packet, with the record in it or not.
 fn mark(went: bool, last: Option<u64>, now: u64) -> Option<u64>
     ensures { result ≡ marked went last now }
 {
-    if went {
-        return Some(now);
-    }
-    last
+    if went { Some(now) } else { last }
 }
 
 // The last multicasts after a packet with the records of a set.
 pub fn mark_all(set: Set, sent: Multicasts, now: u64) -> Multicasts
     ensures { result ≡ marked_all set sent now }
 {
-    let never = Multicast { last: None };
-    let mut of = [never; RECORDS];
+    let mut of = [Multicast { last: None }; RECORDS];
     for i in 0..RECORDS {
-        let o = crate::records::record_at(i);
-        let last = mark(crate::records::is_in(o, set), sent_of(o, sent), now);
+        let o = record_at(i);
+        let last = mark(is_in(o, set), sent_of(o, sent), now);
         of[i] = Multicast { last };
     }
     Multicasts { of }

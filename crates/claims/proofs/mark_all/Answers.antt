@@ -15,4 +15,4 @@ loop-i-preserved c = next_filled (last_of None) _ _ _ _ c.loop-i.invariant (ap l
 
 pub returns : goal.returns
 unfolding marked_all
-returns c = ap (λ (l : List Multicast). record { of = l }) (all-filled (last_of None) _ _ _ (omega arith) c.loop-i.invariant)
+returns c = ap (λ (l : List Multicast). record { of = l }) (all-filled (last_of None) _ _ _ (omega arith) (omega arith) c.loop-i.invariant)

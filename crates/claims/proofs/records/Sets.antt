@@ -28,6 +28,10 @@ by-record P ptr srv txt a aaaa instance host HostNsec = host
 pub has-each : (test : Own → Bool) (o : Own) → has o (each test) ≡ test o
 has-each test = by-record (λ o. has o (each test) ≡ test o) refl refl refl refl refl refl refl
 
+-- a set of which each record is in it where a test holds
+pub same-each : (test : Own → Bool) (set : Set) → ((o : Own) → has o set ≡ test o) → set ≡ each test
+same-each test set h = rw (← h Ptr, ← h Srv, ← h Txt, ← h A, ← h Aaaa, ← h InstanceNsec, ← h HostNsec) refl
+
 pub index_low : (o : Own) → index_of o < records
 index_low =
     by-record (λ o. index_of o < records) (omega arith) (omega arith) (omega arith) (omega arith) (omega arith) (omega arith) (omega arith)

@@ -1,4 +1,0 @@
-use Rattle.claims.proofs.has_come.Goals as goal
-
-pub returns-in-Some : goal.returns-in-Some
-returns-in-Some c = rw c.in-Some.is
