@@ -155,11 +155,9 @@ fn multicasts_at(b: &[u8]) -> Multicasts
 {
     let never = Multicast { last: When::Never };
     let mut of = [never; RECORDS];
-    let mut i = 0;
-    while i < RECORDS {
+    for i in 0..RECORDS {
         let last = sent_at(b, claims::records::record_at(i));
         of[i] = Multicast { last };
-        i += 1;
     }
     Multicasts { of }
 }
@@ -177,10 +175,8 @@ fn set_at(b: &[u8], at: usize) -> Set
     ensures { result ≡ set_at b.now at }
 {
     let mut flags = [false; RECORDS];
-    let mut i = 0;
-    while i < RECORDS {
+    for i in 0..RECORDS {
         flags[i] = set_flag(b, at, claims::records::record_at(i));
-        i += 1;
     }
     claims::records::set_of(flags)
 }

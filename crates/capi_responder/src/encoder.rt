@@ -130,11 +130,9 @@ fn put_multicasts(out: &mut [u8], sent: Multicasts)
     requires { layout.state_size ≤ length out.old }
     ensures { Laid out.old layout.multicasts (multicasts_bytes sent) out.new × MulticastsFit sent }
 {
-    let mut i = 0;
-    while i < RECORDS {
+    for i in 0..RECORDS {
         let last = claims::sent_of(claims::records::record_at(i), sent);
         put_when(out, layout::MULTICASTS + i * layout::CASE_SIZE, last);
-        i += 1;
     }
 }
 
@@ -153,10 +151,8 @@ fn set_bytes(set: Set) -> [u8; layout::SET_SIZE]
     ensures { result ≡ set_bytes set }
 {
     let mut flags = [0u8; layout::SET_SIZE];
-    let mut i = 0;
-    while i < RECORDS {
+    for i in 0..RECORDS {
         flags[i] = flag_byte(claims::records::record_at(i), set);
-        i += 1;
     }
     flags
 }

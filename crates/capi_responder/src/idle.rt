@@ -94,12 +94,10 @@ fn multicasts_kept(b: &[u8]) -> bool
     requires { length b.now ≡ layout.state_size }
     ensures { result ≡ multicasts_kept b.now }
 {
-    let mut i = 0;
-    while i < RECORDS {
+    for i in 0..RECORDS {
         if !when_kept(b, layout::MULTICASTS + i * layout::CASE_SIZE) {
             return false;
         }
-        i += 1;
     }
     true
 }
@@ -111,12 +109,10 @@ fn none_held(b: &[u8]) -> bool
     ensures { result ≡ none_held b.now }
 {
     let mut clear = true;
-    let mut i = layout::HOLDS;
-    while i < layout::DRAW + 4 {
-        if b[i] != 0 {
+    for x in &b[layout::HOLDS..layout::DRAW + 4] {
+        if *x != 0 {
             clear = false;
         }
-        i += 1;
     }
     clear
 }
