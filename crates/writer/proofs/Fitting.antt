@@ -23,10 +23,11 @@ use Rattle.wire.specs.declared.rdata.Form.{Form}
 use Rattle.wire.specs.labels.Counted.{labels_in, starts}
 use Rattle.writer.specs.declared.Spot.{Spot}
 use Rattle.writer.specs.declared.Room.{Room}
-use Rattle.writer.specs.declared.Placed.TheVariants.{Done, Full, Unfit}
 use Rattle.writer.specs.Items.{Writing}
 use Rattle.writer.specs.Writer.{spot_of, labels_for, name_fits, record_fits, Placing, Grown}
 use Rattle.writer.specs.Fit.{form_for, held_name, holds_name, is_found, is_shaped, fit_record}
+use Rattle.std.specs.Prelude.{Ok, Err}
+use Rattle.writer.specs.declared.Misfit.TheVariants.{Full, Unfit}
 
 -- a test with a sum moved to the other side
 moved : (x c s : ℕ) → c ≤ s → leb x (s - c) ≡ leb (c + x) s
@@ -232,24 +233,24 @@ module _ (owner block : List ℕ) (ok : is_name owner ≡ true) (b : is_block bl
 
 -- the three answers
 module _ (fit fits : Bool) (w : Writing) (o pl : List ℕ) (a : Bool) (ia : a ≡ fit) where
-  pub placed-unfit : a ≡ false → Placing fit fits w o pl Unfit o pl
+  pub placed-unfit : a ≡ false → Placing fit fits w o pl (Err Unfit) o pl
   placed-unfit t = let f : fit ≡ false = sym ia ∙ t in record { answer = sym (simp f); bytes = sym (simp f); places = sym (simp f) }
 
   module _ (ta : a ≡ true) (b : Bool) (ib : b ≡ fits) where
     is-fit : fit ≡ true
     is-fit = sym ia ∙ ta
 
-    pub placed-full : b ≡ false → Placing fit fits w o pl Full o pl
+    pub placed-full : b ≡ false → Placing fit fits w o pl (Err Full) o pl
     placed-full t =
         let f : fits ≡ false = sym ib ∙ t in
         record { answer = sym (simp (is-fit, f)); bytes = sym (simp (is-fit, f)); places = sym (simp (is-fit, f)) }
 
-    pub placed-done : b ≡ true → (r : Spot) (o' pl' : List ℕ) → Grown w o pl r o' pl' → Placing fit fits w o pl (Done r) o' pl'
+    pub placed-done : b ≡ true → (r : Spot) (o' pl' : List ℕ) → Grown w o pl r o' pl' → Placing fit fits w o pl (Ok r) o' pl'
     placed-done t r o' pl' g =
         let f : fits ≡ true = sym ib ∙ t in
         let e : r ≡ spot_of (length w.bytes) (length w.places) = λ i. spot_of (g.ended i) (g.counted i) in
         record {
-          answer = sym (simp (is-fit, f) (ap Done (sym e)));
+          answer = sym (simp (is-fit, f) (ap Ok (sym e)));
           bytes = sym (simp (is-fit, f) (sym g.bytes));
           places = sym (simp (is-fit, f) (sym g.places));
         }

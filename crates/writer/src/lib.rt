@@ -16,7 +16,6 @@ ghost use Rattle.writer.specs.Fit.{form_for, is_shaped, fit_record};
 ghost use Rattle.writer.specs.Writer.{held_in, room_in, question_of, labels_for, name_fits, question_fits, record_fits};
 ghost use Rattle.writer.specs.Writer.{Placing, Wrote, Grown, NameReady, DataReady, RecordReady, QuestionReady};
 
-use crate::compression::Place;
 use wire::rdata::Form;
 
 // A pointer has 14 bits: no name is written that would end behind this offset.
@@ -38,10 +37,9 @@ pub struct Room {
     pub slots: usize,
 }
 
-// Whether a question or a record was put into the packet: there is no room for it, or it is none that a reader takes.
+// Why a question or a record was not put into the packet: there is no room for it, or it is none that a reader takes.
 #[derive(Clone, Copy)]
-pub enum Placed {
-    Done(Spot),
+pub enum Misfit {
     Full,
     Unfit,
 }
@@ -103,14 +101,14 @@ fn put_name(
     let noted = note_starts(places, count, at, &name[..kept]);
     let end = at + kept;
     match place {
-        Place::At(o) => {
+        Some(o) => {
             put_u16(out, end, 49152 + o);
             Spot {
                 end: end + 2,
                 count: noted,
             }
         }
-        Place::Nowhere => {
+        None => {
             out[end] = 0;
             Spot {
                 end: end + 1,
@@ -373,14 +371,14 @@ pub fn put_question(
     name: &[u8],
     rtype: u16,
     class: u16,
-) -> Placed
+) -> Result<Spot, Misfit>
     ensures { Placing (is_name name.now)
         (question_fits (room_in out.old places.old at count) name.now)
         (put_question (held_in out.old places.old at count) (question_of name.now rtype class))
         out.old places.old result out.new places.new }
 {
     if !wire::names::is_name(name) {
-        return Placed::Unfit;
+        return Err(Misfit::Unfit);
     }
     let room = Room {
         at,
@@ -389,9 +387,9 @@ pub fn put_question(
         slots: places.len(),
     };
     if !name_fits(room, name, 4, 0) {
-        return Placed::Full;
+        return Err(Misfit::Full);
     }
-    Placed::Done(write_question(out, at, places, count, name, rtype, class))
+    Ok(write_question(out, at, places, count, name, rtype, class))
 }
 
 // Puts a record, its rdata given with names expanded, behind the packet `out[..at]`; every name in it is cut, or with `whole` every name but the target
@@ -407,14 +405,14 @@ pub fn put_record(
     class: u16,
     ttl: u32,
     d: &[u8],
-) -> Placed
+) -> Result<Spot, Misfit>
     ensures { Placing (fit_record owner.now rtype ttl d.now)
         (record_fits (room_in out.old places.old at count) owner.now rtype d.now)
         (put_record whole (held_in out.old places.old at count) (record_of owner.now rtype class ttl d.now))
         out.old places.old result out.new places.new }
 {
     if !fit_record(owner, rtype, ttl, d) {
-        return Placed::Unfit;
+        return Err(Misfit::Unfit);
     }
     let room = Room {
         at,
@@ -423,7 +421,7 @@ pub fn put_record(
         slots: places.len(),
     };
     if !record_fits(room, owner, rtype, d) {
-        return Placed::Full;
+        return Err(Misfit::Full);
     }
-    Placed::Done(write_record(out, at, places, count, whole, owner, rtype, class, ttl, d))
+    Ok(write_record(out, at, places, count, whole, owner, rtype, class, ttl, d))
 }

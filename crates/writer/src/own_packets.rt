@@ -14,7 +14,7 @@ ghost use Rattle.writer.specs.own_packets.Own.{refusal_of, length_of, response_r
 ghost use Rattle.writer.specs.own_packets.Own.{refusal, unless_refused, written_of, laid_over};
 ghost use Rattle.writer.specs.own_packets.Goodbye.{goodbye_style, goodbye_packet};
 
-use crate::{Placed, Spot};
+use crate::{Misfit, Spot};
 use claims::records::{Claim, Own, RECORDS, Set};
 use own::records::Setup;
 
@@ -152,15 +152,11 @@ fn put_header(
     crate::put_u16(out, 10, 0);
 }
 
-// Where the packet ends after `writer` was to put something behind it. What is own is fit and has room, so that only `Done` is ever answered here.
-fn spot_after(placed: Placed, at: usize, count: usize) -> Spot
+// Where the packet ends after `writer` was to put something behind it. What is own is fit and has room, so that only `Ok` is ever answered here.
+fn spot_after(placed: Result<Spot, Misfit>, at: usize, count: usize) -> Spot
     ensures { result ≡ spot_after placed at count }
 {
-    match placed {
-        Placed::Done(spot) => spot,
-        Placed::Full => Spot { end: at, count },
-        Placed::Unfit => Spot { end: at, count },
-    }
+    placed.unwrap_or(Spot { end: at, count })
 }
 
 // The class of an own record.
