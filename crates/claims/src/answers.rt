@@ -6,9 +6,7 @@ ghost use Rattle.claims.specs.answers.Answers.{is_to_asker, asked_by, multicast_
 ghost use Rattle.claims.specs.answers.Held.{to_hold, hold_of, held_back, receive_of};
 
 use crate::holds::{Address, Hold, Holds, add, add_known, some_free, some_from};
-use crate::records::{
-    Claim, Own, Set, at_once, claim_for, is_in, is_present, no_record, own_ttl, set_where,
-};
+use crate::records::{Claim, Own, Set, at_once, claim_for, is_in, is_present, no_record, own_ttl};
 use crate::{
     ClaimState, MULTICAST_GAP, Progress, after, after_conflict, after_probe, claim_of, is_held,
     mark_all, sent_of, was_recent,
@@ -154,7 +152,7 @@ fn is_wanted(progress: Progress, q: Asks, now: u64, aaaa: bool, o: Own) -> bool
 pub fn wanted(progress: Progress, q: Asks, now: u64, aaaa: bool) -> Set
     ensures { result ≡ wanted_of progress q now aaaa }
 {
-    set_where(|o| is_wanted(progress, q, now, aaaa, o))
+    Set::of(|o| is_wanted(progress, q, now, aaaa, o))
 }
 
 // Does a record that a message asks for go to its sender alone, if it goes at all?
@@ -170,7 +168,7 @@ fn asked_by(unicast: bool, progress: Progress, f: Facts, now: u64) -> Set
     ensures { result ≡ asked_by unicast progress f now }
 {
     let q = asks_of(f);
-    set_where(|o| is_in(o, q.asked) && is_to_asker(progress, f, now, o) == unicast)
+    Set::of(|o| is_in(o, q.asked) && is_to_asker(progress, f, now, o) == unicast)
 }
 
 // What a message asks of all on the link.
@@ -295,7 +293,7 @@ pub fn receive(progress: Progress, c: Coming, f: Facts, aaaa: bool) -> Received
 fn due(progress: Progress, q: Asks, aaaa: bool) -> Set
     ensures { result ≡ due_to progress q aaaa }
 {
-    set_where(|o| is_due(progress, q, aaaa, o))
+    Set::of(|o| is_due(progress, q, aaaa, o))
 }
 
 // A query received at `now` from a plain resolver, by a port other than 5353: the records that are due, PTR too, go out at once by unicast, and nothing but

@@ -5,9 +5,7 @@ ghost use Rattle.claims.specs.changes.Changes.{is_parting, goodbye_of, stop_of, 
 ghost use Rattle.claims.specs.changes.Changes.{forgetting_all, update_of, is_lost, lost_to_update, too_soon};
 
 use crate::holds::{Hold, Holds};
-use crate::records::{
-    Own, Set, carries_data, claim_for, is_in, is_present, no_record, only, set_where,
-};
+use crate::records::{Own, Set, carries_data, claim_for, is_in, is_present, no_record, only};
 use crate::steps::ANNOUNCEMENT_GAP;
 use crate::{ClaimState, Progress, after, claim_of, is_held, mark_all, was_recent};
 
@@ -46,7 +44,7 @@ fn is_parting(progress: Progress, aaaa: bool, o: Own) -> bool
 fn goodbye(progress: Progress, aaaa: bool) -> Set
     ensures { result ≡ goodbye_of progress aaaa }
 {
-    set_where(|o| is_parting(progress, aaaa, o))
+    Set::of(|o| is_parting(progress, aaaa, o))
 }
 
 // A stop: the held claims' records go out with TTL 0, and both claims are lost. `aaaa` says whether there is an AAAA record.
@@ -104,7 +102,7 @@ fn announced(progress: Progress, change: Change) -> Set
 fn without(set: Set, gone: Set) -> Set
     ensures { result ≡ without set gone }
 {
-    set_where(|o| is_in(o, set) && !is_in(o, gone))
+    Set::of(|o| is_in(o, set) && !is_in(o, gone))
 }
 
 // A held query that no longer knows the record.

@@ -4,7 +4,7 @@ ghost use Rattle.std.specs.Prelude.{◌≡◌, ◌||◌};
 ghost use Rattle.claims.specs.holds.Holds.{is_taken, no_hold, no_holds, hold_at, with_hold, same_address, is_from, some_from, some_free, union, knowing};
 ghost use Rattle.claims.specs.holds.Holds.{knowing_all, queued};
 
-use crate::records::{Set, is_in, no_record, set_where};
+use crate::records::{Set, is_in, no_record};
 
 // An address of 16 bytes, as two numbers, the first eight bytes in `high`; an IPv4 address is ::ffff:a.b.c.d.
 #[derive(Clone, Copy, PartialEq, Eq)]
@@ -128,7 +128,7 @@ pub fn some_free(holds: Holds) -> bool
 pub fn union(a: Set, b: Set) -> Set
     ensures { result ≡ union a b }
 {
-    set_where(|o| is_in(o, a) || is_in(o, b))
+    Set::of(|o| is_in(o, a) || is_in(o, b))
 }
 
 // What is held at a place, after a query from `from` that knows some records.

@@ -49,6 +49,24 @@ pub struct Set {
     pub hostnsec: bool,
 }
 
+impl Set {
+    // The records of which a test holds.
+    pub(crate) fn of<F: Fn(Own) -> bool>(test: F) -> Set
+        requires { F.IsAlwaysCallable test }
+        ensures { (o : _) → F.post test o (has o result) }
+    {
+        Set {
+            ptr: test(Own::Ptr),
+            srv: test(Own::Srv),
+            txt: test(Own::Txt),
+            a: test(Own::A),
+            aaaa: test(Own::Aaaa),
+            instancensec: test(Own::InstanceNsec),
+            hostnsec: test(Own::HostNsec),
+        }
+    }
+}
+
 // The record of an index; past the end, the first.
 pub fn record_at(i: usize) -> Own
     ensures { result ≡ record_at i }
@@ -65,18 +83,11 @@ pub fn record_at(i: usize) -> Own
     if i < RECORDS { all[i] } else { Own::Ptr }
 }
 
+// The place of a record in the order of `Own`.
 pub fn index_of(o: Own) -> usize
     ensures { result ≡ index_of o }
 {
-    match o {
-        Own::Ptr => 0,
-        Own::Srv => 1,
-        Own::Txt => 2,
-        Own::A => 3,
-        Own::Aaaa => 4,
-        Own::InstanceNsec => 5,
-        Own::HostNsec => 6,
-    }
+    o as usize
 }
 
 pub fn own_type(o: Own) -> u16
@@ -215,22 +226,6 @@ pub fn is_in(o: Own, set: Set) -> bool
     }
 }
 
-// The set of the records of which a test holds.
-pub fn set_where<F: Fn(Own) -> bool>(test: F) -> Set
-    requires { F.IsAlwaysCallable test }
-    ensures { (o : _) → F.post test o (has o result) }
-{
-    Set {
-        ptr: test(Own::Ptr),
-        srv: test(Own::Srv),
-        txt: test(Own::Txt),
-        a: test(Own::A),
-        aaaa: test(Own::Aaaa),
-        instancensec: test(Own::InstanceNsec),
-        hostnsec: test(Own::HostNsec),
-    }
-}
-
 // The set of the records whose flag is up, by their indices.
 pub fn set_of(flags: [bool; RECORDS]) -> Set
     ensures { result ≡ each (λ o. get_or flags (index_of o) false) }
@@ -274,19 +269,19 @@ pub fn is_any(set: Set) -> bool
 pub fn at_once(set: Set) -> Set
     ensures { result ≡ at_once set }
 {
-    set_where(|o| goes_at_once(o) && is_in(o, set))
+    Set::of(|o| goes_at_once(o) && is_in(o, set))
 }
 
 // The records of a set that carry data.
 pub fn with_data(set: Set) -> Set
     ensures { result ≡ with_data set }
 {
-    set_where(|o| carries_data(o) && is_in(o, set))
+    Set::of(|o| carries_data(o) && is_in(o, set))
 }
 
 // The records that are announced for a claim.
 pub fn records_of(claim: Claim, aaaa: bool) -> Set
     ensures { result ≡ records_of claim aaaa }
 {
-    set_where(|o| claim_for(o) == claim && carries_data(o) && is_present(o, aaaa))
+    Set::of(|o| claim_for(o) == claim && carries_data(o) && is_present(o, aaaa))
 }

@@ -8,7 +8,7 @@ ghost use Rattle.claims.specs.steps.Steps as steps;
 
 use crate::answers::{asks_of_hold, wanted};
 use crate::holds::{Place, hold_at, no_hold, with_hold};
-use crate::records::{Claim, Own, Set, is_any, is_in, no_record, only, records_of, set_where};
+use crate::records::{Claim, Own, Set, is_any, is_in, no_record, only, records_of};
 use crate::{
     ClaimState, MULTICAST_GAP, Multicasts, Progress, after, claim_of, due_of, has_come, is_held,
     mark_all, sent_of, was_recent,
@@ -151,7 +151,7 @@ fn is_unsent(wanted: bool, last: Option<u64>, now: u64) -> bool
 fn unsent_of(set: Set, sent: Multicasts, now: u64) -> Set
     ensures { result ≡ unsent_of set sent now }
 {
-    set_where(|o| is_unsent(is_in(o, set), sent_of(o, sent), now))
+    Set::of(|o| is_unsent(is_in(o, set), sent_of(o, sent), now))
 }
 
 fn with_claim(claim: Claim, c: ClaimState, progress: Progress) -> Progress

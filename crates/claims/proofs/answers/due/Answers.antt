@@ -5,4 +5,4 @@ use Rattle.claims.proofs.answers.due.Goals as goal
 
 pub returns : goal.returns
 unfolding due_to
-returns c = let a = c.args in same-each (is_due a.progress a.q a.aaaa) _ (λ o. let h = c.set_where.ensures o in search rules)
+returns c = let a = c.args in same-each (is_due a.progress a.q a.aaaa) _ (λ o. let h = c.of.ensures o in search rules)

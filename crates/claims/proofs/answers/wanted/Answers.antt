@@ -5,4 +5,4 @@ use Rattle.claims.proofs.answers.wanted.Goals as goal
 
 pub returns : goal.returns
 unfolding wanted_of
-returns c = let a = c.args in same-each (is_wanted a.progress a.q a.now a.aaaa) _ (λ o. let h = c.set_where.ensures o in search rules)
+returns c = let a = c.args in same-each (is_wanted a.progress a.q a.now a.aaaa) _ (λ o. let h = c.of.ensures o in search rules)

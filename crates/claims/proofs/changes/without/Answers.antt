@@ -7,4 +7,4 @@ use Rattle.claims.proofs.changes.without.Goals as goal
 
 pub returns : goal.returns
 unfolding without
-returns c = let a = c.args in same-each (λ o. has o a.set && not (has o a.gone)) _ (λ o. let h = c.set_where.ensures o in search rules)
+returns c = let a = c.args in same-each (λ o. has o a.set && not (has o a.gone)) _ (λ o. let h = c.of.ensures o in search rules)

@@ -7,4 +7,4 @@ use Rattle.claims.proofs.holds.union.Goals as goal
 
 pub returns : goal.returns
 unfolding union
-returns c = let a = c.args in same-each (λ o. has o a.a || has o a.b) _ (λ o. let h = c.set_where.ensures o in search rules)
+returns c = let a = c.args in same-each (λ o. has o a.a || has o a.b) _ (λ o. let h = c.of.ensures o in search rules)

@@ -7,4 +7,4 @@ use Rattle.claims.proofs.records.at_once.Goals as goal
 
 pub returns : goal.returns
 unfolding at_once
-returns c = same-each (λ o. goes_at_once o && has o c.args.set) _ (λ o. let h = c.set_where.ensures o in search rules)
+returns c = same-each (λ o. goes_at_once o && has o c.args.set) _ (λ o. let h = c.of.ensures o in search rules)

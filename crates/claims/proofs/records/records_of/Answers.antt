@@ -7,4 +7,4 @@ use Rattle.claims.proofs.records.records_of.Goals as goal
 
 pub returns : goal.returns
 unfolding records_of
-returns c = let a = c.args in same-each (λ o. same_claim (claim_for o) a.claim && (carries_data o && present o a.aaaa)) _ (λ o. let h = c.set_where.ensures o in search rules)
+returns c = let a = c.args in same-each (λ o. same_claim (claim_for o) a.claim && (carries_data o && present o a.aaaa)) _ (λ o. let h = c.of.ensures o in search rules)

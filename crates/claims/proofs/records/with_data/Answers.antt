@@ -7,4 +7,4 @@ use Rattle.claims.proofs.records.with_data.Goals as goal
 
 pub returns : goal.returns
 unfolding with_data
-returns c = same-each (λ o. carries_data o && has o c.args.set) _ (λ o. let h = c.set_where.ensures o in search rules)
+returns c = same-each (λ o. carries_data o && has o c.args.set) _ (λ o. let h = c.of.ensures o in search rules)

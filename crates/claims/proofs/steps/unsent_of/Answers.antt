@@ -7,4 +7,4 @@ use Rattle.claims.proofs.steps.unsent_of.Goals as goal
 
 pub returns : goal.returns
 unfolding unsent_of
-returns c = let a = c.args in same-each (λ o. unsent (has o a.set) (sent_of o a.sent) a.now) _ (λ o. let h = c.set_where.ensures o in search rules)
+returns c = let a = c.args in same-each (λ o. unsent (has o a.set) (sent_of o a.sent) a.now) _ (λ o. let h = c.of.ensures o in search rules)
