@@ -305,10 +305,7 @@ fn is_shaped(owner: &[u8], rtype: u16, d: &[u8]) -> bool
         wire::rdata::A => n == 4,
         wire::rdata::TXT => wire::rdata::strings_fill(d),
         wire::rdata::AAAA => n == 16,
-        wire::rdata::NSEC => match wire::names::name_at(d, 0) {
-            wire::names::Name::Found(_) => true,
-            wire::names::Name::Malformed => false,
-        },
+        wire::rdata::NSEC => wire::names::name_at(d, 0).is_some(),
         _ => true,
     }
 }
