@@ -16,15 +16,10 @@ pub fn stands_at(p: &[u8], s: &[u8], at: usize) -> bool
     ensures { result ≡ stands_at p.now s.now at }
 {
     let e = wire::names::expand(p, at);
-    let name = e.name;
-    let bytes = e.bytes;
-    match name {
-        wire::names::Name::Found(span) => {
-            let len = span.len;
-            wire::expansion::same_bytes(&bytes[..len], s)
-        }
-        wire::names::Name::Malformed => false,
-    }
+    let Some(span) = e.name else {
+        return false;
+    };
+    wire::expansion::same_bytes(&e.bytes[..span.len], s)
 }
 
 // The first of some offsets at which the name `s` stands.

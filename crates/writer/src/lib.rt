@@ -119,14 +119,12 @@ fn put_name(
 }
 
 // The form of rdata that is given with its name expanded, for the owner of the record.
+#[tactic(auto, using(wire::proofs::nsec::Blocks::nsec_long), unfolding(crate::specs::Fit::form_for))]
 fn form_for(owner: &[u8], rtype: u16, d: &[u8]) -> Form
     ensures { result ≡ form_for owner.now rtype d.now }
 {
-    if rtype != wire::rdata::NSEC {
+    if rtype != wire::rdata::NSEC || !wire::nsec::is_nsec(owner, d) {
         return wire::rdata::form_of(rtype);
-    }
-    if !wire::nsec::is_nsec(owner, d) {
-        return wire::rdata::form_of(wire::rdata::NSEC);
     }
     Form {
         named: true,
@@ -186,13 +184,11 @@ fn put_fields(out: &mut [u8], at: usize, rtype: u16, class: u16, ttl: u32, len: 
 fn tried_for(whole: bool, rtype: u16, count: usize) -> usize
     ensures { result ≡ tried_for whole rtype count }
 {
-    if !whole {
-        return count;
+    if whole && rtype == wire::rdata::SRV {
+        0
+    } else {
+        count
     }
-    if rtype == wire::rdata::SRV {
-        return 0;
-    }
-    count
 }
 
 // Writes a record behind the packet `out[..at]`: the owner, the rdata ten bytes further, and then the ten bytes, when the length is known.
@@ -251,57 +247,39 @@ fn write_question(
 }
 
 // Whether there is room for a name, with `more` bytes behind it and `also` places besides those of its labels.
+#[tactic(auto, unfolding(crate::specs::Writer::name_fits))]
 fn name_fits(room: Room, name: &[u8], more: usize, also: usize) -> bool
     ensures { result ≡ name_fits room name.now more also }
 {
-    let at = room.at;
-    let len = room.len;
-    let count = room.count;
-    let slots = room.slots;
-    if len < at {
+    let Room {
+        at,
+        len,
+        count,
+        slots,
+    } = room;
+    if len < at || len - at < name.len() || len - at - name.len() < more {
         return false;
     }
-    if len - at < name.len() {
-        return false;
-    }
-    if len - at - name.len() < more {
-        return false;
-    }
-    if MOST_POINTED < at {
-        return false;
-    }
-    if MOST_POINTED - at < name.len() {
+    if MOST_POINTED < at || MOST_POINTED - at < name.len() {
         return false;
     }
     let labels = wire::labels::labels_in(name);
-    if slots < count {
-        return false;
-    }
-    if slots - count < labels {
-        return false;
-    }
-    also <= slots - count - labels
+    count <= slots && labels <= slots - count && also <= slots - count - labels
 }
 
 // How many labels the name in rdata of a form has.
+#[tactic(auto, using(crate::proofs::Fitting::none_there), unfolding(crate::specs::Writer::labels_for))]
 fn labels_for(held: Form, d: &[u8]) -> usize
     ensures { result ≡ labels_for held d.now }
 {
-    if !held.named {
+    if !held.named || d.len() < held.behind || d.len() - held.behind < held.before {
         return 0;
     }
-    let head = held.before;
-    if d.len() < held.behind {
-        return 0;
-    }
-    let tail = d.len() - held.behind;
-    if tail < head {
-        return 0;
-    }
-    wire::labels::labels_in(&d[head..tail])
+    wire::labels::labels_in(&d[held.before..d.len() - held.behind])
 }
 
 // Whether there is room for a record.
+#[tactic(auto, unfolding(crate::specs::Writer::record_fits))]
 fn record_fits(room: Room, owner: &[u8], rtype: u16, d: &[u8]) -> bool
     requires { length d.now ≤ 65535 }
     ensures { result ≡ record_fits room owner.now rtype d.now }
@@ -312,54 +290,35 @@ fn record_fits(room: Room, owner: &[u8], rtype: u16, d: &[u8]) -> bool
 }
 
 // Whether rdata is as its type asks, the name in it expanded.
+#[tactic(auto, unfolding(crate::specs::Fit::is_shaped))]
 fn is_shaped(owner: &[u8], rtype: u16, d: &[u8]) -> bool
     ensures { result ≡ is_shaped owner.now rtype d.now }
 {
     let n = d.len();
     let held = form_for(owner, rtype, d);
     if held.named {
-        let head = held.before;
-        if n < held.behind {
-            return false;
-        }
-        let tail = n - held.behind;
-        if tail < head {
-            return false;
-        }
-        return wire::names::is_name(&d[head..tail]);
+        return held.behind <= n
+            && held.before <= n - held.behind
+            && wire::names::is_name(&d[held.before..n - held.behind]);
     }
-    if rtype == wire::rdata::A {
-        return n == 4;
+    match rtype {
+        wire::rdata::A => n == 4,
+        wire::rdata::TXT => wire::rdata::strings_fill(d),
+        wire::rdata::AAAA => n == 16,
+        wire::rdata::NSEC => wire::names::name_at(d, 0).is_some(),
+        _ => true,
     }
-    if rtype == wire::rdata::TXT {
-        return wire::rdata::strings_fill(d);
-    }
-    if rtype == wire::rdata::AAAA {
-        return n == 16;
-    }
-    if rtype == wire::rdata::NSEC {
-        return match wire::names::name_at(d, 0) {
-            wire::names::Name::Found(_) => true,
-            wire::names::Name::Malformed => false,
-        };
-    }
-    true
 }
 
 // Whether a record is one that a reader takes as it is written.
+#[tactic(auto, unfolding(crate::specs::Fit::fit_record))]
 fn fit_record(owner: &[u8], rtype: u16, ttl: u32, d: &[u8]) -> bool
     ensures { result ≡ fit_record owner.now rtype ttl d.now }
 {
-    if !wire::names::is_name(owner) {
-        return false;
-    }
-    if !is_shaped(owner, rtype, d) {
-        return false;
-    }
-    if MOST_RDATA < d.len() {
-        return false;
-    }
-    ttl < TOP_TTL
+    wire::names::is_name(owner)
+        && is_shaped(owner, rtype, d)
+        && d.len() <= MOST_RDATA
+        && ttl < TOP_TTL
 }
 
 // Puts a question behind the packet `out[..at]`, whose names have labels at the offsets `places[..count]`. Where it is not put every byte is kept.
@@ -394,6 +353,7 @@ pub fn put_question(
 
 // Puts a record, its rdata given with names expanded, behind the packet `out[..at]`; every name in it is cut, or with `whole` every name but the target
 // of an SRV. Where it is not put every byte is kept.
+#[tactic(auto, using(crate::proofs::Fitting::fit_short))]
 pub fn put_record(
     out: &mut [u8],
     at: usize,

@@ -13,7 +13,6 @@ use Rattle.wire.specs.names.Names.{name, name_at}
 use Rattle.wire.specs.names.Answers.{expanded}
 use Rattle.wire.specs.declared.names.Expanded.{Expanded}
 use Rattle.wire.specs.declared.names.Span.{Span}
-use Rattle.wire.specs.declared.names.Name.TheVariants.{Found, Malformed}
 use Rattle.wire.proofs.names.Use.{as_expanded, as_unexpanded}
 use Rattle.wire.specs.expansion.Equal.{same_bytes}
 use Rattle.writer.specs.declared.compression.Cut.{Cut}
@@ -22,11 +21,11 @@ use Rattle.std.specs.Prelude.{Option, Some, None}
 
 -- the front of an expanded name is the name
 module _ (p : List ℕ) (at : ℕ) (r : Expanded) (h : r ≡ expanded (name_at p at)) where
-  pub stands_bad : (s : List ℕ) → r.name ≡ Malformed → false ≡ stands_at p s at
+  pub stands_bad : (s : List ℕ) → r.name ≡ None → false ≡ stands_at p s at
   unfolding stands_at
   stands_bad s k = simp (as_unexpanded (name_at p at) r r.name h refl k)
 
-  module _ (f : Span) (k : r.name ≡ Found f) where
+  module _ (f : Span) (k : r.name ≡ Some f) where
     found : (bs : List ℕ) × (name_at p at ≡ name bs f.end) × (length bs ≡ f.len) × (take f.len r.bytes ≡ bs)
     found = as_expanded (name_at p at) r r.name f h refl k
 

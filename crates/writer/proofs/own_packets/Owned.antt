@@ -6,8 +6,8 @@ use Prim.Native.Nat.{ℕ, ◌+◌, ◌-◌, ◌<◌, ◌≤◌}
 use native.Mathlib.Numerals.{add-one}
 use native.Mathlib.Omega.{arith}
 use borrow.Author.Tests.{le-leb, eq-eqb}
-use lib.ListN.{length, get_or, take, drop, replicate, length-take, take-append-drop, drop_of_length-le, length-map, get_or-map}
-use lib.Seq.{sets, get_or-take, take_at, drop_at, drop-cons, length-take-le, drop-drop}
+use lib.ListN.{length, get_or, take, drop, replicate, length-take, take-append-drop, drop_of_length-le, get_or-map}
+use lib.Seq.{sets, take_at, drop_at, drop-cons, length-take-le, drop-drop}
 use Rattle.wire.specs.labels.Labels.{encode}
 use Rattle.wire.specs.names.Names.{is_name}
 use Rattle.wire.proofs.labels.Encoded.{is_name_lem}
@@ -35,10 +35,8 @@ use Rattle.writer.proofs.Use.{is-done, is-grown, record_size, record_count, reco
 use Rattle.writer.specs.own_packets.Packets.{header_bytes, put_all}
 use Rattle.writer.specs.own_packets.Styles.{class_in, ttl_in, own_record}
 use Rattle.writer.specs.own_packets.Ready.{spot_after, size_of, labels_of, sizes, label_counts, TtlSmall, each, fixed, OwnReady, ListReady}
-use Rattle.writer.specs.declared.own_packets.TtlRule.{TtlRule}
-use Rattle.writer.specs.declared.own_packets.TtlRule.TheVariants.{Each}
 use Rattle.writer.specs.declared.own_packets.Style.{Style}
-use Rattle.std.specs.Prelude.{Result}
+use Rattle.std.specs.Prelude.{Result, Option, None}
 use Rattle.writer.specs.declared.Misfit.{Misfit}
 
 -- six runs of two bytes
@@ -94,9 +92,9 @@ own_shaped s ok Aaaa = eq-eqb _ _ ok.sixteen
 own_shaped s ok InstanceNsec = instance-nsec_shaped s ok
 own_shaped s ok HostNsec = host-nsec_shaped s ok
 
-pub own_counts : {rule : TtlRule} → TtlSmall rule → (o : Own) → ttl_in rule o < 2147483648
+pub own_counts : {rule : Option ℕ} → TtlSmall rule → (o : Own) → ttl_in rule o < 2147483648
 own_counts each o =
-    by-record (λ o. ttl_in Each o < 2147483648) (omega arith) (omega arith) (omega arith) (omega arith) (omega arith) (omega arith) (omega arith) o
+    by-record (λ o. ttl_in None o < 2147483648) (omega arith) (omega arith) (omega arith) (omega arith) (omega arith) (omega arith) (omega arith) o
 own_counts (fixed h) o = h
 
 module _ (s : Setup) (style : Style) (i : Own) (at count : ℕ) (o pl : List ℕ) (ready : OwnReady s style i at count o pl) where
@@ -251,9 +249,6 @@ module _ (s : Setup) (style : Style) (is : List Own) (v : Writing) (o₀ pl₀ o
               l₀ ∙ ap (λ (q : ℕ). drop q l₀) (sym t ∙ sym ee)
 
 -- the record of the index at a place of the order
-pub listed_at : (order : List ℕ) (n j : ℕ) (x : Own) → x ≡ record_at (get_or order j 0) → j < n → x ≡ get_or (map record_at (take n order)) j Ptr
+pub listed_at : (is : List ℕ) (j : ℕ) (x : Own) → x ≡ record_at (get_or is j 0) → x ≡ get_or (map record_at is) j Ptr
 unfolding record_at
-listed_at order n j x e h = e ∙ sym (get_or-map record_at (take n order) j 0 ∙ ap record_at (get_or-take n order j 0 h))
-
-pub listed-length : (order : List ℕ) (n : ℕ) → n ≤ length order → length (map record_at (take n order)) ≡ n
-listed-length order n h = length-map (take n order) record_at ∙ length-take-le n order h
+listed_at is j x e = e ∙ sym (get_or-map record_at is j 0)

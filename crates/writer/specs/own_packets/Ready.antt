@@ -1,5 +1,5 @@
 -- What the private functions that write own records ask for and leave: room for each record with its names whole.
-use Rattle.std.specs.Prelude.{ℕ, ◌+◌, ◌≤◌, ◌<◌, ◌≡◌, List, [], ◌∷◌, map, true, cond, length, take, Result, Ok, Err}
+use Rattle.std.specs.Prelude.{ℕ, ◌+◌, ◌≤◌, ◌<◌, ◌≡◌, List, [], ◌∷◌, map, true, cond, length, take, Result, Ok, Err, Option, Some, None}
 use Rattle.wire.specs.names.Names.{is_name}
 use Rattle.wire.specs.labels.Counted.{labels_in}
 use Rattle.claims.specs.records.Own.{records, record_at, own_type}
@@ -11,8 +11,6 @@ use Rattle.writer.specs.declared.Spot.{Spot}
 use Rattle.writer.specs.Fit.{form_for}
 use Rattle.writer.specs.Writer.{spot_of, labels_for}
 use Rattle.writer.specs.declared.own_packets.Picked.{Picked}
-use Rattle.writer.specs.declared.own_packets.TtlRule.{TtlRule}
-use Rattle.writer.specs.declared.own_packets.TtlRule.TheVariants.{Each, Fixed}
 use Rattle.writer.specs.declared.own_packets.Style.{Style}
 use Rattle.writer.specs.declared.Misfit.{Misfit}
 
@@ -47,9 +45,9 @@ label_counts s [] = 0
 label_counts s (o ∷ os) = labels_of s o + label_counts s os
 
 -- every TTL of a style is one that counts
-pub data TtlSmall : TtlRule → Type 0 where
-  each : TtlSmall Each
-  fixed : {ttl : ℕ} → ttl < 2147483648 → TtlSmall (Fixed ttl)
+pub data TtlSmall : Option ℕ → Type 0 where
+  each : TtlSmall None
+  fixed : {ttl : ℕ} → ttl < 2147483648 → TtlSmall (Some ttl)
 
 pub record OwnReady (s : Setup) (style : Style) (o : Own) (at count : ℕ) (out places : List ℕ) : Type 0 where
   pub ok : valid_setup s ≡ true
