@@ -50,7 +50,7 @@ fn open_name(p: &[u8], at: usize, len: usize, before: usize, behind: usize) -> O
     let b = e.bytes;
     let mut out = [0u8; 289];
     match name {
-        crate::names::Name::Found(span) => {
+        Some(span) => {
             let n = span.len;
             crate::buffer::put(&mut out, 0, &p[at..from]);
             crate::buffer::put(&mut out, before, &b[..n]);
@@ -60,7 +60,7 @@ fn open_name(p: &[u8], at: usize, len: usize, before: usize, behind: usize) -> O
                 bytes: out,
             }
         }
-        crate::names::Name::Malformed => Opened {
+        None => Opened {
             len: 0,
             bytes: [0u8; 289],
         },
