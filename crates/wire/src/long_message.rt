@@ -114,10 +114,11 @@ fn ends_at(p: &[u8], at: usize, end: usize, noted: &mut [u8; 8972]) -> bool
     past_name(p, at, noted) == Some(end)
 }
 
-// Whether strings, each after its length byte, fill the data exactly.
+// Whether strings, each after its length byte, fill the data exactly, as `rdata::strings_fill`, which a second caller would make slower.
 fn strings_fill(d: &[u8]) -> bool
     ensures { result ≡ strings_fill 0 d.now }
 {
+    // by strides of a string each, so that no `for` fits
     let mut at = 0;
     loop {
         match crate::rdata::string_at(d, at) {
@@ -210,7 +211,11 @@ fn past_record(p: &[u8], at: usize, noted: &mut [u8; 8972]) -> Option<usize>
         rdlength,
         next: rdata + rdlength,
     };
-    if fits_noted(p, f, noted) { Some(f.next) } else { None }
+    if fits_noted(p, f, noted) {
+        Some(f.next)
+    } else {
+        None
+    }
 }
 
 // Past so many questions.

@@ -114,7 +114,7 @@ pub fn expand(p: &[u8], at: usize) -> Expanded
     }
 }
 
-// What is known, or where that is 0, as it is until something is known, what comes later.
+// What is known, or where that is 0, as it is until something is known, what comes later. A number, and no Option: the walkers hand it on in one register.
 pub(crate) fn or_later(known: usize, later: usize) -> usize
     ensures { result ≡ or_later known later }
 {
@@ -268,6 +268,7 @@ pub fn is_name(s: &[u8]) -> bool
     if MOST_NAME < s.len() {
         return false;
     }
+    // by strides of a label each, so that no `for` fits
     let mut at = 0;
     while at < s.len() {
         let n = s[at] as usize;

@@ -10,7 +10,7 @@ use crate::message::RecordAt;
 use crate::names::{Span, name_at};
 use crate::octets::be16;
 
-// The six types (RFC 1035, RFC 2782, RFC 3596, RFC 4034).
+// The six types (RFC 1035, RFC 2782, RFC 3596, RFC 4034). Numbers, and no enum: a record may have any of 65,536 types, and each is handed on.
 pub const A: u16 = 1;
 
 pub const PTR: u16 = 12;
@@ -23,7 +23,8 @@ pub const SRV: u16 = 33;
 
 pub const NSEC: u16 = 47;
 
-// The form of rdata: whether it holds a name, and how many bytes stand before it and behind it.
+// The form of rdata: whether it holds a name, and how many bytes stand before it and behind it, which are added without a test: no Option, they are 0 where no
+// name is.
 #[derive(Clone, Copy)]
 pub struct Form {
     pub named: bool,
@@ -39,7 +40,8 @@ pub struct StringAt {
     pub next: usize,
 }
 
-// What stands at a place of a TXT: a string, the end of the TXT, or a string that runs past it.
+// What stands at a place of a TXT: a string, the end of the TXT, or a string that runs past it. Each caller tells the three apart: an Option in a Result
+// would be two matches.
 #[derive(Clone, Copy)]
 pub enum StringRead {
     Found(StringAt),
@@ -73,7 +75,11 @@ pub fn address_in<'a>(d: &'a [u8], rtype: u16) -> &'a [u8]
     ensures bytes { result.now ≡ address_in rtype d.now }
     ensures start { result.ref_ptr ≡ d.entry.ref_ptr }
 {
-    if d.len() == address_bytes(rtype) { d } else { &d[..0] }
+    if d.len() == address_bytes(rtype) {
+        d
+    } else {
+        &d[..0]
+    }
 }
 
 // The string at a place of `d`, the rdata of a TXT.
@@ -99,6 +105,7 @@ pub fn string_at(d: &[u8], at: usize) -> StringRead
 pub fn strings_fill(d: &[u8]) -> bool
     ensures { result ≡ strings_fill 0 d.now }
 {
+    // by strides of a string each, so that no `for` fits
     let mut at = 0;
     loop {
         match string_at(d, at) {
@@ -132,7 +139,11 @@ pub fn name_in(p: &[u8], at: usize, d: &[u8], before: usize, behind: usize) -> O
         return None;
     }
     let span = name_at(p, at + before)?;
-    if span.end == at + (d.len() - behind) { Some(span) } else { None }
+    if span.end == at + (d.len() - behind) {
+        Some(span)
+    } else {
+        None
+    }
 }
 
 // The SRV in `d`, the part of `p` that starts at `at`: priority, weight, port and target.
