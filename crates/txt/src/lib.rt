@@ -3,12 +3,14 @@
 #![tactic(auto)]
 
 ghost use Rattle.std.specs.Prelude.{◌≡◌, true, ◌-◌, ◌≤◌, length, take, drop};
+ghost use Rattle.wire.specs.refusals.Numbers.{number_in};
 ghost use Rattle.wire.specs.rdata.Rdata.{strings_fill};
 ghost use Rattle.wire.specs.rdata.Answers.{start_in};
 ghost use Rattle.txt.specs.Txt.{key_of, has_key};
 ghost use Rattle.txt.specs.Lookup.{bad_byte, bad_key, refusal_of, given_by, in_txt, lookup_of, number_of, part_of, shown_of, holder, bytes_of, stands_from};
 
 use wire::rdata::{part, strings_fill};
+use wire::refusals::Refusal;
 
 // Which of the two TXTs.
 #[derive(Clone, Copy)]
@@ -56,18 +58,18 @@ fn bad_key(key: &[u8]) -> bool
     key.is_empty() || key.iter().any(|b| bad_byte(*b))
 }
 
-// The number of the refusal, 0 for none.
+// Whether a lookup is refused.
 #[tactic(auto, unfolding(crate::specs::Lookup::refusal_of))]
-fn refusal(key: &[u8], received: &[u8], factory: &[u8]) -> u8
-    ensures { result ≡ refusal_of key.now received.now factory.now }
+fn check(key: &[u8], received: &[u8], factory: &[u8]) -> Result<(), Refusal>
+    ensures { number_in result ≡ refusal_of key.now received.now factory.now }
 {
     if bad_key(key) {
-        return wire::refusals::KEY;
+        return Err(Refusal::Key);
     }
     if !strings_fill(received) || !strings_fill(factory) {
-        return wire::refusals::MALFORMED;
+        return Err(Refusal::Malformed);
     }
-    0
+    Ok(())
 }
 
 // The length of a string's key: the bytes before its first "=", or all of them.
@@ -126,9 +128,8 @@ pub fn answer_for<'k, 'a>(key: &'k [u8], received: &'a [u8], factory: &'a [u8]) 
     ensures answer { result ≡ lookup_of key.now received.now factory.now }
     ensures number { number_of result ≡ refusal_of key.now received.now factory.now }
 {
-    let number = refusal(key, received, factory);
-    if number != 0 {
-        return Answer::Refused(number);
+    if let Err(refusal) = check(key, received, factory) {
+        return Answer::Refused(refusal.number());
     }
     let answer = find(key, received, Buffer::Received);
     match answer {
