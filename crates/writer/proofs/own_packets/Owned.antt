@@ -58,9 +58,6 @@ module _ (bs : List ℕ) (r : OwnBytes) (e : r ≡ own_of bs) where
   pub own_long : r.len ≡ length (take r.len r.bytes)
   own_long = ap (λ (x : OwnBytes). x.len) e ∙ ap length (sym own_front)
 
-  pub own_fits : r.len ≤ length r.bytes
-  own_fits = omega (arith, own_long, length-take r.len r.bytes)
-
 -- what is fit and has room is put, so the packet ends behind it
 pub placed-grown : (fit fits : Bool) (v : Writing) (o pl : List ℕ) (placed : Result Spot Misfit) (o' pl' : List ℕ) → Placing fit fits v o pl placed o' pl'
     → fit ≡ true → fits ≡ true → (at count : ℕ) (r : Spot) → r ≡ spot_after placed at count → Grown v o pl r o' pl'
