@@ -6,7 +6,7 @@ use Prim.Native.Nat.{ℕ, ◌+◌, ◌-◌, ◌<◌, ◌≤◌}
 use native.Mathlib.Numerals.{add-one}
 use native.Mathlib.Omega.{arith}
 use borrow.Author.Tests.{le-leb, eq-eqb}
-use lib.ListN.{length, get_or, take, drop, replicate, length-take, take-append-drop, drop_of_length-le, get_or-map}
+use lib.ListN.{length, get_or, take, drop, replicate, take-append-drop, drop_of_length-le, get_or-map}
 use lib.Seq.{sets, take_at, drop_at, drop-cons, length-take-le, drop-drop}
 use Rattle.wire.specs.labels.Labels.{encode}
 use Rattle.wire.specs.names.Names.{is_name}
