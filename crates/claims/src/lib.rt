@@ -35,7 +35,7 @@ pub enum ClaimState {
     Lost,
 }
 
-// When a record was last multicast.
+// When a record was last multicast; a type of its own, as the definitions `last_of` and `each_last` name it.
 #[derive(Clone, Copy)]
 pub struct Multicast {
     pub last: Option<u64>,

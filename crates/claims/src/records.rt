@@ -13,7 +13,7 @@ pub enum Claim {
 }
 
 // The own records, in the specification's order; the last two say which types the names of the claims have (NSEC, RFC 6762, section 6.1).
-#[derive(Clone, Copy)]
+#[derive(Clone, Copy, PartialEq, Eq)]
 pub enum Own {
     Ptr,
     Srv,
@@ -252,10 +252,7 @@ pub fn no_record() -> Set
 pub fn only(o: Own) -> Set
     ensures { result ≡ only o }
 {
-    let i = index_of(o);
-    let mut flags = [false; RECORDS];
-    flags[i] = true;
-    set_of(flags)
+    Set::of(|p| p == o)
 }
 
 // Has a set any record?

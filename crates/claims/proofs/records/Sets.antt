@@ -1,15 +1,14 @@
 -- What a set has; and a test of every record, record by record. Assumes nothing.
 use Rattle.std.specs.Prelude.{Option}
 use Prim.Native.Nat.{ℕ, zero, suc, ◌<◌}
-use mathlib.Core.Path.{◌≡◌, refl, subst, ap, ◌∙◌}
+use mathlib.Core.Path.{◌≡◌, refl, subst}
 use mathlib.Core.List.{List, [], ◌∷◌}
-use mathlib.Core.Bool.{Bool, true, false}
+use mathlib.Core.Bool.{Bool, true}
 use native.Mathlib.Omega.{arith}
 use mathlib.Mathlib.Data.Bool.Basic.{and-eq-true-eq-eq-true-and-eq-true as both}
-use lib.ListN.{length, get_or, set, replicate}
-use lib.Dec.{eqb}
+use lib.ListN.{length, get_or, set}
 use Rattle.claims.specs.records.Own.{all, records, index_of, record_at, has, each}
-use Rattle.claims.specs.records.Sets.{every_of, only}
+use Rattle.claims.specs.records.Sets.{every_of}
 use Rattle.claims.specs.Time.{each_last, sent_of}
 use Rattle.claims.specs.declared.records.Own.{Own}
 use Rattle.claims.specs.declared.records.Set.{Set}
@@ -63,11 +62,3 @@ every-from test h = every_of_lem test all h
 pub every-at : (test : Own → Bool) (o : Own) → every_of test all ≡ true → test o ≡ true
 unfolding record_at
 every-at test o h = subst (λ (p : Own). test p ≡ true) (at-index o) (every_in test all (index_of o) Ptr (index_low o) h)
-
--- the flag of one record
-pub only-flag : (o : Own) (i : ℕ) → i ≡ index_of o → (r : Set) → r ≡ each (λ p. get_or (set (replicate records false) i true) (index_of p) false) → r ≡ only o
-unfolding only
-only-flag o i e r h =
-    h ∙ ap (λ (k : ℕ). each (λ p. get_or (set (replicate records false) k true) (index_of p) false)) e
-    ∙ by-record (λ p. each (λ q. get_or (set (replicate records false) (index_of p) true) (index_of q) false) ≡ each (λ q. eqb (index_of q) (index_of p)))
-    refl refl refl refl refl refl refl o

@@ -1,8 +1,10 @@
-use Rattle.claims.proofs.records.Sets.{index_low, only-flag}
+use Rattle.std.proofs.Common.{rules}
+use lib.Dec.{eqb}
+use Rattle.claims.specs.records.Own.{index_of}
+use Rattle.claims.specs.records.Sets.{only}
+use Rattle.claims.proofs.records.Sets.{same-each}
 use Rattle.claims.proofs.records.only.Goals as goal
 
-pub bounds-flags-i : goal.bounds-flags-i
-bounds-flags-i c = rw c.index_of-i.ensures (index_low c.args.o)
-
 pub returns : goal.returns
-returns c = only-flag _ _ c.index_of-i.ensures _ c.set_of.ensures
+unfolding only
+returns c = same-each (λ p. eqb (index_of p) (index_of c.args.o)) _ (λ p. let h = c.of.ensures p in search rules)
