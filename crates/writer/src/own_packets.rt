@@ -6,17 +6,19 @@ ghost use Rattle.claims.specs.records.Own.{records};
 ghost use Rattle.std.proofs.lemmas.List.Edits.{sets};
 ghost use Rattle.writer.specs.Items.{put_question, put_record};
 ghost use Rattle.wire.specs.message.Message.{Question};
+ghost use Rattle.wire.specs.refusals.Numbers.{refused_by};
 ghost use Rattle.writer.specs.Writer.{question_of, held_in, Grown};
 ghost use Rattle.writer.specs.own_packets.Packets.{put_all, header_bytes};
 ghost use Rattle.writer.specs.own_packets.Ready.{HeaderReady, spot_after, OwnReady, Picks, listed, ListReady, AskReady, PacketReady};
 ghost use Rattle.writer.specs.own_packets.Styles.{response_style, probe_style, plain_style, class_in, ttl_in, asked, own_record, packet_in};
 ghost use Rattle.writer.specs.own_packets.Own.{refusal_of, length_of, response_records, probe_records, response_packet, probe_packet, plain_packet};
-ghost use Rattle.writer.specs.own_packets.Own.{refusal, unless_refused, written_of, laid_over};
+ghost use Rattle.writer.specs.own_packets.Own.{write_tests, refusal, unless_refused, answer_to, laid_over};
 ghost use Rattle.writer.specs.own_packets.Goodbye.{goodbye_style, goodbye_packet};
 
 use crate::{Misfit, Spot};
 use claims::records::{Claim, Own, RECORDS, Set};
 use own::records::Setup;
+use wire::refusals::Refusal;
 
 // The least buffer that a packet is written into.
 pub const LEAST_OUT: usize = 1452;
@@ -57,12 +59,17 @@ pub struct Picked {
     pub n: usize,
 }
 
-// What became of a packet. A refusal carries the specification's number: 3 or 7.
-#[derive(Clone, Copy)]
-pub enum Written {
-    Sent(usize),
-    Nothing,
-    Refused(u8),
+// The tests of a call that writes a packet into a buffer of so many bytes.
+fn check_call(s: Setup, room: usize) -> Result<(), Refusal>
+    ensures { result ≡ refused_by (write_tests s room) }
+{
+    if room < LEAST_OUT {
+        return Err(Refusal::Buffer);
+    }
+    if !own::setups::check_setup(s) {
+        return Err(Refusal::Setup);
+    }
+    Ok(())
 }
 
 // "Responses have flags 0x8400", and of the own records all but PTR have class 0x8001. The ID is 0 to all, and the query's to one that wants unicast.
@@ -295,41 +302,31 @@ fn write_packet(s: Setup, style: Style, name: &[u8], list: Picked, out: &mut [u8
 }
 
 // Writes a response with this ID of the chosen ones of the own records that the set-up has: PTR, SRV, TXT, A, AAAA, and the two NSEC.
-pub fn respond(s: Setup, id: u16, chosen: Set, out: &mut [u8]) -> Written
-    ensures answer { result ≡ written_of (refusal s out.old) (response_packet s id chosen) }
+pub fn respond(s: Setup, id: u16, chosen: Set, out: &mut [u8]) -> Result<Option<usize>, Refusal>
+    ensures answer { result ≡ answer_to s out.old (response_packet s id chosen) }
     ensures out { out.new ≡ laid_over (unless_refused (refusal s out.old) (response_packet s id chosen)) out.old }
     ensures number { refusal_of result ≡ refusal s out.old }
     ensures sent { length_of result ≡ length (unless_refused (refusal s out.old) (response_packet s id chosen)) }
 {
-    if out.len() < LEAST_OUT {
-        return Written::Refused(wire::refusals::BUFFER);
-    }
-    if !own::setups::check_setup(s) {
-        return Written::Refused(wire::refusals::SETUP);
-    }
+    check_call(s, out.len())?;
     let list = pick(s, chosen);
     if list.n == 0 {
-        return Written::Nothing;
+        return Ok(None);
     }
-    Written::Sent(write_packet(s, response_style(id), b"", list, out))
+    Ok(Some(write_packet(s, response_style(id), b"", list, out)))
 }
 
 // Writes a claim's probe.
-pub fn probe(s: Setup, claim: Claim, out: &mut [u8]) -> Written
-    ensures answer { result ≡ written_of (refusal s out.old) (probe_packet s claim) }
+pub fn probe(s: Setup, claim: Claim, out: &mut [u8]) -> Result<Option<usize>, Refusal>
+    ensures answer { result ≡ answer_to s out.old (probe_packet s claim) }
     ensures out { out.new ≡ laid_over (unless_refused (refusal s out.old) (probe_packet s claim)) out.old }
     ensures number { refusal_of result ≡ refusal s out.old }
     ensures sent { length_of result ≡ length (unless_refused (refusal s out.old) (probe_packet s claim)) }
 {
-    if out.len() < LEAST_OUT {
-        return Written::Refused(wire::refusals::BUFFER);
-    }
-    if !own::setups::check_setup(s) {
-        return Written::Refused(wire::refusals::SETUP);
-    }
+    check_call(s, out.len())?;
     let list = pick_claim(s, claim);
     let owner = own::records::own_name(s, claims::records::first_of(claim));
-    Written::Sent(write_packet(s, probe_style(), &owner.bytes[..owner.len], list, out))
+    Ok(Some(write_packet(s, probe_style(), &owner.bytes[..owner.len], list, out)))
 }
 
 // Writes a reply to the question of a plain resolver, with the ID of its query: the chosen ones of the own records that carry data and that the set-up has.
@@ -341,30 +338,25 @@ pub fn plain_reply(
     qtype: u16,
     qclass: u16,
     out: &mut [u8],
-) -> Written
+) -> Result<Option<usize>, Refusal>
     ensures answer { (let q : Question = question_of name.now qtype qclass in
-        result ≡ written_of (refusal s out.old) (plain_packet s chosen id q)) }
+        result ≡ answer_to s out.old (plain_packet s chosen id q)) }
     ensures out { (let q : Question = question_of name.now qtype qclass in
         out.new ≡ laid_over (unless_refused (refusal s out.old) (plain_packet s chosen id q)) out.old) }
     ensures number { refusal_of result ≡ refusal s out.old }
     ensures sent { (let q : Question = question_of name.now qtype qclass in
         length_of result ≡ length (unless_refused (refusal s out.old) (plain_packet s chosen id q))) }
 {
-    if out.len() < LEAST_OUT {
-        return Written::Refused(wire::refusals::BUFFER);
-    }
-    if !own::setups::check_setup(s) {
-        return Written::Refused(wire::refusals::SETUP);
-    }
+    check_call(s, out.len())?;
     if !wire::names::is_name(name) {
-        return Written::Nothing;
+        return Ok(None);
     }
     let records = pick(s, claims::records::with_data(chosen));
     if records.n == 0 {
-        return Written::Nothing;
+        return Ok(None);
     }
     let style = plain_style(id, qtype, qclass);
-    Written::Sent(write_packet(s, style, name, records, out))
+    Ok(Some(write_packet(s, style, name, records, out)))
 }
 
 // A goodbye is a response whose records have TTL 0.
@@ -385,21 +377,16 @@ fn goodbye_style() -> Style
 }
 
 // Writes a goodbye to the chosen ones of the own records that the set-up has.
-pub fn goodbye(s: Setup, chosen: Set, out: &mut [u8]) -> Written
-    ensures answer { result ≡ written_of (refusal s out.old) (goodbye_packet s chosen) }
+pub fn goodbye(s: Setup, chosen: Set, out: &mut [u8]) -> Result<Option<usize>, Refusal>
+    ensures answer { result ≡ answer_to s out.old (goodbye_packet s chosen) }
     ensures out { out.new ≡ laid_over (unless_refused (refusal s out.old) (goodbye_packet s chosen)) out.old }
     ensures number { refusal_of result ≡ refusal s out.old }
     ensures sent { length_of result ≡ length (unless_refused (refusal s out.old) (goodbye_packet s chosen)) }
 {
-    if out.len() < LEAST_OUT {
-        return Written::Refused(wire::refusals::BUFFER);
-    }
-    if !own::setups::check_setup(s) {
-        return Written::Refused(wire::refusals::SETUP);
-    }
+    check_call(s, out.len())?;
     let parting = pick(s, chosen);
     if parting.n == 0 {
-        return Written::Nothing;
+        return Ok(None);
     }
-    Written::Sent(write_packet(s, goodbye_style(), b"", parting, out))
+    Ok(Some(write_packet(s, goodbye_style(), b"", parting, out)))
 }
