@@ -9,7 +9,7 @@ ghost use Rattle.trace.specs.writing.Bytes.{headed, piece_of, pieces_for, source
 ghost use Rattle.trace.specs.writing.Sizes.{source_size, packet_size, claim_size, size_for};
 ghost use Rattle.trace.specs.writing.Writing.{written_to, out_after};
 
-use crate::reading::{Event, in_piece, is_usual};
+use crate::reading::{Event, is_usual};
 use crate::records::{
     CLAIM_SIZE, PACKET_SIZE, PIECE_BYTES, PIECE_SIZE, PORT_SIZE, SOURCE_SIZE, STOP_SIZE, TICK_SIZE,
     TXT_SIZE,
@@ -240,12 +240,9 @@ fn put_pieces(out: &mut [u8], first: usize, bytes: &[u8])
     ensures { out.new ≡ sets out.old first (pieces_for bytes.now) }
 {
     let mut at = first;
-    let mut from = 0;
-    while from < bytes.len() {
-        let end = from + in_piece(bytes.len() - from);
-        put_piece(out, at, &bytes[from..end]);
+    for piece in bytes.chunks(PIECE_BYTES) {
+        put_piece(out, at, piece);
         at += PIECE_SIZE;
-        from = end;
     }
 }
 
