@@ -2,12 +2,13 @@
 use mathlib.Core.Path.{◌≡◌, refl, sym, ap, ◌∙◌}
 use mathlib.Core.Bool.{Bool, true, false}
 use mathlib.Core.List.{List, ◌++◌}
-use Prim.Native.Nat.{ℕ, ◌≤◌}
+use Prim.Native.Nat.{ℕ, ◌≤◌, min}
 use native.Mathlib.Omega.{arith}
 use lib.Dec.{ltb}
 use lib.ListN.{length, take, drop, drop_of_length-le}
 use lib.Seq.{take_all}
 use borrow.Author.Tests.{ltb-false}
+use Rattle.std.proofs.lemmas.Bool.Decides.{nat_tests}
 use Rattle.cache.specs.entries.Cache.{Cache, take_in}
 use Rattle.cache.specs.Answers.{taken_of}
 use Rattle.cache.specs.lookup.Answers.{looked_of}
@@ -19,6 +20,9 @@ use Rattle.console_table.specs.Table.{least, first_taken, lent_entries, lent_byt
 use Rattle.console_table.specs.declared.Table.{Table}
 use Rattle.console_table.specs.declared.FirstTaken.{FirstTaken}
 use Rattle.console_table.specs.declared.AfterTake.{AfterTake}
+
+pub min_least : (a b : ℕ) → min a b ≡ least a b
+min_least a b = grind (arith, nat_tests)
 
 -- the first k of a list, and the others, where k may be more than there are
 module _ {X : Type 0} (k n : ℕ) (l : List X) (len : length l ≡ n) where

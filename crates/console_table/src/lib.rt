@@ -41,17 +41,7 @@ pub struct AfterTake {
 pub fn least(a: usize, b: usize) -> usize
     ensures { (result ≡ least a b) × ((result ≤ a) × (result ≤ b)) }
 {
-    if a < b {
-        return a;
-    }
-    b
-}
-
-// The answer with the entries.
-fn with_numbers(numbers: TakenNumbers, entries: [Entry; 513]) -> FirstTaken
-    ensures { result ≡ record { numbers = numbers; entries = entries } }
-{
-    FirstTaken { numbers, entries }
+    a.min(b)
 }
 
 // Takes a message into the first `n` entries and all bytes of a store.
@@ -68,9 +58,9 @@ fn take_first(
         let p : List ℕ = message.now in
         (result ≡ first_taken time n es s port p) × (store.new ≡ (take_in time (take n es) s port p).store)) }
 {
-    let mut table = es;
-    let numbers = capi_cache::kurgashel_cache_take(&mut table[..n], store, time, port, message);
-    with_numbers(numbers, table)
+    let mut entries = es;
+    let numbers = capi_cache::kurgashel_cache_take(&mut entries[..n], store, time, port, message);
+    FirstTaken { numbers, entries }
 }
 
 // Looks a name and a type up in the first `n` entries, from a slot on.
@@ -107,10 +97,8 @@ fn unused() -> Entry
 pub fn zeros(count: usize, room: usize) -> Table
     ensures { result ≡ zeros count room }
 {
-    let e = unused();
-    let entries = [e; 513];
     Table {
-        entries,
+        entries: [unused(); 513],
         count,
         room,
     }
@@ -120,25 +108,7 @@ pub fn zeros(count: usize, room: usize) -> Table
 pub fn entry_at(table: Table, i: usize) -> Entry
     ensures { result ≡ get_or table.entries i blank }
 {
-    let entries = table.entries;
-    if i < MOST_ENTRIES {
-        return entries[i];
-    }
-    unused()
-}
-
-// The answer with the table: its sizes stay.
-fn with_table(first: FirstTaken, count: usize, room: usize) -> AfterTake
-    ensures { result ≡ record { numbers = first.numbers; table = record { entries = first.entries; count = count; room = room } } }
-{
-    let numbers = first.numbers;
-    let entries = first.entries;
-    let table = Table {
-        entries,
-        count,
-        room,
-    };
-    AfterTake { numbers, table }
+    table.entries.get(i).copied().unwrap_or(unused())
 }
 
 // Takes a message into a table and its store. What is not lent stays.
@@ -152,13 +122,20 @@ pub fn take_message(
     ensures table { result ≡ taken_into time table store.old port message.now }
     ensures store { store.new ≡ store_after time table store.old port message.now }
 {
-    let count = table.count;
-    let room = table.room;
-    let n = least(count, MOST_ENTRIES);
-    let m = least(room, store.len());
-    let entries = table.entries;
-    let first = take_first(entries, n, &mut store[..m], time, port, message);
-    with_table(first, count, room)
+    let n = table.count.min(MOST_ENTRIES);
+    let m = table.room.min(store.len());
+    let FirstTaken { numbers, entries } = take_first(
+        table.entries,
+        n,
+        &mut store[..m],
+        time,
+        port,
+        message,
+    );
+    AfterTake {
+        numbers,
+        table: Table { entries, ..table },
+    }
 }
 
 // Looks a name and a type up in a table and its store, from a slot on.
@@ -173,8 +150,7 @@ pub fn look_up(
     ensures { (let bytes : List ℕ = lent_bytes table store.now in
         result ≡ looked_numbers (looked_of time (lent_entries table) bytes name.now rtype from)) }
 {
-    let n = least(table.count, MOST_ENTRIES);
-    let m = least(table.room, store.len());
-    let entries = table.entries;
-    look_first(entries, n, &store[..m], time, name, rtype, from)
+    let n = table.count.min(MOST_ENTRIES);
+    let lent = &store[..table.room.min(store.len())];
+    look_first(table.entries, n, lent, time, name, rtype, from)
 }

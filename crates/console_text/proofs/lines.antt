@@ -1,4 +1,3 @@
--- Laws that belong to no one function; Ranges is for callers too.
-pub mod Ranges
+-- Laws that belong to no one function.
 mod Split
 mod Digits

@@ -7,12 +7,5 @@ pub fn find(s: &[u8], b: u8) -> usize
     ensures place { result ≡ index_of b s.now }
     ensures within { result ≤ length s.now }
 {
-    let mut i = 0;
-    while i < s.len() {
-        if s[i] == b {
-            return i;
-        }
-        i += 1;
-    }
-    i
+    s.iter().position(|x| *x == b).unwrap_or(s.len())
 }

@@ -1,24 +1,19 @@
 -- What is shown reads back: the text of bytes is a field of bytes, and gives the same bytes. Assumes nothing.
-use mathlib.Core.Path.{◌≡◌, refl, sym, ap, ◌∙◌}
+use mathlib.Core.Path.{◌≡◌, refl, ap, ◌∙◌}
 use mathlib.Core.List.{List, [], ◌∷◌}
-use mathlib.Core.Bool.{Bool, true, false, cond}
-use Prim.Native.Nat.{ℕ, suc, ◌+◌, ◌-◌, ◌*◌, ◌/◌, ◌%◌, ◌<◌, ◌≤◌}
+use mathlib.Core.Bool.{true}
+use Prim.Native.Nat.{ℕ, suc, ◌+◌, ◌*◌, ◌/◌, ◌%◌, ◌<◌}
 use native.Mathlib.Omega.{arith}
 use lib.ListN.{length, get_or}
-use lib.Dec.{ltb}
-use borrow.Author.Tests.{lt-ltb, ltb-true, ltb-false, ne_eqb}
+use Rattle.std.proofs.lemmas.Bool.Decides.{nat_tests}
+use borrow.Author.Tests.{lt-ltb, ne_eqb}
 use Rattle.console_text.specs.hex.Bytes.{hex_value, is_hex, byte_of, bytes_of, all_pairs, is_bytes, glyph, digits_of, text_of}
-use Rattle.console_text.proofs.hex.Hex.{hex_decimal, hex_small}
 use Rattle.console_text.proofs.hex.Pairs.{bytes_more}
 
 -- the value of a digit that is shown
 value_back : (d : ℕ) → d < 16 → hex_value (glyph d) ≡ d
-unfolding glyph
-value_back d h = go (ltb d 10) refl
-  where
-    go : (t : Bool) → ltb d 10 ≡ t → hex_value (cond t (48 + d) (87 + d)) ≡ d
-    go true e = let k : d < 10 = ltb-true d 10 e in sym (hex_decimal (48 + d) (omega arith) (omega arith)) ∙ (let z : 48 + d - 48 ≡ d = omega arith in z)
-    go false e = let k : 10 ≤ d = ltb-false d 10 e in sym (hex_small (87 + d) (omega arith) (omega arith)) ∙ (let z : 87 + d - 97 + 10 ≡ d = omega arith in z)
+unfolding hex_value glyph
+value_back d h = grind (arith, nat_tests)
 
 digit_back : (d : ℕ) → d < 16 → is_hex (glyph d) ≡ true
 digit_back d h = rw (value_back d h) (lt-ltb d 16 h)

@@ -1,72 +1,57 @@
 -- The bytes of a field, written one by one. Assumes nothing.
-use mathlib.Core.Path.{◌≡◌, refl, sym, ap, ◌∙◌}
-use mathlib.Core.List.{List, [], ◌∷◌}
-use Prim.Native.Nat.{ℕ, suc, ◌+◌, ◌-◌, ◌*◌, ◌%◌, ◌≤◌, ◌<◌}
-use native.Mathlib.Omega.{arith}
+use Rattle.std.proofs.Common.{◌≡◌, ◌∙◌, ℕ, zero, suc, ◌+◌, ◌*◌, ◌/◌, ◌%◌, ◌<◌, ◌≤◌, List, [], ◌∷◌, length, get_or, take, drop, set, refl, sym, ap, arith, min, ⊎_elim}
+use Rattle.std.proofs.lemmas.Bool.{cases_lt}
 use native.Mathlib.Nat.{zero-add}
-use native.Mathlib.Numerals.{add-one}
-use lib.ListN.{length, get_or, take, drop, set, length-drop}
-use lib.Seq.{drop-cons, sets, take_all}
-use Rattle.wire.proofs.octets.Sets.{sets_more}
+use lib.ListN.{take-append-drop, length-take}
+use lib.Seq.{sets, length-sets, take_all}
+use Rattle.wire.proofs.octets.Sets.{sets_more, sets-append}
 use Rattle.console_text.specs.hex.Bytes.{hex_value, byte_of, bytes_of}
-use Rattle.console_text.proofs.hex.Pairs.{two}
 
--- what a list shows from an offset on
-pub record Shows (l : List ℕ) (n x : ℕ) (rest : List ℕ) : Type 0 where
-  within : n < length l
-  here : get_or l n 0 ≡ x
-  after : drop (n + 1) l ≡ rest
-
-shows : (l : List ℕ) (n x : ℕ) (rest : List ℕ) → drop n l ≡ x ∷ rest → Shows l n x rest
-shows l n x rest e =
-    let h : n < length l = omega (arith, length-drop n l, ap length e) in
-    let k : get_or l n 0 ∷ drop (suc n) l ≡ x ∷ rest = sym (drop-cons l n 0 h) ∙ e in
-    record { within = h; here = cc; after = rw (add-one n) (cc) }
-
-short : (l : List ℕ) → length l ≤ 1 → bytes_of l ≡ []
+pub bytes_length : (s : List ℕ) → length s / 2 ≡ length (bytes_of s)
 unfolding bytes_of
-short [] h = refl
-short (a ∷ []) h = refl
-short (a ∷ (b ∷ bs)) h = absurd (omega arith)
+bytes_length [] = refl
+bytes_length (a ∷ []) = refl
+bytes_length (a ∷ (b ∷ bs)) = omega (arith, bytes_length bs)
 
-pub joined : (a b x y : ℕ) → x ≡ hex_value a → y ≡ hex_value b → x % 16 * 16 + y % 16 ≡ byte_of a b
+bytes_at : (s : List ℕ) (i : ℕ) → 2 * i + 1 < length s → get_or (bytes_of s) i 0 ≡ byte_of (get_or s (2 * i) 0) (get_or s (2 * i + 1) 0)
+unfolding bytes_of
+bytes_at [] i h = absurd (omega arith)
+bytes_at (a ∷ []) i h = absurd (omega arith)
+bytes_at (a ∷ (b ∷ bs)) zero h = refl
+bytes_at (a ∷ (b ∷ bs)) (suc i) h =
+    let first : 2 * suc i ≡ suc (suc (2 * i)) = omega arith in
+    let second : 2 * suc i + 1 ≡ suc (suc (2 * i + 1)) = omega arith in
+    rw (second, first) (bytes_at bs i (omega arith))
+
+pub joined : (a b x y : ℕ) → x ≡ hex_value a % 16 → y ≡ hex_value b % 16 → x * 16 + y ≡ byte_of a b
 joined a b x y ex ey = rw (ex, ey)
 
--- `n` bytes stand in the buffer, and the others are those of the digits from `at` on
-pub record Upto (s out₀ out : List ℕ) (at n : ℕ) : Type 0 where
-  pub within : at ≤ length s
-  pub few : n ≤ at
-  pub count : n ≤ length (bytes_of s)
-  pub rest : drop n (bytes_of s) ≡ bytes_of (drop at s)
-  pub bytes : out ≡ sets out₀ 0 (take n (bytes_of s))
+-- the first `i` bytes stand in the buffer
+pub one_more : (s before out : List ℕ) (i : ℕ) → 2 * i + 1 < length s → {x : ℕ} → x ≡ byte_of (get_or s (2 * i) 0) (get_or s (2 * i + 1) 0)
+    → out ≡ sets before 0 (take i (bytes_of s)) → set out i x ≡ sets before 0 (take (i + 1) (bytes_of s))
+one_more s before out i h {x} e w =
+    let k : i < length (bytes_of s) = omega (arith, bytes_length s) in
+    rw (w, e, ← bytes_at s i h) (rw zero-add at (sets_more before 0 (bytes_of s) i k))
 
-pub begins : (s out : List ℕ) → Upto s out out 0 0
-begins s out = record { within = omega arith; few = omega arith; count = omega arith; rest = refl; bytes = refl }
+-- stores past the end of a list change nothing
+set_past : (l : List ℕ) (i v : ℕ) → length l ≤ i → set l i v ≡ l
+set_past [] i v h = refl
+set_past (x ∷ l) zero v h = absurd (omega arith)
+set_past (x ∷ l) (suc i) v h = ap (λ (r : List ℕ). x ∷ r) (set_past l i v (omega arith))
 
-module _ (s out₀ out : List ℕ) (at n : ℕ) (inv : Upto s out₀ out at n) where
-  turn : at + 1 < length s → Shows (bytes_of s) n (byte_of (get_or s at 0) (get_or s (at + 1) 0)) (bytes_of (drop (at + 2) s))
-  unfolding bytes_of
-  turn h = shows (bytes_of s) n (byte_of (get_or s at 0) (get_or s (at + 1) 0)) (bytes_of (drop (at + 2) s)) (inv.rest ∙ rw (two s at h))
+sets-past : (l : List ℕ) (i : ℕ) (vs : List ℕ) → length l ≤ i → sets l i vs ≡ l
+sets-past l i [] h = refl
+sets-past l i (v ∷ vs) h = ap (λ (r : List ℕ). sets r (suc i) vs) (set_past l i v h) ∙ sets-past l (suc i) vs (omega arith)
 
-  pub one_more : (x : ℕ) (out' : List ℕ) → at + 1 < length s → x ≡ byte_of (get_or s at 0) (get_or s (at + 1) 0) → out' ≡ set out n x
-      → Upto s out₀ out' (at + 2) (n + 1)
-  one_more x out' h e w =
-      let t = turn h in
-      record {
-        within = omega arith;
-        few = omega (arith, inv.few);
-        count = omega (arith, t.within);
-        rest = t.after;
-        bytes = w ∙ rw (inv.bytes, e, ← t.here) (rw zero-add at (sets_more out₀ 0 (bytes_of s) n t.within));
-      }
+-- of bytes that have no room, the first fill the buffer
+pub sets-full : (l bs : List ℕ) (n : ℕ) → length l ≤ n → n ≤ length bs → sets l 0 (take n bs) ≡ sets l 0 bs
+sets-full l bs n h k =
+    sym (ap (sets l 0) (sym (take-append-drop n bs)) ∙ sym (sets-append l 0 (take n bs) (drop n bs))
+    ∙ sets-past (sets l 0 (take n bs)) (0 + length (take n bs)) (drop n bs) (simp (length-sets, length-take) (omega arith)))
 
-  pub all-count : length s - at ≤ 1 → n ≡ length (bytes_of s)
-  all-count h =
-      let k : length (drop at s) ≤ 1 = omega (arith, length-drop at s) in
-      let e : drop n (bytes_of s) ≡ [] = inv.rest ∙ short (drop at s) k in
-      omega (arith, length-drop n (bytes_of s), ap length e, inv.count)
-
-  pub all-bytes : length s - at ≤ 1 → out ≡ sets out₀ 0 (bytes_of s)
-  all-bytes h =
-      let k : length (bytes_of s) ≤ n = omega (arith, all-count h) in
-      inv.bytes ∙ ap (sets out₀ 0) (take_all n (bytes_of s) k)
+pub all_written : (s before : List ℕ) (i : ℕ) → i ≡ min (length s / 2) (length before) → sets before 0 (take i (bytes_of s)) ≡ sets before 0 (bytes_of s)
+all_written s before i e =
+    ⊎_elim
+    (λ (h : i < length s / 2). sets-full before (bytes_of s) i (omega arith) (omega (arith, bytes_length s)))
+    (λ (h : length s / 2 ≤ i). ap (sets before 0) (take_all i (bytes_of s) (omega (arith, bytes_length s))))
+    (cases_lt i (length s / 2))

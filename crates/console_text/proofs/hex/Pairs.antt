@@ -1,30 +1,10 @@
 -- Bytes, two digits at a time. Assumes nothing.
-use mathlib.Core.Path.{◌≡◌, refl, sym, ap, ◌∙◌}
-use mathlib.Core.List.{List, [], ◌∷◌}
-use mathlib.Core.Bool.{Bool, true, false, ◌&&◌, ◌||◌}
-use Prim.Native.Nat.{ℕ, suc, ◌+◌, ◌-◌, ◌≤◌, ◌<◌}
-use native.Mathlib.Omega.{arith}
-use native.Mathlib.Numerals.{add-one}
-use lib.ListN.{length, get_or, drop, drop_of_length-le}
-use lib.Seq.{drop-cons}
-use lib.Dec.{ltb, eqb}
-use borrow.Author.Tests.{lt-ltb, le-ltb, ne_eqb}
-use Rattle.console_text.specs.hex.Bytes.{hex_value, is_hex, all_pairs, is_bytes}
-
--- the list from an offset on, where two more elements stand there
-pub two : (l : List ℕ) (at : ℕ) → at + 1 < length l → drop at l ≡ get_or l at 0 ∷ (get_or l (at + 1) 0 ∷ drop (at + 2) l)
-two l at h =
-    let k : at < length l = omega arith in
-    let j : suc at < length l = omega arith in
-    let e : at + 2 ≡ suc (suc at) = omega arith in
-    drop-cons l at 0 k ∙ rw (e, add-one at) (ap (λ (x : List ℕ). get_or l at 0 ∷ x) (drop-cons l (suc at) 0 j))
-
--- the list from its last element on
-pub one : (l : List ℕ) (at : ℕ) → length l - at ≡ 1 → drop at l ≡ get_or l at 0 ∷ []
-one l at e =
-    let k : at < length l = omega arith in
-    let j : length l ≤ suc at = omega arith in
-    drop-cons l at 0 k ∙ ap (λ (x : List ℕ). get_or l at 0 ∷ x) (drop_of_length-le l j)
+use Rattle.std.proofs.Common.{◌≡◌, ◌∙◌, ℕ, suc, ◌%◌, ◌<◌, List, [], ◌∷◌, Bool, true, false, ◌&&◌, ◌||◌, length, get_or, eqb, refl, ap, arith, lt-ltb}
+use borrow.Author.Tests.{ne_eqb}
+use Rattle.std.specs.Char.{is_ascii_hexdigit}
+use Rattle.std.specs.List.{list_all}
+use Rattle.console_text.specs.hex.Bytes.{is_hex, all_pairs, is_bytes}
+use Rattle.console_text.proofs.hex.Hex.{hex_told}
 
 -- whether a field is bytes, by its length
 pub bytes_none : (l : List ℕ) → length l ≡ 0 → false ≡ is_bytes l
@@ -45,30 +25,19 @@ pub bytes_more : (l : List ℕ) → (length l ≡ 0 → ⊥) → (length l ≡ 1
 unfolding is_bytes
 bytes_more l n m = let h : 0 < length l = omega arith in simp (ne_eqb (length l) 1 m, lt-ltb 0 (length l) h)
 
-module _ (l : List ℕ) (at : ℕ) (inv : is_bytes l ≡ all_pairs (drop at l)) where
-  pub pairs_end : length l ≤ at → true ≡ is_bytes l
-  unfolding all_pairs
-  pairs_end h = sym (inv ∙ rw (drop_of_length-le l h))
-
-  pub pairs_odd : length l - at ≡ 1 → false ≡ is_bytes l
-  unfolding all_pairs
-  pairs_odd e = sym (inv ∙ rw (one l at e))
-
-  module _ (h : at + 1 < length l) where
-    pairs_step : is_bytes l ≡ (is_hex (get_or l at 0) && (is_hex (get_or l (at + 1) 0) && all_pairs (drop (at + 2) l)))
-    unfolding all_pairs
-    pairs_step = inv ∙ rw (two l at h)
-
-    module _ (x : ℕ) (ex : x ≡ hex_value (get_or l at 0)) where
-      pub pairs_first : 16 ≤ x → false ≡ is_bytes l
-      pairs_first k = let t : ltb (hex_value (get_or l at 0)) 16 ≡ false = rw (← ex) (le-ltb x 16 k) in sym (pairs_step ∙ simp t)
-
-      module _ (y : ℕ) (ey : y ≡ hex_value (get_or l (at + 1) 0)) (k : x < 16) where
-        good : ltb (hex_value (get_or l at 0)) 16 ≡ true
-        good = rw (← ex) (lt-ltb x 16 k)
-
-        pub pairs_second : 16 ≤ y → false ≡ is_bytes l
-        pairs_second j = let t : ltb (hex_value (get_or l (at + 1) 0)) 16 ≡ false = rw (← ey) (le-ltb y 16 j) in sym (pairs_step ∙ simp (good, t))
-
-        pub pairs_both : y < 16 → is_bytes l ≡ all_pairs (drop (at + 2) l)
-        pairs_both j = let t : ltb (hex_value (get_or l (at + 1) 0)) 16 ≡ true = rw (← ey) (lt-ltb y 16 j) in pairs_step ∙ simp (good, t)
+-- pairs of digits are digits, an even number of them
+pub pairs_told : (l : List ℕ) → (eqb (length l % 2) 0 && list_all is_ascii_hexdigit l) ≡ all_pairs l
+unfolding all_pairs
+pairs_told [] = refl
+pairs_told (a ∷ []) = refl
+pairs_told (a ∷ (b ∷ bs)) =
+    let e : suc (suc (length bs)) % 2 ≡ length bs % 2 = omega arith in
+    rw (e, hex_told a, hex_told b) (moved (is_hex a) (is_hex b) (eqb (length bs % 2) 0) (list_all is_ascii_hexdigit bs))
+    ∙ ap (λ (t : Bool). is_hex a && (is_hex b && t)) (pairs_told bs)
+  where
+    moved : (x y u v : Bool) → (u && (x && (y && v))) ≡ (x && (y && (u && v)))
+    moved true true u v = refl
+    moved true false true v = refl
+    moved true false false v = refl
+    moved false y true v = refl
+    moved false y false v = refl

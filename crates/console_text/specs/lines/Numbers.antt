@@ -1,7 +1,5 @@
 -- A number is one or more decimal digits, leading zeros allowed, 0..2^64-1. Assumes nothing: these are definitions.
-use Rattle.std.specs.Prelude.{ℕ, ◌+◌, ◌-◌, ◌*◌, List, [], ◌∷◌, Bool, true, cond, ◌&&◌, length, ltb, leb}
-use Rattle.console_text.specs.declared.lines.Decimal.{Decimal}
-use Rattle.console_text.specs.declared.lines.Decimal.TheVariants.{Value, Malformed}
+use Rattle.std.specs.Prelude.{ℕ, ◌+◌, ◌-◌, ◌*◌, List, [], ◌∷◌, Bool, true, cond, ◌&&◌, Option, Some, None, length, ltb, leb}
 
 -- '0' to '9'
 abbrev pub is_digit : ℕ → Bool
@@ -17,8 +15,8 @@ value_from v [] = v
 value_from v (b ∷ bs) = value_from (v * 10 + (b - 48)) bs
 
 -- digits alone, with a value below 2^64
-unfoldable pub number_from : ℕ → List ℕ → Decimal
-number_from v bs = cond (all_digits bs && ltb (value_from v bs) 18446744073709551616) (Value (value_from v bs)) Malformed
+unfoldable pub number_from : ℕ → List ℕ → Option ℕ
+number_from v bs = cond (all_digits bs && ltb (value_from v bs) 18446744073709551616) (Some (value_from v bs)) None
 
-unfoldable pub number_of : List ℕ → Decimal
-number_of bs = cond (ltb 0 (length bs)) (number_from 0 bs) Malformed
+unfoldable pub number_of : List ℕ → Option ℕ
+number_of bs = cond (ltb 0 (length bs)) (number_from 0 bs) None

@@ -1,8 +1,13 @@
-use Rattle.console_text.proofs.fields.Read.{is-number_told}
+use Rattle.std.proofs.Common.{◌≡◌, ◌∙◌, ℕ, Option, Some, None, refl, ap}
+use Rattle.std.specs.Option.{is_some}
+use Rattle.console_text.specs.lines.Numbers.{number_of}
+use Rattle.console_text.specs.fields.Numbers.{is_value, is_number_at}
 use Rattle.console_text.proofs.fields.is_number.Goals as goal
 
-pub returns-in-Value : goal.returns-in-Value
-returns-in-Value c = is-number_told _ _ _ _ _ c.field.ensures c.number.ensures c.in-Value.is
+told : (o : Option ℕ) → is_some o ≡ is_value o
+told None = refl
+told (Some n) = refl
 
-pub returns-in-Malformed : goal.returns-in-Malformed
-returns-in-Malformed c = is-number_told _ _ _ _ _ c.field.ensures c.number.ensures c.in-Malformed.is
+pub returns : goal.returns
+unfolding is_number_at
+returns c = c.is_some.ensures ∙ told c.number.result ∙ ap is_value (c.number.ensures ∙ ap number_of c.field.ensures)

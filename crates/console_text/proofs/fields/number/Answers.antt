@@ -1,8 +1,13 @@
-use Rattle.console_text.proofs.fields.Read.{number-told}
+use Rattle.std.proofs.Common.{◌≡◌, ◌∙◌, ℕ, Option, Some, None, refl, ap}
+use Rattle.std.specs.Option.{unwrap_or}
+use Rattle.console_text.specs.lines.Numbers.{number_of}
+use Rattle.console_text.specs.fields.Numbers.{value_of, number_at}
 use Rattle.console_text.proofs.fields.number.Goals as goal
 
-pub returns-in-Value : goal.returns-in-Value
-returns-in-Value c = number-told _ _ _ _ _ c.field.ensures c.number.ensures c.in-Value.is
+told : (o : Option ℕ) → unwrap_or o 0 ≡ value_of o
+told None = refl
+told (Some n) = refl
 
-pub returns-in-Malformed : goal.returns-in-Malformed
-returns-in-Malformed c = number-told _ _ _ _ _ c.field.ensures c.number.ensures c.in-Malformed.is
+pub returns : goal.returns
+unfolding number_at
+returns c = c.unwrap_or.ensures ∙ told c.number.result ∙ ap value_of (c.number.ensures ∙ ap number_of c.field.ensures)

@@ -1,4 +1,4 @@
-use borrow.Author.Tests.{lt-ltb, le-ltb}
+use Rattle.std.proofs.Common.{lt-ltb, le-ltb}
 use Rattle.console_text.specs.hex.Bytes.{glyph}
 use Rattle.console_text.proofs.hex.digit.Goals as goal
 
@@ -6,6 +6,6 @@ pub returns-then-d-lt10 : goal.returns-then-d-lt10
 unfolding glyph
 returns-then-d-lt10 c = simp (lt-ltb _ _ c.if-d-lt10.true)
 
-pub returns : goal.returns
+pub returns-else-d-lt10 : goal.returns-else-d-lt10
 unfolding glyph
-returns c = simp (le-ltb _ _ c.if-d-lt10.false)
+returns-else-d-lt10 c = simp (le-ltb _ _ c.if-d-lt10.false)

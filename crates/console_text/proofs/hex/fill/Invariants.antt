@@ -1,10 +1,7 @@
-use Prim.Native.Nat.{◌-◌}
-use lib.ListN.{length}
-use Rattle.console_text.proofs.hex.Filled.{Upto}
+use Rattle.std.proofs.Common.{◌≡◌, take}
+use lib.Seq.{sets}
+use Rattle.console_text.specs.hex.Bytes.{bytes_of}
 use Rattle.console_text.proofs.hex.fill.Given as goal
 
-abbrev pub invariant-loop-at : goal.invariant-loop-at
-invariant-loop-at l = Upto l.s l.initial.out l.out l.at l.n
-
-abbrev pub decreases-loop-at : goal.decreases-loop-at
-decreases-loop-at l = length l.s - l.at
+abbrev pub invariant-loop-i : goal.invariant-loop-i
+invariant-loop-i l = l.out ≡ sets l.initial.out 0 (take l.i (bytes_of l.s))

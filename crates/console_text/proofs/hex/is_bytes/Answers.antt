@@ -1,27 +1,24 @@
-use native.Mathlib.Omega.{arith}
-use Rattle.console_text.proofs.hex.Pairs.{bytes_none, bytes_one, bytes_more, pairs_end, pairs_odd, pairs_first, pairs_second, pairs_both}
+use Rattle.std.proofs.Common.{◌∙◌, sym, rules, tests, arith, eq-eqb}
+use borrow.Author.Tests.{ne_eqb}
+use Rattle.std.specs.Char.{is_ascii_hexdigit}
+use Rattle.std.proofs.lemmas.Iterator.{YieldsList-from_slice}
+use Rattle.std.proofs.lemmas.Iterator.Search.{all_from_yields_List}
+use Rattle.console_text.proofs.hex.Pairs.{bytes_none, bytes_one, bytes_more, pairs_told}
 use Rattle.console_text.proofs.hex.is_bytes.Goals as goal
 
+pub returns-in-empty : goal.returns-in-empty
+returns-in-empty c = bytes_none c.args.s.now (omega arith)
+
+pub returns-in-len1 : goal.returns-in-len1
+returns-in-len1 c = bytes_one c.args.s.now (omega arith)
+
 pub returns-then-s-eq0 : goal.returns-then-s-eq0
-returns-then-s-eq0 c = bytes_none _ c.if-s-eq0.true
+returns-then-s-eq0 c =
+    let all = all_from_yields_List is_ascii_hexdigit _ _ c.all.result c.all.ensures.ran (YieldsList-from_slice c.args.s.now cc) (λ x b q k. search (rules, tests)) in
+    let even = eq-eqb _ _ c.if-s-eq0.true in
+    all ∙ sym (bytes_more c.args.s.now (λ e. omega arith) (λ e. omega arith) ∙ sym (pairs_told c.args.s.now) ∙ simp even)
 
-pub returns-then-s-eq1 : goal.returns-then-s-eq1
-returns-then-s-eq1 c = bytes_one _ c.if-s-eq1.true
-
-pub loop-at-init : goal.loop-at-init
-loop-at-init c = (omega arith, bytes_more _ c.if-s-eq0.false c.if-s-eq1.false)
-
-pub returns-then-s-at-eq1 : goal.returns-then-s-at-eq1
-returns-then-s-at-eq1 c = pairs_odd _ _ c.loop-at.invariant.1 c.if-s-at-eq1.true
-
-pub returns-then-hex_value-ge16 : goal.returns-then-hex_value-ge16
-returns-then-hex_value-ge16 c = pairs_first _ c.loop-at.at c.loop-at.invariant.1 (omega arith) _ c.hex_value.ensures c.if-hex_value-ge16.true
-
-pub returns-then-hex_value-ge16-2 : goal.returns-then-hex_value-ge16-2
-returns-then-hex_value-ge16-2 c = pairs_second _ c.loop-at.at c.loop-at.invariant.1 (omega arith) _ c.hex_value.ensures _ c.hex_value-in-loop-at.ensures c.if-hex_value-ge16.false c.if-hex_value-ge16-2.true
-
-pub loop-at-preserved : goal.loop-at-preserved
-loop-at-preserved c = (omega arith, pairs_both _ c.loop-at.at c.loop-at.invariant.1 (omega arith) _ c.hex_value.ensures _ c.hex_value-in-loop-at.ensures c.if-hex_value-ge16.false c.if-hex_value-ge16-2.false)
-
-pub returns : goal.returns
-returns c = pairs_end _ c.loop-at.at c.loop-at.invariant.1 c.loop-at-test.false
+pub returns-else-s-eq0 : goal.returns-else-s-eq0
+returns-else-s-eq0 c =
+    let odd = ne_eqb _ _ c.if-s-eq0.false in
+    odd ∙ sym (bytes_more c.args.s.now (λ e. omega arith) (λ e. omega arith) ∙ sym (pairs_told c.args.s.now) ∙ simp odd)
