@@ -1,4 +1,5 @@
 -- What one record makes of a table and its store, in the code's steps, is what the rules say of it. Assumes nothing.
+use Rattle.std.proofs.Common.{None, Option, Some}
 use mathlib.Core.Path.{◌≡◌, refl, sym, ap, ap₂, ◌∙◌}
 use mathlib.Core.List.{List, [], ◌∷◌}
 use mathlib.Core.Bool.{Bool, true, false, cond, not, ◌&&◌, and-false}
@@ -21,8 +22,6 @@ use Rattle.cache.specs.entries.Entries.{blank, is_free, is_old, soon, flushed}
 use Rattle.cache.specs.entries.Tables.{lowest, slot_from, each}
 use Rattle.cache.specs.entries.Cache.{Cache, with_entries, cached_as, is_cached, rule1, goodbye, taken, renewed, equal_slot, free_slot, slot_with, slot_for, rule23, after_rule1, take_record}
 use Rattle.cache.specs.declared.entries.Entry.{Entry}
-use Rattle.cache.specs.declared.entries.Slot.{Slot}
-use Rattle.cache.specs.declared.entries.Slot.TheVariants.{At, Nowhere}
 use Rattle.cache.specs.declared.records.Heard.{Heard}
 use Rattle.cache.specs.declared.records.Choice.{Choice}
 use Rattle.cache.specs.records.Heard.{heard_of, is_taken, is_flushing, is_sought, owner_in, rdata_in, may_hold, has_bytes, holds_heard, live_heard, flushed_heard, first_slot, is_filling, change, chosen_among, chosen_of}
@@ -37,7 +36,7 @@ use Rattle.cache.proofs.records.Seeking.{numbered, numbered_all}
 same_lowest : (a b : ℕ → Entry → Bool) → ((i : ℕ) (e : Entry) → a i e ≡ b i e) → (i : ℕ) (es : List Entry) → lowest a i es ≡ lowest b i es
 unfolding lowest
 same_lowest a b h i [] = refl
-same_lowest a b h i (e ∷ es) = ap (λ (t : Bool). cond t (At i) (lowest a (suc i) es)) (h i e) ∙ ap (cond (b i e) (At i)) (same_lowest a b h (suc i) es)
+same_lowest a b h i (e ∷ es) = ap (λ (t : Bool). cond t (Some i) (lowest a (suc i) es)) (h i e) ∙ ap (cond (b i e) (Some i)) (same_lowest a b h (suc i) es)
 
 same_each : (a b : ℕ → Entry → Entry) → ((i : ℕ) (e : Entry) → a i e ≡ b i e) → (i : ℕ) (es : List Entry) → each a i es ≡ each b i es
 unfolding each
@@ -156,22 +155,22 @@ unfolding chosen_in chosen_of
 over now store slot h es t l = simp (t, l)
 
 -- the choice by slots: the lowest live equal entry, else the lowest not live
-abbrev chosen_free : Slot → Choice
-chosen_free (At i) = change 3 i
-chosen_free Nowhere = change 4 0
+abbrev chosen_free : Option ℕ → Choice
+chosen_free (Some i) = change 3 i
+chosen_free None = change 4 0
 
-abbrev chosen_slot_lem : Bool → Slot → Slot → Choice
-chosen_slot_lem ends (At i) free = cond ends (change 1 i) (change 2 i)
-chosen_slot_lem ends Nowhere free = cond ends (change 0 0) (chosen_free free)
+abbrev chosen_slot_lem : Bool → Option ℕ → Option ℕ → Choice
+chosen_slot_lem ends (Some i) free = cond ends (change 1 i) (change 2 i)
+chosen_slot_lem ends None free = cond ends (change 0 0) (chosen_free free)
 
 module _ (now : ℕ) (store slot : List ℕ) (h : Heard) (es : List Entry) (t : is_taken h ≡ true) (l : ltb 768 h.len ≡ false) where
   abbrev n : ℕ
   n = length es
 
-  abbrev equal : Slot
+  abbrev equal : Option ℕ
   equal = lowest (holds_heard now store slot h) 0 es
 
-  abbrev free : Slot
+  abbrev free : Option ℕ
   free = lowest (is_free now) 0 es
 
   sought : is_sought h ≡ true
@@ -194,17 +193,17 @@ module _ (now : ℕ) (store slot : List ℕ) (h : Heard) (es : List Entry) (t : 
       let all : (is_sought h && (leb n n && not (eqb h.at.ttl 0))) ≡ true = simp (sought, le-leb n n (omega arith), z) in
       ap (λ (b : Bool). first_slot b n) all
 
-  by_number : (x : ℕ) (a : Slot) → ((i : ℕ) → a ≡ At i → i < n) → x ≡ numbered (holds_heard now store slot h) n a → (ends : Bool) → eqb h.at.ttl 0 ≡ ends
+  by_number : (x : ℕ) (a : Option ℕ) → ((i : ℕ) → a ≡ Some i → i < n) → x ≡ numbered (holds_heard now store slot h) n a → (ends : Bool) → eqb h.at.ttl 0 ≡ ends
       → chosen_among ends n x (free_from now es (first_slot (is_filling h n x) n)) ≡ chosen_slot_lem ends a free
-  by_number x (At i) k is ends e = ap (λ (y : ℕ). chosen_among ends n y (free_from now es (first_slot (is_filling h n y) n))) is ∙ simp (lt-ltb i n (k i refl))
-  by_number x Nowhere k is true e = ap (λ (y : ℕ). chosen_among true n y (free_from now es (first_slot (is_filling h n y) n))) is ∙ simp (le-ltb n n (omega arith))
-  by_number x Nowhere k is false e =
+  by_number x (Some i) k is ends e = ap (λ (y : ℕ). chosen_among ends n y (free_from now es (first_slot (is_filling h n y) n))) is ∙ simp (lt-ltb i n (k i refl))
+  by_number x None k is true e = ap (λ (y : ℕ). chosen_among true n y (free_from now es (first_slot (is_filling h n y) n))) is ∙ simp (le-ltb n n (omega arith))
+  by_number x None k is false e =
       ap (λ (y : ℕ). chosen_among false n y (free_from now es (first_slot (is_filling h n y) n))) is
       ∙ simp (le-ltb n n (omega arith)) (ap (λ (y : ℕ). cond (ltb y n) (change 3 y) (change 4 0)) (free_number (first_slot (is_filling h n n) n) (is-filling e)) ∙ of_free free (λ i is. (found_at (is_free now) es i is).0))
     where
-      of_free : (a : Slot) → ((i : ℕ) → a ≡ At i → i < n) → cond (ltb (numbered (is_free now) n a) n) (change 3 (numbered (is_free now) n a)) (change 4 0) ≡ chosen_free a
-      of_free (At i) k = simp (lt-ltb i n (k i refl))
-      of_free Nowhere k = simp (le-ltb n n (omega arith))
+      of_free : (a : Option ℕ) → ((i : ℕ) → a ≡ Some i → i < n) → cond (ltb (numbered (is_free now) n a) n) (change 3 (numbered (is_free now) n a)) (change 4 0) ≡ chosen_free a
+      of_free (Some i) k = simp (lt-ltb i n (k i refl))
+      of_free None k = simp (le-ltb n n (omega arith))
 
   chosen_slot : chosen_in now store slot h es ≡ chosen_slot_lem (eqb h.at.ttl 0) equal free
   unfolding chosen_in chosen_of
@@ -221,12 +220,12 @@ module _ (now : ℕ) (p : List ℕ) (at : ℕ) (f : RecordAt) (met : RecordMet p
   abbrev bytes : List ℕ
   bytes = slot_with (owner_in slot h) (rdata_in slot h)
 
-  fills_slot : bytes ≡ slot_for x → (c : Cache) (i : ℕ) → changed_cache now slot h (change 3 i) c ≡ taken now x c (At i)
+  fills_slot : bytes ≡ slot_for x → (c : Cache) (i : ℕ) → changed_cache now slot h (change 3 i) c ≡ taken now x c (Some i)
   unfolding changed_in changed kept_in counting
   fills_slot is c i =
       ap₂ (λ (n : ℕ) (l : List ℕ). record { entries = set c.entries i (record { rtype = f.rtype; owner = n; rdata = h.len; received = now; expiry = (entry_heard now h).expiry; ttl = f.ttl }); store = sets c.store (1024 * i) l; turned = c.turned; passed = c.passed }) met.span is
 
-  turns_away : (c : Cache) → changed_cache now slot h (change 4 0) c ≡ taken now x c Nowhere
+  turns_away : (c : Cache) → changed_cache now slot h (change 4 0) c ≡ taken now x c None
   unfolding changed_in changed kept_in counting
   turns_away c = ap (λ (es : List Entry). record { entries = es; store = c.store; turned = c.turned + 1; passed = c.passed }) (set_same c.entries 0)
 
@@ -234,23 +233,23 @@ module _ (now : ℕ) (p : List ℕ) (at : ℕ) (f : RecordAt) (met : RecordMet p
   unfolding changed_in changed kept_in counting
   passes_over c = ap (λ (es : List Entry). record { entries = es; store = c.store; turned = c.turned; passed = c.passed + 1 }) (set_same c.entries 0)
 
-  expires : (c : Cache) (i : ℕ) → changed_cache now slot h (change 1 i) c ≡ goodbye now c (At i)
+  expires : (c : Cache) (i : ℕ) → changed_cache now slot h (change 1 i) c ≡ goodbye now c (Some i)
   unfolding changed_in changed kept_in counting
   expires c i = refl
 
-  refreshes : (c : Cache) (i : ℕ) → changed_cache now slot h (change 2 i) c ≡ renewed now x c (At i)
+  refreshes : (c : Cache) (i : ℕ) → changed_cache now slot h (change 2 i) c ≡ renewed now x c (Some i)
   unfolding changed_in changed kept_in counting
   refreshes c i = refl
 
-  by-free : bytes ≡ slot_for x → (c : Cache) (s : Slot) → changed_cache now slot h (chosen_free s) c ≡ taken now x c s
-  by-free is c (At i) = fills_slot is c i
-  by-free is c Nowhere = turns_away c
+  by-free : bytes ≡ slot_for x → (c : Cache) (s : Option ℕ) → changed_cache now slot h (chosen_free s) c ≡ taken now x c s
+  by-free is c (Some i) = fills_slot is c i
+  by-free is c None = turns_away c
 
-  by-slot : bytes ≡ slot_for x → (c : Cache) (ends : Bool) (a : Slot) → changed_cache now slot h (chosen_slot_lem ends a (free_slot now c)) c ≡ cond ends (goodbye now c a) (renewed now x c a)
-  by-slot is c true (At i) = expires c i
-  by-slot is c false (At i) = refreshes c i
-  by-slot is c true Nowhere = same_cache now slot h c
-  by-slot is c false Nowhere = by-free is c (free_slot now c)
+  by-slot : bytes ≡ slot_for x → (c : Cache) (ends : Bool) (a : Option ℕ) → changed_cache now slot h (chosen_slot_lem ends a (free_slot now c)) c ≡ cond ends (goodbye now c a) (renewed now x c a)
+  by-slot is c true (Some i) = expires c i
+  by-slot is c false (Some i) = refreshes c i
+  by-slot is c true None = same_cache now slot h c
+  by-slot is c false None = by-free is c (free_slot now c)
 
   equal_is : is_taken h ≡ true → h.len ≤ 768 → (c : Cache) → lowest (holds_heard now c.store slot h) 0 c.entries ≡ equal_slot now x c
   unfolding equal_slot
@@ -271,7 +270,7 @@ module _ (now : ℕ) (p : List ℕ) (at : ℕ) (f : RecordAt) (met : RecordMet p
       go false l =
           let le : h.len ≤ 768 = ltb-false 768 h.len l in
           ap (λ (y : Choice). changed_cache now slot h y c) (chosen_slot now c.store slot h c.entries t l)
-          ∙ ap₂ (λ (a b : Slot). changed_cache now slot h (chosen_slot_lem (eqb f.ttl 0) a b) c) (equal_is t le c) (free_is c)
+          ∙ ap₂ (λ (a b : Option ℕ). changed_cache now slot h (chosen_slot_lem (eqb f.ttl 0) a b) c) (equal_is t le c) (free_is c)
           ∙ by-slot (slot-fits p at f met slot shows t le) c (eqb f.ttl 0) (equal_slot now x c)
 
   -- the form of an NSEC that was read says of which kind it is; that of another type is not asked

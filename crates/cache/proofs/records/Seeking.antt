@@ -1,5 +1,6 @@
 -- A search an entry at a time, which gives a slot as a number: it is that of the lowest entry that passes, and what fails a wider test may be stepped over.
 -- Assumes nothing.
+use Rattle.std.proofs.Common.{None, Option, Some}
 use mathlib.Core.Path.{◌≡◌, refl, sym, ap, ◌∙◌, subst}
 use mathlib.Core.List.{List, [], ◌∷◌}
 use mathlib.Core.Bool.{Bool, true, false, cond}
@@ -13,8 +14,6 @@ use borrow.Author.Tests.{ltb-true, ltb-false}
 use Rattle.cache.specs.entries.Entries.{blank}
 use Rattle.cache.specs.entries.Tables.{lowest, slot_from}
 use Rattle.cache.specs.declared.entries.Entry.{Entry}
-use Rattle.cache.specs.declared.entries.Slot.{Slot}
-use Rattle.cache.specs.declared.entries.Slot.TheVariants.{At, Nowhere}
 use Rattle.cache.proofs.entries.Searches.{at_slot}
 
 module _ (test : ℕ → Entry → Bool) where
@@ -42,9 +41,9 @@ module _ (test : ℕ → Entry → Bool) where
       go false l = omega (arith, l)
 
   -- a slot as a number, where n is none
-  abbrev pub numbered : ℕ → Slot → ℕ
-  numbered n (At i) = i
-  numbered n Nowhere = n
+  abbrev pub numbered : ℕ → Option ℕ → ℕ
+  numbered n (Some i) = i
+  numbered n None = n
 
   numbered_from : (i : ℕ) (es : List Entry) → slot_from test i es ≡ numbered (i + length es) (lowest test i es)
   unfolding slot_from lowest
@@ -52,7 +51,7 @@ module _ (test : ℕ → Entry → Bool) where
   numbered_from i (e ∷ es) = go (test i e) (numbered_from (suc i) es ∙ ap (λ (n : ℕ). numbered n (lowest test (suc i) es)) (suc-add i (length es) ∙ sym (add-suc i (length es))))
     where
       go : (b : Bool) → slot_from test (suc i) es ≡ numbered (i + suc (length es)) (lowest test (suc i) es)
-          → cond b i (slot_from test (suc i) es) ≡ numbered (i + suc (length es)) (cond b (At i) (lowest test (suc i) es))
+          → cond b i (slot_from test (suc i) es) ≡ numbered (i + suc (length es)) (cond b (Some i) (lowest test (suc i) es))
       go true rest = refl
       go false rest = rest
 
