@@ -5,13 +5,10 @@ use Rattle.claims.proofs.records.Searched.{rest}
 use Prim.Native.Nat.{◌+◌}
 use Rattle.claims.specs.steps.Steps.{steps, step_at}
 use Rattle.claims.specs.due.Due.{earliest_of, next_due}
-use mathlib.Core.Path.{refl, sym, ap, ◌∙◌}
+use mathlib.Core.Path.{sym, ap, ◌∙◌}
 use lib.ListN.{drop, drop_of_length-le}
 use native.Mathlib.Omega.{arith}
 use Rattle.claims.proofs.due.next_due.Goals as goal
-
-pub loop-i-init : goal.loop-i-init
-loop-i-init c = refl
 
 pub loop-i-preserved : goal.loop-i-preserved
 unfolding earliest_of step_at

@@ -1,4 +1,3 @@
-use mathlib.Core.Path.{refl}
 use native.Mathlib.Omega.{arith}
 use Rattle.claims.specs.Time.{due_by}
 use Rattle.claims.specs.steps.Steps.{steps, step_at, step_due, more_due}
@@ -6,9 +5,6 @@ use Rattle.claims.specs.declared.records.Claim.TheVariants.{Instance}
 use Rattle.claims.specs.declared.steps.Step.TheVariants.{OfClaim}
 use Rattle.claims.proofs.records.Searched.{some-found, some_next, some-ends}
 use Rattle.claims.proofs.steps.more_due.Goals as goal
-
-pub loop-i-init : goal.loop-i-init
-loop-i-init c = refl
 
 pub returns-then-has_come : goal.returns-then-has_come
 unfolding step_at more_due

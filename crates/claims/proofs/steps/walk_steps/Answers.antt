@@ -4,12 +4,9 @@ use Rattle.claims.specs.declared.steps.Step.TheVariants.{OfClaim}
 use Rattle.claims.proofs.steps.Walk.{walk_sends, walk_passes, walk_ends}
 use Rattle.claims.specs.steps.Steps.{steps, step_at}
 use Rattle.claims.specs.steps.Tick.{step_turn}
-use mathlib.Core.Path.{refl, sym, ap, ◌∙◌}
+use mathlib.Core.Path.{sym, ap, ◌∙◌}
 use native.Mathlib.Omega.{arith}
 use Rattle.claims.proofs.steps.walk_steps.Goals as goal
-
-pub loop-i-init : goal.loop-i-init
-loop-i-init c = refl
 
 pub returns-in-Probe : goal.returns-in-Probe
 unfolding step_at
