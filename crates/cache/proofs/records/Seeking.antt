@@ -4,7 +4,7 @@ use Rattle.std.proofs.Common.{None, Option, Some}
 use mathlib.Core.Path.{◌≡◌, refl, sym, ap, ◌∙◌, subst}
 use mathlib.Core.List.{List, [], ◌∷◌}
 use mathlib.Core.Bool.{Bool, true, false, cond}
-use Prim.Native.Nat.{ℕ, zero, suc, ◌+◌, ◌<◌, ◌≤◌}
+use Prim.Native.Nat.{ℕ, zero, suc, ◌+◌, ◌<◌, ◌≤◌, max}
 use native.Mathlib.Nat.{add-zero, add-suc, suc-add}
 use native.Mathlib.Numerals.{add-one}
 use native.Mathlib.Omega.{arith}
@@ -30,6 +30,19 @@ module _ (test : ℕ → Entry → Bool) where
     pub seek_end : length es ≤ i → i ≡ slot_from test i (drop i es)
     unfolding slot_from
     seek_end l = sym (rw (drop_of_length-le es l))
+
+  -- the end behind the last of a loop from a slot on, which may itself lie behind the last
+  pub seek_last : (es : List Entry) (from i k : ℕ) → k ≡ max from (length es) → length es ≤ i → (from ≤ length es → i ≤ length es)
+      → slot_from test i (drop i es) ≡ slot_from test from (drop from es) → k ≡ slot_from test from (drop from es)
+  seek_last es from i k most end last same = go (ltb (length es) from) refl
+    where
+      go : (b : Bool) → ltb (length es) from ≡ b → k ≡ slot_from test from (drop from es)
+      go true e = let lt = ltb-true (length es) from e in let at : k ≡ from = omega arith in at ∙ seek_end es from (omega arith)
+      go false e =
+          let le = ltb-false (length es) from e in
+          let done = last le in
+          let at : k ≡ i = omega arith in
+          at ∙ seek_end es i end ∙ same
 
   pub not-before : (i : ℕ) (es : List Entry) → i ≤ slot_from test i es
   unfolding slot_from
