@@ -1,7 +1,7 @@
 -- From the refusal of a call, or from none, to its answer, its state and its buffer. Assumes nothing.
 use Prim.Native.Nat.{ℕ}
 use mathlib.Core.Path.{◌≡◌, ap, ◌∙◌}
-use mathlib.Core.Bool.{Bool, false}
+use mathlib.Core.Bool.{false}
 use mathlib.Core.List.{List}
 use borrow.Author.Tests.{eq-eqb, ne_eqb}
 use lib.Dec.{eqb}
@@ -16,16 +16,13 @@ use Rattle.claims.specs.declared.Progress.{Progress}
 use Rattle.claims.specs.declared.steps.Output.TheVariants.{Response}
 use Rattle.claims.specs.declared.steps.Ticked as walked
 use Rattle.claims.specs.declared.answers.Facts.{Facts}
-use Rattle.claims.specs.declared.answers.Coming.{Coming}
 use Rattle.claims.specs.declared.records.Set.{Set}
-use Rattle.claims.specs.answers.Answers as answers
-use Rattle.claims.specs.answers.Held as held
 use Rattle.claims.specs.declared.answers.Received as heard
 use Rattle.facts.specs.Facts.{facts_of}
 use Rattle.writer.specs.own_packets.Own.{response_packet, laid_over}
 use Rattle.responder.specs.Handed.{Arrival, coming_of, Tick}
 use Rattle.responder.specs.Refusals.{start_refusal, receive_refusal, tick_refusal}
-use Rattle.responder.specs.Calls.{refusal_of, length_of, unicast_length_of, answer_with, blank, start_of, heard_by, heard_of, plain_for, reply_to, brought_back}
+use Rattle.responder.specs.Calls.{refusal_of, length_of, unicast_length_of, answer_with, blank, start_of, heard_by, heard_of, reply_to, brought_back}
 use Rattle.responder.specs.Calls.{received_packet, unicast_packet, receive_of, Receives}
 use Rattle.responder.specs.Calls.{walked_of, ticked_packet, tick_of, Ticks}
 use Rattle.responder.specs.Runs.{received, ticked}
@@ -59,17 +56,7 @@ module _ (setup : Setup) (time draw : ℕ) {n : ℕ} (is : n ≡ start_refusal s
 
 -- ---- a packet received
 
-module _ (progress : Progress) (port : ℕ) (c : Coming) (f : Facts) (aaaa : Bool) (r : heard.Received) where
-  pub hears_plain : (port ≡ 5353 → ⊥) → r ≡ answers.plain_of progress c.now f aaaa → r ≡ heard_by progress port c f aaaa
-  hears_plain h e = simp (ne_eqb port 5353 h, e)
-
-  pub hears_mdns : port ≡ 5353 → r ≡ held.receive_of progress c f aaaa → r ≡ heard_by progress port c f aaaa
-  hears_mdns h e = simp (eq-eqb port 5353 h, e)
-
 module _ (setup : Setup) (port : ℕ) (set : Set) (m : Message) (out : List ℕ) (n : ℕ) (o : List ℕ) where
-  pub replies_plain : (port ≡ 5353 → ⊥) → Wrote (plain_for setup set m.id m.questions) out n o → Wrote (reply_to setup port set m) out n o
-  replies_plain h w = rw (ne_eqb port 5353 h) w
-
   pub replies_mdns : port ≡ 5353 → Wrote (response_packet setup m.id set) out n o → Wrote (reply_to setup port set m) out n o
   replies_mdns h w = rw (eq-eqb port 5353 h) w
 

@@ -1,6 +1,6 @@
 -- A start, a packet received and a tick (specification, 'Refusal numbers', 'A claim's life', 'Which answers go out'): the answer, the state after the call and
 -- the packet that it sends, put together from what the parts below say. Assumes nothing: these are definitions.
-use Rattle.std.specs.Prelude.{ℕ, Bool, true, false, cond, List, [], ◌∷◌, length, replicate, eqb, ◌≡◌}
+use Rattle.std.specs.Prelude.{ℕ, Bool, false, cond, List, [], ◌∷◌, length, replicate, eqb, ◌≡◌}
 use Rattle.wire.specs.message.Message.{Question, Message}
 use Rattle.wire.specs.message.Layout.{Reads, read, refused, message_at}
 use Rattle.own.specs.declared.records.Setup.{Setup}

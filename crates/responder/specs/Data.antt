@@ -1,6 +1,6 @@
 -- The data of a run (specification, 'Stops and updates'): "a dock's data are those after its last update taken". What each call sends is written of the data
 -- after it. Assumes nothing: these are definitions.
-use Rattle.std.specs.Prelude.{ℕ, ◌+◌, ◌≤◌, Bool, cond, List, [], ◌∷◌, ◌++◌, eqb}
+use Rattle.std.specs.Prelude.{ℕ, ◌+◌, ◌≤◌, cond, List, [], ◌∷◌, ◌++◌, eqb}
 use Rattle.wire.specs.message.Message.{Question}
 use Rattle.own.specs.declared.records.Setup.{Setup}
 use Rattle.own.specs.changes.Changes.{NewData, revised}

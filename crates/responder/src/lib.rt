@@ -15,14 +15,15 @@ ghost use Rattle.responder.specs.Handed.{Arrival, Tick};
 ghost use Rattle.responder.specs.Refusals.{small_buffer, wrong_state, start_refusal, tick_refusal, admitted};
 ghost use Rattle.responder.specs.Calls.{refusal_of, answer_with, blank, packet_for, plain_for, reply_to, heard_by, start_of, Receives, Ticks};
 
-use claims::answers::{Coming, Facts};
+use claims::answers::{self, Coming, Facts};
 use claims::holds::Address;
 use claims::records::Set;
 use claims::steps::Output;
-use claims::{ClaimState, Progress, When};
+use claims::{ClaimState, Progress, When, refusal_tests};
 use own::records::{Label, Service, Setup, Strings};
+use own::setups::check_setup;
 use wire::message::{Layout, MDNS_PORT, MessageRead, QuestionRead};
-use writer::own_packets::{LEAST_OUT, Written};
+use writer::own_packets::{self, LEAST_OUT, Written};
 
 // A responder: what it was set up with, and all that changes in it.
 #[derive(Clone, Copy)]
@@ -108,13 +109,13 @@ pub fn blank_state() -> State
 fn start_refusal(setup: Setup, time: u64, draw: u64) -> u8
     ensures { result ≡ start_refusal setup time draw }
 {
-    if claims::refusal_tests::start_time_refused(time) {
+    if refusal_tests::start_time_refused(time) {
         return wire::refusals::TIME;
     }
-    if claims::refusal_tests::start_draw_refused(draw) {
+    if refusal_tests::start_draw_refused(draw) {
         return wire::refusals::DRAW;
     }
-    if !own::setups::check_setup(setup) {
+    if !check_setup(setup) {
         return wire::refusals::SETUP;
     }
     0
@@ -145,28 +146,20 @@ pub fn start(setup: Setup, time: u64, draw: u64) -> Started
 fn state_refused(state: State) -> bool
     ensures { result ≡ wrong_state state }
 {
-    let setup = state.setup;
     let progress = state.progress;
-    if own::setups::check_setup(setup) {
-        return claims::refusal_tests::start_draw_refused(progress.draw);
-    }
-    true
+    !check_setup(state.setup) || refusal_tests::start_draw_refused(progress.draw)
 }
 
 // The answer for packets of these lengths, to all and to the asker.
 fn answer_with(sent: usize, replied: usize) -> Answer
     ensures { result ≡ answer_with sent replied }
 {
-    if sent == 0 {
-        if replied == 0 {
-            return Answer::Quiet;
-        }
-        return Answer::Unicast(replied);
+    match (sent, replied) {
+        (0, 0) => Answer::Quiet,
+        (0, _) => Answer::Unicast(replied),
+        (_, 0) => Answer::Sent(sent),
+        (_, _) => Answer::Both(sent, replied),
     }
-    if replied == 0 {
-        return Answer::Sent(sent);
-    }
-    Answer::Both(sent, replied)
 }
 
 // The length of what was written.
@@ -175,8 +168,7 @@ fn length_of(w: Written) -> usize
 {
     match w {
         Written::Sent(n) => n,
-        Written::Nothing => 0,
-        Written::Refused(_) => 0,
+        Written::Nothing | Written::Refused(_) => 0,
     }
 }
 
@@ -188,14 +180,8 @@ fn send(setup: Setup, output: Output, out: &mut [u8]) -> usize
 {
     match output {
         Output::Nothing => 0,
-        Output::Probe(k) => {
-            let w = writer::own_packets::probe(setup, k, out);
-            length_of(w)
-        }
-        Output::Response(set) => {
-            let w = writer::own_packets::respond(setup, 0, set, out);
-            length_of(w)
-        }
+        Output::Probe(k) => length_of(own_packets::probe(setup, k, out)),
+        Output::Response(set) => length_of(own_packets::respond(setup, 0, set, out)),
     }
 }
 
@@ -214,19 +200,16 @@ fn plain_reply(setup: Setup, set: Set, packet: &[u8], l: Layout, out: &mut [u8])
     match wire::message::question_at(packet, questions.at) {
         QuestionRead::Found(q) => {
             let name = wire::names::expand(packet, q.name);
-            let bytes = name.bytes;
             let span = q.span;
-            let len = span.len;
-            let w = writer::own_packets::plain_reply(
+            length_of(own_packets::plain_reply(
                 setup,
                 set,
                 l.id,
-                wire::rdata::part(&bytes, 0, len),
+                wire::rdata::part(&name.bytes, 0, span.len),
                 q.rtype,
                 q.class,
                 out,
-            );
-            length_of(w)
+            ))
         }
         QuestionRead::Malformed => 0,
     }
@@ -239,21 +222,18 @@ fn reply(setup: Setup, set: Set, port: u16, packet: &[u8], l: Layout, out: &mut 
     ensures value { result ≡ length (reply_to setup port set (message_in packet.now l)) }
     ensures out_after { out.new ≡ laid_over (reply_to setup port set (message_in packet.now l)) out.old }
 {
-    if port != MDNS_PORT {
-        return plain_reply(setup, set, packet, l, out);
+    if port == MDNS_PORT {
+        length_of(own_packets::respond(setup, l.id, set, out))
+    } else {
+        plain_reply(setup, set, packet, l, out)
     }
-    let w = writer::own_packets::respond(setup, l.id, set, out);
-    length_of(w)
 }
 
 // Refusal 3 of a packet received: either out buffer is too small.
 fn rooms_refused(room: usize, unicastroom: usize) -> bool
     ensures { result ≡ small_buffer room || small_buffer unicastroom }
 {
-    if room < LEAST_OUT {
-        return true;
-    }
-    unicastroom < LEAST_OUT
+    room < LEAST_OUT || unicastroom < LEAST_OUT
 }
 
 // Where the sections of a packet received lie, or the refusal of the call.
@@ -273,11 +253,10 @@ fn admit(
         record { time = time; from = from; port = port; draw = draw; hold = hold; packet = p; room = room; unicastroom = unicastroom } in
         result ≡ read_of (admitted state a)) }
 {
-    let progress = state.progress;
-    if claims::refusal_tests::time_refused(progress, time) {
+    if refusal_tests::time_refused(state.progress, time) {
         return MessageRead::Refused(wire::refusals::TIME);
     }
-    if claims::refusal_tests::draws_refused(draw, hold) {
+    if refusal_tests::draws_refused(draw, hold) {
         return MessageRead::Refused(wire::refusals::DRAW);
     }
     if rooms_refused(room, unicastroom) {
@@ -301,13 +280,14 @@ fn hear(
     coming: Coming,
     facts: Facts,
     aaaa: bool,
-) -> claims::answers::Received
+) -> answers::Received
     ensures { result ≡ heard_by progress port coming facts aaaa }
 {
-    if port != MDNS_PORT {
-        return claims::answers::plain(progress, coming.now, facts, aaaa);
+    if port == MDNS_PORT {
+        answers::receive(progress, coming, facts, aaaa)
+    } else {
+        answers::plain(progress, coming.now, facts, aaaa)
     }
-    claims::answers::receive(progress, coming, facts, aaaa)
 }
 
 // Takes a packet that came from an address and port, with the draws for a PTR reply and for a hold, and writes the answers that go out at once: to all into
@@ -351,16 +331,13 @@ pub fn receive(
                 hold,
             };
             let heard = hear(state.progress, port, coming, facts, setup.hasaaaa);
-            let answers = heard.answers;
-            let back = heard.unicast;
-            let after = heard.progress;
-            let sent = send(setup, Output::Response(answers), out);
-            let replied = reply(setup, back, port, packet, l, unicast);
+            let sent = send(setup, Output::Response(heard.answers), out);
+            let replied = reply(setup, heard.unicast, port, packet, l, unicast);
             Received {
                 answer: answer_with(sent, replied),
                 state: State {
                     setup,
-                    progress: after,
+                    progress: heard.progress,
                 },
             }
         }
@@ -375,8 +352,7 @@ pub fn receive(
 fn tick_refusal(state: State, time: u64, room: usize) -> u8
     ensures { (let t : Tick = record { time = time; room = room } in result ≡ tick_refusal state t) }
 {
-    let progress = state.progress;
-    if claims::refusal_tests::time_refused(progress, time) {
+    if refusal_tests::time_refused(state.progress, time) {
         return wire::refusals::TIME;
     }
     if room < LEAST_OUT {
@@ -403,16 +379,13 @@ pub fn tick(state: State, time: u64, out: &mut [u8]) -> Ticked
     }
     let setup = state.setup;
     let walked = claims::steps::tick(state.progress, time, setup.hasaaaa);
-    let output = walked.output;
-    let after = walked.progress;
-    let more = walked.more;
-    let sent = send(setup, output, out);
+    let sent = send(setup, walked.output, out);
     Ticked {
         answer: answer_with(sent, 0),
-        more,
+        more: walked.more,
         state: State {
             setup,
-            progress: after,
+            progress: walked.progress,
         },
     }
 }

@@ -8,7 +8,7 @@ returns-then-questions-ne1 c = let a = c.args in
 pub returns-in-Found : goal.returns-in-Found
 returns-in-Found c = let a = c.args in
     let all = replied a.setup a.set a.packet.now a.l c.requires.packet_value a.out.now c.if-questions-ne1.false _ c.question_at.ensures _ c.in-Found.is _
-    c.expand-name.ensures _ c.part.ensures.bytes c.requires.out_value _ _ _ (c.plain_reply-w.ensures.answer, c.plain_reply-w.ensures.out)
+    c.expand-name.ensures _ c.part.ensures.bytes c.requires.out_value _ _ _ (c.plain_reply.ensures.answer, c.plain_reply.ensures.out)
     c.length_of.ensures in record { result_value = all.0; out_after = all.1 }
 
 pub returns-in-Malformed : goal.returns-in-Malformed

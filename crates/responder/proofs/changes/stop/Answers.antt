@@ -13,5 +13,5 @@ returns c = let a = c.args in
     let accepted = tick-accepted _ _ (sym c.tick_refusal-refusal.ensures ∙ c.if-refusal-ne0.false) in
     let fine = can_send a.state a.out.now accepted.buffer accepted.right in
     stops _ _ _ c.tick_refusal-refusal.ensures _ _ _ _ c.if-refusal-ne0.false c.stop-stopped.ensures
-    (wrote a.state.setup a.out.now _ _ _ _ fine (c.goodbye-w.ensures.answer, c.goodbye-w.ensures.out) c.length_of.ensures)
+    (wrote a.state.setup a.out.now _ _ _ _ fine (c.goodbye.ensures.answer, c.goodbye.ensures.out) c.length_of-goodbye.ensures)
     c.answer_with.ensures
