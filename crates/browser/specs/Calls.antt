@@ -1,7 +1,8 @@
 -- The calls of a browser: a start, a tick on a lent cache, the next due time, and the list: the answer, the state after the call and the packet that it sends.
 -- Assumes nothing: these are definitions.
 use Rattle.std.specs.Prelude.{ℕ, ◌≡◌, Bool, true, false, cond, not, ◌||◌, List, [], ◌∷◌, ltb, eqb, length, replicate}
-use Rattle.wire.specs.refusals.Numbers.{TIME, DRAW, BUFFER, SETUP, TABLE, first_refusal}
+use Rattle.wire.specs.refusals.Numbers.{first_refusal}
+use Rattle.wire.specs.declared.refusals.Refusal.TheVariants.{Buffer, Draw, Setup, Table, Time}
 use Rattle.claims.specs.Time.{last_time, last_kept}
 use Rattle.own.specs.declared.records.Service.{Service}
 use Rattle.writer.specs.own_packets.Own.{small_buffer, unless_refused, laid_over}
@@ -58,7 +59,7 @@ wrong_time b now =
 
 unfoldable pub start_refusal : Service → List ℕ → List ℕ → ℕ → ℕ → ℕ → ℕ
 start_refusal service protocol domain time draw refresh =
-    first_refusal ((TIME, ltb last_time time) ∷ ((DRAW, wrong_draws draw refresh) ∷ ((SETUP, not (right_labels service protocol domain)) ∷ [])))
+    first_refusal ((Time, ltb last_time time) ∷ ((Draw, wrong_draws draw refresh) ∷ ((Setup, not (right_labels service protocol domain)) ∷ [])))
 
 -- 8: the table's size, an entry's lengths, or the store's size
 abbrev pub wrong_table : List Entry → List ℕ → Bool
@@ -68,12 +69,12 @@ wrong_table es store = bad_table es || bad_store es store
 unfoldable pub tick_refusal : Browser → ℕ → List Entry → List ℕ → ℕ → ℕ
 tick_refusal b now es store room =
     first_refusal
-    ((TIME, wrong_time b now || bad_time now es) ∷ ((BUFFER, small_buffer room) ∷ ((TABLE, wrong_table es store) ∷ ((SETUP, wrong_browser b) ∷ []))))
+    ((Time, wrong_time b now || bad_time now es) ∷ ((Buffer, small_buffer room) ∷ ((Table, wrong_table es store) ∷ ((Setup, wrong_browser b) ∷ []))))
 
 -- of a list and of the next due time, which have no buffer: 1, 8, 7
 unfoldable pub look_refusal : Browser → ℕ → List Entry → List ℕ → ℕ
 look_refusal b now es store =
-    first_refusal ((TIME, wrong_time b now || bad_time now es) ∷ ((TABLE, wrong_table es store) ∷ ((SETUP, wrong_browser b) ∷ [])))
+    first_refusal ((Time, wrong_time b now || bad_time now es) ∷ ((Table, wrong_table es store) ∷ ((Setup, wrong_browser b) ∷ [])))
 
 -- ---- a start
 

@@ -1,7 +1,8 @@
 -- The steps of the calls, in the code's terms: from what a pass over the table gives. What they come to is in Calls (proofs/Ticking.antt,
 -- proofs/Refusing.antt). Assumes nothing: these are definitions.
 use Rattle.std.specs.Prelude.{ℕ, ◌≡◌, Bool, true, false, cond, not, ◌||◌, List, [], ◌∷◌, ltb, leb, eqb, length}
-use Rattle.wire.specs.refusals.Numbers.{TIME, BUFFER, SETUP, TABLE, first_refusal}
+use Rattle.wire.specs.refusals.Numbers.{first_refusal}
+use Rattle.wire.specs.declared.refusals.Refusal.TheVariants.{Buffer, Setup, Table, Time}
 use Rattle.writer.specs.own_packets.Own.{small_buffer, laid_over}
 use Rattle.cache.specs.declared.entries.Slot.{Slot}
 use Rattle.cache.specs.declared.entries.Slot.TheVariants as slot
@@ -18,8 +19,8 @@ use Rattle.browser.specs.Calls.{wrong_time, wrong_browser, is_owed, resumed, ask
 unfoldable pub tick_refusal_with : ℕ → ℕ → ℕ → Browser → ℕ → ℕ → ℕ
 tick_refusal_with entries n bytes b now room =
     first_refusal
-    ((TIME, wrong_time b now || eqb entries 1) ∷ ((BUFFER, small_buffer room) ∷
-    ((TABLE, not (eqb entries 0) || not (is_store_of n bytes)) ∷ ((SETUP, wrong_browser b) ∷ []))))
+    ((Time, wrong_time b now || eqb entries 1) ∷ ((Buffer, small_buffer room) ∷
+    ((Table, not (eqb entries 0) || not (is_store_of n bytes)) ∷ ((Setup, wrong_browser b) ∷ []))))
 
 unfoldable pub look_refusal_with : ℕ → ℕ → ℕ → Browser → ℕ → ℕ
 look_refusal_with entries n bytes b now = tick_refusal_with entries n bytes b now 1452

@@ -3,7 +3,9 @@
 use Rattle.std.specs.Prelude.{ℕ, ◌+◌, ◌*◌, ◌^◌, List, [], ◌∷◌, ◌++◌, Bool, cond, not, ◌&&◌, ◌||◌, length, get_or, set, replicate, ltb, leb, eqb}
 use Rattle.std.proofs.lemmas.List.Edits.{sets}
 use Rattle.wire.specs.Lists.{some}
-use Rattle.wire.specs.refusals.Numbers.{TIME, MALFORMED, TABLE, first_refusal}
+use Rattle.wire.specs.refusals.Numbers.{first_refusal}
+use Rattle.wire.specs.declared.refusals.Refusal.{Refusal}
+use Rattle.wire.specs.declared.refusals.Refusal.TheVariants.{Malformed, Table, Time}
 use Rattle.wire.specs.names.Names.{is_name}
 use Rattle.wire.specs.nsec.Nsec.{is_nsec}
 use Rattle.wire.specs.message.Message.{Record, Message, class_of, top_bit, is_response}
@@ -132,18 +134,18 @@ abbrev pub bad_name : List ℕ → Bool
 bad_name name = not (is_name name)
 
 -- the refusals of a table, which both calls begin with
-abbrev pub table_tests : ℕ → List Entry → List (ℕ × Bool)
-table_tests now es = (TIME, bad_time now es) ∷ ((TABLE, bad_table es) ∷ [])
+abbrev pub table_tests : ℕ → List Entry → List (Refusal × Bool)
+table_tests now es = (Time, bad_time now es) ∷ ((Table, bad_table es) ∷ [])
 
 unfoldable pub entries_refusal : ℕ → List Entry → ℕ
 entries_refusal now es = first_refusal (table_tests now es)
 
 -- "Each call tests those that apply to it in the order 1, 2, 3, 8, 4, 5, 6, ..": the refusals of a message taken and of a lookup, behind those of the table
-abbrev pub take_tests : List Entry → List ℕ → ℕ → List ℕ → List (ℕ × Bool)
-take_tests es store port p = (TABLE, bad_store es store) ∷ message_tests port p
+abbrev pub take_tests : List Entry → List ℕ → ℕ → List ℕ → List (Refusal × Bool)
+take_tests es store port p = (Table, bad_store es store) ∷ message_tests port p
 
-abbrev pub look_tests : List Entry → List ℕ → List ℕ → List (ℕ × Bool)
-look_tests es store name = (TABLE, bad_store es store) ∷ ((MALFORMED, bad_name name) ∷ [])
+abbrev pub look_tests : List Entry → List ℕ → List ℕ → List (Refusal × Bool)
+look_tests es store name = (Table, bad_store es store) ∷ ((Malformed, bad_name name) ∷ [])
 
 unfoldable pub take_refusal : ℕ → List Entry → List ℕ → ℕ → List ℕ → ℕ
 take_refusal now es store port p = first_refusal (table_tests now es ++ take_tests es store port p)

@@ -1,6 +1,7 @@
 -- What a lookup answers (specification, 'The cache'). Assumes nothing: these are definitions.
 use Rattle.std.specs.Prelude.{ℕ, List, [], ◌∷◌, cond, not, length, eqb}
-use Rattle.wire.specs.refusals.Numbers.{TABLE, MALFORMED, first_refusal}
+use Rattle.wire.specs.refusals.Numbers.{first_refusal}
+use Rattle.wire.specs.declared.refusals.Refusal.TheVariants.{Malformed, Table}
 use Rattle.cache.specs.declared.entries.Entry.{Entry}
 use Rattle.cache.specs.declared.entries.Slot.{Slot}
 use Rattle.cache.specs.declared.entries.Slot.TheVariants as s
@@ -30,4 +31,4 @@ looked_of now es store name rtype from = looked_with name (look_refusal now es s
 
 -- a lookup's refusal, from that of the entries of its table of n
 abbrev pub looked_refusal : ℕ → ℕ → List ℕ → List ℕ → ℕ
-looked_refusal number n store name = cond (eqb number 0) (first_refusal ((TABLE, not (is_store_of n (length store))) ∷ ((MALFORMED, bad_name name) ∷ []))) number
+looked_refusal number n store name = cond (eqb number 0) (first_refusal ((Table, not (is_store_of n (length store))) ∷ ((Malformed, bad_name name) ∷ []))) number

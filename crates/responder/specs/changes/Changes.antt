@@ -1,7 +1,8 @@
 -- A stop and an update (specification, 'Stops and updates'): refusals, the answer, the state after the call and the packet that it sends. Assumes nothing: these
 -- are definitions.
 use Rattle.std.specs.Prelude.{ℕ, Bool, cond, not, ◌||◌, List, [], ◌∷◌, ◌≡◌, length, eqb}
-use Rattle.wire.specs.refusals.Numbers.{TIME, BUFFER, SETUP, LOST, TOO-SOON, first_refusal}
+use Rattle.wire.specs.refusals.Numbers.{first_refusal}
+use Rattle.wire.specs.declared.refusals.Refusal.TheVariants as cause
 use Rattle.own.specs.declared.records.Setup.{Setup}
 use Rattle.own.specs.records.Setups.{valid_setup}
 use Rattle.own.specs.changes.Changes.{NewData, revised, change_of}
@@ -54,8 +55,8 @@ pub record Update : Type 0 where
 unfoldable pub refusal_to : State → ℕ → ℕ → Setup → ℕ
 refusal_to s time room new =
     first_refusal
-    ((TIME, wrong_time s.progress time) ∷ ((BUFFER, small_buffer room) ∷ ((SETUP, wrong_state s || not (valid_setup new)) ∷
-    ((LOST, changes.lost_to_update s.progress) ∷ ((TOO-SOON, changes.too_soon s.progress time) ∷ [])))))
+    ((cause.Time, wrong_time s.progress time) ∷ ((cause.Buffer, small_buffer room) ∷ ((cause.Setup, wrong_state s || not (valid_setup new)) ∷
+    ((cause.Lost, changes.lost_to_update s.progress) ∷ ((cause.TooSoon, changes.too_soon s.progress time) ∷ [])))))
 
 -- what an update does to the claims, and which record it announces
 abbrev pub renewed_of : State → ℕ → Change → announcements.Updated
