@@ -14,17 +14,10 @@ use Rattle.own.specs.records.Records.{has_record, own_name, own_rdata}
 use Rattle.facts.specs.Facts.{conflicts, conflicted, in_conflict, response_to}
 
 -- a test on two lists, one after the other
-module _ {A : Type 0} (test : A → Bool) (xs ys : List A) (v : Bool) (is : v ≡ some test xs) where
-  some-append : (zs : List A) → some test (zs ++ ys) ≡ (some test zs || some test ys)
-  unfolding some
-  some-append [] = refl
-  some-append (z ∷ zs) = ap (λ (b : Bool). test z || b) (some-append zs) ∙ sym (or_assoc (test z) (some test zs) (some test ys))
-
-  pub in_first : v ≡ true → true ≡ some test (xs ++ ys)
-  in_first e = sym (some-append xs ∙ ap (λ (b : Bool). b || some test ys) (sym is ∙ e))
-
-  pub in_second : v ≡ false → (w : Bool) → w ≡ some test ys → w ≡ some test (xs ++ ys)
-  in_second e w h = h ∙ sym (some-append xs ∙ ap (λ (b : Bool). b || some test ys) (sym is ∙ e))
+pub some_append : {A : Type 0} (test : A → Bool) (xs ys : List A) → some test (xs ++ ys) ≡ (some test xs || some test ys)
+unfolding some
+some_append test [] ys = refl
+some_append test (x ∷ xs) ys = ap (λ (b : Bool). test x || b) (some_append test xs ys) ∙ sym (or_assoc (test x) (some test xs) (some test ys))
 
 -- an own record that the set-up has, by its name, type and rdata that were made; and one that it has not
 module _ (s : Setup) (o : Own) (m : Message) (h : Bool) (is : h ≡ has_record s o) where

@@ -1,4 +1,5 @@
 -- The tests on a question or a record, one after the other. Assumes nothing.
+use Rattle.std.specs.Prelude.{Some}
 use mathlib.Core.Path.{◌≡◌, refl, sym, ap, ◌∙◌}
 use mathlib.Core.List.{List}
 use mathlib.Core.Bool.{Bool, true, false, cond, not, ◌&&◌, ◌||◌, and-false, and-true, or-false}
@@ -15,9 +16,7 @@ use Rattle.wire.specs.message.Layout.{bytes_of, question_read}
 use Rattle.wire.specs.message.Readable.{whole_read, record_shown}
 use Rattle.wire.specs.declared.names.Span.{Span}
 use Rattle.wire.specs.declared.message.QuestionAt.{QuestionAt}
-use Rattle.wire.specs.declared.message.QuestionRead.TheVariants as q
 use Rattle.wire.specs.declared.message.RecordAt.{RecordAt}
-use Rattle.wire.specs.declared.message.RecordRead.TheVariants as r
 use Rattle.wire.proofs.case_folding.Equal.{same_lengths}
 use Rattle.wire.proofs.message.Cursor.{question-fields}
 use Rattle.wire.proofs.message.Walk.{record_found}
@@ -131,13 +130,13 @@ module _ (name : List ℕ) (rtype : ℕ) (own : List ℕ) (r : Record) where
           k ∙ sym (simp (sym e ∙ h, eq-eqb (class_of r.class) 1 c, eq-eqb r.rtype rtype t, le-leb ttl (2 * r.ttl) l, and-true))
 
 -- a name and its length, of a question and of a record that were found; and one of another length is another name
-pub question-long : (p : List ℕ) (at : ℕ) (f : QuestionAt) → question_read p at ≡ q.Found f → Long p f.name f.span.len
+pub question-long : (p : List ℕ) (at : ℕ) (f : QuestionAt) → question_read p at ≡ Some f → Long p f.name f.span.len
 unfolding question_read
 question-long p at f is =
     let k = question-fields p at (name_at p at) f is in
     (bytes_of (name_at p at), (k.2.0, (ap (name_at p) k.0 ∙ k.2.1, ap (λ (s : Span). s.len) k.1.1)))
 
-pub record_long : (p : List ℕ) (at : ℕ) (f : RecordAt) → whole_read p at ≡ r.Found f → Long p f.owner f.span.len
+pub record_long : (p : List ℕ) (at : ℕ) (f : RecordAt) → whole_read p at ≡ Some f → Long p f.owner f.span.len
 record_long p at f is = let m = record_found p at _ (sym is) f refl in ((record_shown p f).owner, (m.end, (m.owner, m.span)))
 
 pub other_length : (p : List ℕ) (at len : ℕ) (own : List ℕ) → Long p at len → (len ≡ length own → ⊥) → false ≡ name_is p at own

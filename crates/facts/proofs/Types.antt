@@ -21,7 +21,7 @@ use Rattle.own.specs.declared.records.Setup.{Setup}
 use Rattle.own.specs.records.Records.{has_record, own_name, own_rdata}
 use Rattle.facts.specs.Facts.{conflicts, conflicted, in_conflict, response_to}
 use Rattle.facts.specs.Types.{can_conflict, type_conflicts, some_type, may_conflict}
-use Rattle.facts.proofs.Responses.{in_second}
+use Rattle.facts.proofs.Responses.{some_append}
 
 -- the test of a type, one after the other
 module _ (rtype : ℕ) where
@@ -79,8 +79,8 @@ module _ (name own : List ℕ) (rtype : ℕ) (can : can_conflict rtype ≡ true)
         let xs = readable (record_at p) l.answers.count l.answers.at in
         let ys = readable (record_at p) l.authorities.count l.authorities.at in
         let zs = readable (record_at p) l.additionals.count l.additionals.at in
-        sym (in_second test xs (ys ++ zs) false (sym (none_in l.answers x.0)) refl false
-        (in_second test ys zs false (sym (none_in l.authorities y.0)) refl false (sym (none_in l.additionals y.1))))
+        some_append test xs (ys ++ zs) ∙ ap (λ (b : Bool). b || some test (ys ++ zs)) (none_in l.answers x.0)
+        ∙ some_append test ys zs ∙ ap (λ (b : Bool). b || some test zs) (none_in l.authorities y.0) ∙ none_in l.additionals y.1
 
 module _ (s : Setup) (p : List ℕ) (l : Layout) (h : may_conflict p l ≡ false) where
   not-conflicted : (o : Own) → can_conflict (own_type o) ≡ true → conflicted s o (message_in p l) ≡ false

@@ -13,6 +13,8 @@ ghost use Rattle.facts.specs.tiebreak.Later.{TieRecord, number_of, is_later, com
 ghost use Rattle.facts.specs.tiebreak.Lists.{tie_record, list_in, own_record, own_list, theirs};
 ghost use Rattle.facts.specs.tiebreak.Counts.{count_one, count_met, count_all, none_counted, placed, beyond};
 
+use wire::message::{Layout, RecordAt, Section};
+
 // How one list stands to another. the specification's numbers are -1, 0 and 1.
 #[derive(Clone, Copy)]
 pub enum Verdict {
@@ -83,7 +85,7 @@ fn compare_records(
 }
 
 // How a record of the packet compares with an own one.
-fn compare_with_own(p: &[u8], f: wire::message::RecordAt, rtype: u16, own: &[u8]) -> Verdict
+fn compare_with_own(p: &[u8], f: RecordAt, rtype: u16, own: &[u8]) -> Verdict
     requires { fits (rdata_at p.now f) ≡ true }
     ensures { result ≡ compare_records (tie_record (record_shown p.now f)) (own_record rtype own.now) }
 {
@@ -123,7 +125,7 @@ fn count_one(v: Verdict, c: Counts) -> Counts
 fn count_met(
     p: &[u8],
     ends: &[u16],
-    f: wire::message::RecordAt,
+    f: RecordAt,
     name: &[u8],
     rtype: u16,
     own: &[u8],
@@ -142,14 +144,7 @@ fn count_met(
 }
 
 // Counts of the records of a section that are under a name, against an own record.
-fn count_under(
-    p: &[u8],
-    ends: &[u16],
-    s: wire::message::Section,
-    name: &[u8],
-    rtype: u16,
-    own: &[u8],
-) -> Counts
+fn count_under(p: &[u8], ends: &[u16], s: Section, name: &[u8], rtype: u16, own: &[u8]) -> Counts
     requires ends { Ends p.now ends.now }
     requires whole { Whole (record_at p.now) ends.now s.count s.at }
     ensures { result ≡ count_all (own_record rtype own.now) (list_in name.now p.now s) none_counted }
@@ -160,18 +155,12 @@ fn count_under(
         same: 0,
     };
     let mut here = s.at;
-    let mut left = s.count;
-    while 0 < left {
-        match crate::chains::record_step(p, ends, here) {
-            wire::message::RecordRead::Found(f) => {
-                c = count_met(p, ends, f, name, rtype, own, c);
-                here = f.next;
-            }
-            wire::message::RecordRead::Malformed => {
-                return c;
-            }
-        }
-        left -= 1;
+    for _read in 0..s.count {
+        let Some(f) = crate::chains::record_step(p, ends, here) else {
+            return c;
+        };
+        c = count_met(p, ends, f, name, rtype, own, c);
+        here = f.next;
     }
     c
 }
@@ -203,14 +192,7 @@ fn past_own(k: u16, c: Counts) -> Verdict
 }
 
 // The tiebreak with an own list of one record.
-fn against_one(
-    p: &[u8],
-    ends: &[u16],
-    s: wire::message::Section,
-    name: &[u8],
-    rtype: u16,
-    own: &[u8],
-) -> Verdict
+fn against_one(p: &[u8], ends: &[u16], s: Section, name: &[u8], rtype: u16, own: &[u8]) -> Verdict
     requires ends { Ends p.now ends.now }
     requires whole { Whole (record_at p.now) ends.now s.count s.at }
     ensures { result ≡ tie (list_in name.now p.now s) (own_record rtype own.now ∷ []) }
@@ -227,7 +209,7 @@ fn against_one(
 fn against_two(
     p: &[u8],
     ends: &[u16],
-    s: wire::message::Section,
+    s: Section,
     name: &[u8],
     rtype: u16,
     own: &[u8],
@@ -268,7 +250,7 @@ pub struct OwnTypes {
 pub(crate) fn tie_by(
     p: &[u8],
     ends: &[u16],
-    l: wire::message::Layout,
+    l: Layout,
     name: &[u8],
     own: OwnTypes,
     first: &[u8],
@@ -294,7 +276,7 @@ pub(crate) fn tie_by(
 // The same, of any layout.
 pub fn tiebreak(
     p: &[u8],
-    l: wire::message::Layout,
+    l: Layout,
     name: &[u8],
     own: OwnTypes,
     first: &[u8],
