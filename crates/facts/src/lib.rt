@@ -28,6 +28,7 @@ ghost use Rattle.facts.specs.Facts.{is_truncated, facts_of};
 use claims::answers::{Facts, Heard};
 use claims::records::{Claim, Own, RECORDS, Set};
 use own::records::Setup;
+use std::cmp::Ordering;
 use wire::message::{Layout, QuestionAt, RecordAt, Section};
 use wire::rdata::part;
 
@@ -400,14 +401,10 @@ fn response_to(p: &[u8], ends: &[u16], l: Layout, setup: Setup, claim: Claim) ->
 }
 
 // Whether a verdict says that theirs is later.
-fn is_later(v: crate::tiebreak::Verdict) -> bool
+fn is_later(v: Ordering) -> bool
     ensures { result ≡ is_later v }
 {
-    match v {
-        crate::tiebreak::Verdict::Earlier => false,
-        crate::tiebreak::Verdict::Same => false,
-        crate::tiebreak::Verdict::Later => true,
-    }
+    v.is_gt()
 }
 
 // Whether the records of a message under the name of a claim are later than its own.
@@ -422,8 +419,9 @@ fn theirs_later(p: &[u8], ends: &[u16], l: Layout, setup: Setup, claim: Claim) -
     let two = own::records::own_rdata(setup, second);
     let own = crate::tiebreak::OwnTypes {
         first: claims::records::own_type(first),
-        second: claims::records::own_type(second),
-        both: own::records::has_record(setup, second),
+        second: own::records::has_record(setup, second).then_some(claims::records::own_type(
+            second,
+        )),
     };
     is_later(crate::tiebreak::tie_by(
         p,
