@@ -4,13 +4,13 @@ ghost use Rattle.browser.specs.list.Listing.{is_shown, shows_too, is_listed};
 ghost use Rattle.browser.specs.Calls.{list_of, refused_list, found_list};
 
 use crate::Browser;
-use cache::entries::{Entry, Slot};
+use cache::entries::Entry;
 
 // The number of a refusal, or 0; and the lowest listed slot, if there is one.
 #[derive(Clone, Copy)]
 pub struct Listed {
     pub refusal: u8,
-    pub slot: Slot,
+    pub slot: Option<usize>,
 }
 
 // Whether the entry in slot i is a live, well-formed PTR entry of the name.
@@ -85,7 +85,7 @@ pub(crate) fn refused_list(refusal: u8) -> Listed
 {
     Listed {
         refusal,
-        slot: Slot::Nowhere,
+        slot: None,
     }
 }
 
@@ -94,7 +94,7 @@ pub(crate) fn found_list(slot: usize) -> Listed
 {
     Listed {
         refusal: 0,
-        slot: Slot::At(slot),
+        slot: Some(slot),
     }
 }
 
@@ -103,7 +103,7 @@ pub(crate) fn nothing_listed() -> Listed
 {
     Listed {
         refusal: 0,
-        slot: Slot::Nowhere,
+        slot: None,
     }
 }
 

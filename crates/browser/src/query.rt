@@ -8,7 +8,6 @@ ghost use Rattle.browser.specs.query.Drafts.{no_header, head_bytes, opened, reco
 
 use crate::Browser;
 use crate::known_answers::{Known, MOST_KNOWN, Plan};
-use cache::entries::Slot;
 use writer::{Placed, Spot};
 
 // The most bytes of a packet.
@@ -32,15 +31,15 @@ fn known_count(plan: Plan) -> usize
 }
 
 // The slot of the first known answer of a plan behind the first k.
-pub(crate) fn stop_at(plan: Plan, k: usize) -> Slot
+pub(crate) fn stop_at(plan: Plan, k: usize) -> Option<usize>
     ensures { result ≡ stop_at plan k }
 {
     if k < known_count(plan) {
         let known = plan.known;
         let first = known[k];
-        return Slot::At(first.slot);
+        return Some(first.slot);
     }
-    Slot::Nowhere
+    None
 }
 
 // Writes the question, if one is asked, behind room for a header.

@@ -17,13 +17,6 @@ pub struct Entry {
     pub ttl: u64,
 }
 
-// A slot of the table, or that there is none.
-#[derive(Clone, Copy)]
-pub enum Slot {
-    At(usize),
-    Nowhere,
-}
-
 // The most bytes of an owner and of rdata that an entry may have.
 pub const MOST_OWNER: u16 = 255;
 

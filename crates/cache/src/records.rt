@@ -19,25 +19,16 @@ pub struct Heard {
     pub named: bool,
 }
 
-// What becomes of a record: a kind of change, and the slot that it changes.
+// What becomes of a record: nothing; the entry in a slot is to expire, is refreshed, or takes the record; the record is turned away; it is passed over.
 #[derive(Clone, Copy)]
-pub struct Choice {
-    pub kind: u8,
-    pub slot: usize,
+pub enum Choice {
+    Leave,
+    Expire(usize),
+    Refresh(usize),
+    Fill(usize),
+    TurnAway,
+    PassOver,
 }
-
-// The kinds of change: none; an entry is to expire; it is refreshed; it takes the record; the record is turned away; it is passed over.
-pub const LEAVE: u8 = 0;
-
-pub const EXPIRE: u8 = 1;
-
-pub const REFRESH: u8 = 2;
-
-pub const FILL: u8 = 3;
-
-pub const TURN_AWAY: u8 = 4;
-
-pub const PASS_OVER: u8 = 5;
 
 // Whether records of a class and a type are cached; of NSEC only the restricted kind is.
 pub fn is_cached(class: u16, rtype: u16, restricted: bool) -> bool
@@ -214,44 +205,23 @@ pub fn chosen(h: Heard, n: usize, equal: usize, free: usize) -> Choice
     ensures { result ≡ chosen_of h n equal free }
 {
     if !is_taken(h) {
-        return Choice {
-            kind: LEAVE,
-            slot: 0,
-        };
+        return Choice::Leave;
     }
     if (crate::entries::MOST_RDATA as usize) < h.len {
-        return Choice {
-            kind: PASS_OVER,
-            slot: 0,
-        };
+        return Choice::PassOver;
     }
     let f = h.at;
     if equal < n {
         if f.ttl == 0 {
-            return Choice {
-                kind: EXPIRE,
-                slot: equal,
-            };
+            return Choice::Expire(equal);
         }
-        return Choice {
-            kind: REFRESH,
-            slot: equal,
-        };
+        return Choice::Refresh(equal);
     }
     if f.ttl == 0 {
-        return Choice {
-            kind: LEAVE,
-            slot: 0,
-        };
+        return Choice::Leave;
     }
     if free < n {
-        return Choice {
-            kind: FILL,
-            slot: free,
-        };
+        return Choice::Fill(free);
     }
-    Choice {
-        kind: TURN_AWAY,
-        slot: 0,
-    }
+    Choice::TurnAway
 }

@@ -7,8 +7,8 @@ ghost use Rattle.cache.specs.records.Heard.{heard_at};
 ghost use Rattle.capi_cache.specs.hearing.Hearing.{nothing_heard, heard_with, named_over, rdata_over, heard_in};
 
 use cache::records::Heard;
-use wire::message::{RecordAt, RecordRead};
-use wire::names::{Name, Span};
+use wire::message::RecordAt;
+use wire::names::Span;
 use wire::rdata::Form;
 
 // No record.
@@ -63,7 +63,7 @@ fn hear_named(slot: &mut [u8], p: &[u8], f: RecordAt, form: Form) -> Heard
     let place = 256 + before;
     lay(slot, 256, p, f.rdata, before);
     match wire::runs::name_into(p, from, &mut slot[place..]) {
-        Name::Found(span) => {
+        Some(span) => {
             lay(slot, place + span.len, p, to, behind);
             if span.end != to {
                 return unheard();
@@ -75,7 +75,7 @@ fn hear_named(slot: &mut [u8], p: &[u8], f: RecordAt, form: Form) -> Heard
                 named: true,
             }
         }
-        Name::Malformed => unheard(),
+        None => unheard(),
     }
 }
 
@@ -105,11 +105,11 @@ pub(crate) fn hear(slot: &mut [u8], p: &[u8], at: usize) -> Heard
     requires { length slot.old ≡ 1024 }
     ensures { (result ≡ heard_at p.now at) × (slot.new ≡ heard_in p.now at slot.old) }
 {
-    let Name::Found(span) = wire::runs::name_into(p, at, slot) else {
+    let Some(span) = wire::runs::name_into(p, at, slot) else {
         return unheard();
     };
     match wire::message::record_behind(p, at, span) {
-        RecordRead::Found(f) => hear_rdata(slot, p, f),
-        RecordRead::Malformed => unheard(),
+        Some(f) => hear_rdata(slot, p, f),
+        None => unheard(),
     }
 }

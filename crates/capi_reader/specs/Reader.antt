@@ -1,9 +1,10 @@
 -- What the exported functions answer. Assumes nothing: these are definitions.
-use Rattle.std.specs.Prelude.{ℕ, ◌-◌, ◌++◌, cond, length, replicate, leb}
+use Rattle.std.specs.Prelude.{ℕ, ◌-◌, ◌++◌, cond, length, replicate, leb, Result, Ok, Err}
 use Rattle.wire.specs.labels.Counted.{labels_in, first_in}
 use Rattle.wire.specs.names.Names.{Reading, name, malformed}
-use Rattle.wire.specs.declared.message.MessageRead.{MessageRead}
-use Rattle.wire.specs.declared.message.MessageRead.TheVariants as m
+use Rattle.wire.specs.refusals.Numbers.{number_of}
+use Rattle.wire.specs.declared.message.Layout.{Layout}
+use Rattle.wire.specs.declared.refusals.Refusal.{Refusal}
 use Rattle.capi_reader.specs.declared.Name.{Name}
 use Rattle.capi_reader.specs.declared.NameSpan.{NameSpan}
 use Rattle.capi_reader.specs.declared.Sections.{Sections}
@@ -33,8 +34,8 @@ span_within room (name bs e) =
 span_within room malformed = no_span
 
 -- where the parts of a message lie; all is 0 but the refusal where there is one
-abbrev pub sections_of : MessageRead → Sections
-sections_of (m.Read l) = record {
+abbrev pub sections_of : Result Layout Refusal → Sections
+sections_of (Ok l) = record {
   refusal = 0;
   id = l.id;
   flags = l.flags;
@@ -48,8 +49,8 @@ sections_of (m.Read l) = record {
   additionals_at = l.additionals.at;
   end = l.end;
 }
-sections_of (m.Refused n) = record {
-  refusal = n;
+sections_of (Err refusal) = record {
+  refusal = number_of refusal;
   id = 0;
   flags = 0;
   questions = 0;

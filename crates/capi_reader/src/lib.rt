@@ -9,6 +9,8 @@ ghost use Rattle.wire.specs.names.Names.{name_at};
 ghost use Rattle.wire.specs.runs.Written.{with_name};
 ghost use Rattle.capi_reader.specs.Reader.{end_of, length_of, name_of, span_within, sections_of};
 
+use wire::names::{expand, read_name};
+
 // A name: its uncompressed length, 0 where it is malformed, how many labels it has and how long the first is, 0 and 0 of the root, and its bytes, with zeros
 // behind them.
 #[repr(C)]
@@ -23,7 +25,7 @@ pub struct Name {
 // A name that was written into a buffer: where it ends in the message, its uncompressed length, how many labels it has and how long the first is. All are 0
 // where it is malformed or longer than the buffer.
 #[repr(C)]
-#[derive(Clone, Copy)]
+#[derive(Clone, Copy, Default)]
 pub struct NameSpan {
     pub end: usize,
     pub length: usize,
@@ -33,7 +35,7 @@ pub struct NameSpan {
 
 // Where the parts of a message lie: the refusal, and where it is 0 the ID, the flags, each section's offset and count, and the offset past the last record.
 #[repr(C)]
-#[derive(Clone, Copy)]
+#[derive(Clone, Copy, Default)]
 pub struct Sections {
     pub refusal: u8,
     pub id: u16,
@@ -53,9 +55,9 @@ pub struct Sections {
 pub fn kurgashel_name_end(message: &[u8], at: usize) -> usize
     ensures { result ≡ end_of (name_at message.now at) }
 {
-    match wire::names::read_name(message, at) {
-        wire::names::Name::Found(span) => span.end,
-        wire::names::Name::Malformed => 0,
+    match read_name(message, at) {
+        Some(span) => span.end,
+        None => 0,
     }
 }
 
@@ -63,10 +65,10 @@ pub fn kurgashel_name_end(message: &[u8], at: usize) -> usize
 pub fn kurgashel_name_length(message: &[u8], at: usize) -> usize
     ensures { result ≡ length_of (name_at message.now at) }
 {
-    let found = wire::names::read_name(message, at);
+    let found = read_name(message, at);
     match found {
-        wire::names::Name::Found(span) => span.len,
-        wire::names::Name::Malformed => 0,
+        Some(span) => span.len,
+        None => 0,
     }
 }
 
@@ -74,17 +76,16 @@ pub fn kurgashel_name_length(message: &[u8], at: usize) -> usize
 pub fn kurgashel_name(message: &[u8], at: usize) -> Name
     ensures { result ≡ name_of (name_at message.now at) }
 {
-    let expanded = wire::names::expand(message, at);
-    let name = expanded.name;
+    let expanded = expand(message, at);
     let bytes = expanded.bytes;
-    match name {
-        wire::names::Name::Found(span) => Name {
+    match expanded.name {
+        Some(span) => Name {
             length: span.len,
             labels: span.labels,
             first_label: span.first,
             bytes,
         },
-        wire::names::Name::Malformed => Name {
+        None => Name {
             length: 0,
             labels: 0,
             first_label: 0,
@@ -100,28 +101,13 @@ pub fn kurgashel_name_into(message: &[u8], at: usize, out: &mut [u8]) -> NameSpa
 {
     let room = out.len();
     match wire::runs::name_into(message, at, out) {
-        wire::names::Name::Found(read) => {
-            if room < read.len {
-                return NameSpan {
-                    end: 0,
-                    length: 0,
-                    labels: 0,
-                    first_label: 0,
-                };
-            }
-            NameSpan {
-                end: read.end,
-                length: read.len,
-                labels: read.labels,
-                first_label: read.first,
-            }
-        }
-        wire::names::Name::Malformed => NameSpan {
-            end: 0,
-            length: 0,
-            labels: 0,
-            first_label: 0,
+        Some(read) if read.len <= room => NameSpan {
+            end: read.end,
+            length: read.len,
+            labels: read.labels,
+            first_label: read.first,
         },
+        _ => NameSpan::default(),
     }
 }
 
@@ -130,7 +116,7 @@ pub fn kurgashel_message(message: &[u8]) -> Sections
     ensures { result ≡ sections_of (read_of (message_at message.now)) }
 {
     match wire::message::read_message(message) {
-        wire::message::MessageRead::Read(l) => Sections {
+        Ok(l) => Sections {
             refusal: 0,
             id: l.id,
             flags: l.flags,
@@ -144,19 +130,9 @@ pub fn kurgashel_message(message: &[u8]) -> Sections
             additionals_at: l.additionals.at,
             end: l.end,
         },
-        wire::message::MessageRead::Refused(number) => Sections {
-            refusal: number,
-            id: 0,
-            flags: 0,
-            questions: 0,
-            answers: 0,
-            authorities: 0,
-            additionals: 0,
-            questions_at: 0,
-            answers_at: 0,
-            authorities_at: 0,
-            additionals_at: 0,
-            end: 0,
+        Err(refusal) => Sections {
+            refusal: refusal.number(),
+            ..Sections::default()
         },
     }
 }

@@ -10,7 +10,7 @@ pub fn kurgashel_message_refusal(message: &[u8]) -> u8
     ensures { result ≡ refusal_of (read_of (message_at message.now)) }
 {
     match wire::message::read_message(message) {
-        wire::message::MessageRead::Read(_) => 0,
-        wire::message::MessageRead::Refused(number) => number,
+        Ok(_) => 0,
+        Err(refusal) => refusal.number(),
     }
 }

@@ -1,5 +1,5 @@
 -- A question and a record of a message, in numbers. Assumes nothing: these are definitions.
-use Rattle.std.specs.Prelude.{ℕ, ◌+◌, ◌≡◌, refl, List, Bool, true, false, cond, ◌&&◌, length, leb}
+use Rattle.std.specs.Prelude.{ℕ, ◌+◌, ◌≡◌, refl, List, Bool, true, false, cond, ◌&&◌, length, leb, Option, Some, None}
 use Rattle.std.proofs.Common.{sym, ap, ◌∙◌}
 use Rattle.wire.specs.octets.Octets.{word16, word32}
 use Rattle.wire.specs.names.Names.{Reading, name, name_at}
@@ -7,17 +7,14 @@ use Rattle.wire.specs.names.Answers.{span_of}
 use Rattle.wire.specs.declared.message.RecordAt.{RecordAt}
 use Rattle.wire.specs.message.Message.{ttl_of}
 use Rattle.wire.specs.message.Layout.{record_from, record_read}
-use Rattle.wire.specs.declared.message.QuestionRead.{QuestionRead}
-use Rattle.wire.specs.declared.message.QuestionRead.TheVariants as q
-use Rattle.wire.specs.declared.message.RecordRead.{RecordRead}
-use Rattle.wire.specs.declared.message.RecordRead.TheVariants as r
+use Rattle.wire.specs.declared.message.QuestionAt.{QuestionAt}
 use Rattle.capi_reader_walk.specs.declared.Question.{Question}
 use Rattle.capi_reader_walk.specs.declared.Record.{Record}
 use Rattle.capi_reader_walk.specs.declared.Fields.{Fields}
 
 -- a question and a record as they lie; all is 0 where none is found
-abbrev pub walked_question : QuestionRead → Question
-walked_question (q.Found x) = record {
+abbrev pub walked_question : Option QuestionAt → Question
+walked_question (Some x) = record {
   found = true;
   rtype = x.rtype;
   class = x.class;
@@ -27,11 +24,11 @@ walked_question (q.Found x) = record {
   name_first_label = x.span.first;
   next = x.next;
 }
-walked_question q.Malformed =
+walked_question None =
     record { found = false; rtype = 0; class = 0; name = 0; name_length = 0; name_labels = 0; name_first_label = 0; next = 0 }
 
-abbrev pub walked_record : RecordRead → Record
-walked_record (r.Found x) = record {
+abbrev pub walked_record : Option RecordAt → Record
+walked_record (Some x) = record {
   found = true;
   rtype = x.rtype;
   class = x.class;
@@ -44,7 +41,7 @@ walked_record (r.Found x) = record {
   rdata_length = x.rdlength;
   next = x.next;
 }
-walked_record r.Malformed = record {
+walked_record None = record {
   found = false;
   rtype = 0;
   class = 0;
@@ -106,6 +103,6 @@ of_record p at bs e h =
       next = e + 10 + word16 p (e + 8);
     }
 
-    go : (b : Bool) → cond b (fields_of (walked_record (r.Found found))) no_fields ≡ fields_of (walked_record (cond b (r.Found found) r.Malformed))
+    go : (b : Bool) → cond b (fields_of (walked_record (Some found))) no_fields ≡ fields_of (walked_record (cond b (Some found) None))
     go true = refl
     go false = refl

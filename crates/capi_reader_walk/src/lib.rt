@@ -10,10 +10,15 @@ ghost use Rattle.wire.specs.rdata.Readers.{string_at};
 ghost use Rattle.capi_reader_walk.specs.Walked.{walked_question, walked_record, fields_at};
 ghost use Rattle.capi_reader_walk.specs.Parts.{address_of, address_at, srv_of, srv_at, nsec_at, string_of};
 
+use wire::message::{counted_ttl, question_at, record_at};
+use wire::octets::{be16, be32};
+use wire::rdata::{StringRead, address_in, name_in, next_form, part, srv_in, string_at};
+use wire::refusals::MALFORMED;
+
 // A question: whether one is there, where its name starts, how long that is uncompressed, how many labels it has and how long the first is; its type and
 // class, and the offset past it.
 #[repr(C)]
-#[derive(Clone, Copy)]
+#[derive(Clone, Copy, Default)]
 pub struct Question {
     pub found: bool,
     pub rtype: u16,
@@ -28,7 +33,7 @@ pub struct Question {
 // A record: whether one is there, where its owner starts, how long that is uncompressed, how many labels it has and how long the first is; its type, class
 // and TTL, where its rdata starts and how long it is, and the offset past it.
 #[repr(C)]
-#[derive(Clone, Copy)]
+#[derive(Clone, Copy, Default)]
 pub struct Record {
     pub found: bool,
     pub rtype: u16,
@@ -45,7 +50,7 @@ pub struct Record {
 
 // A record without its owner: whether one is there, its type, class and TTL, where its rdata starts and how long it is, and the offset past it.
 #[repr(C)]
-#[derive(Clone, Copy)]
+#[derive(Clone, Copy, Default)]
 pub struct Fields {
     pub found: bool,
     pub rtype: u16,
@@ -67,7 +72,7 @@ pub struct Address {
 // An SRV: whether one is there, its priority, weight and port, and where its target starts, how long that is uncompressed, how many labels it has and how
 // long the first is.
 #[repr(C)]
-#[derive(Clone, Copy)]
+#[derive(Clone, Copy, Default)]
 pub struct Srv {
     pub found: bool,
     pub priority: u16,
@@ -82,7 +87,7 @@ pub struct Srv {
 // An NSEC of the restricted kind: whether one is there; where its next name starts, how long that is uncompressed, how many labels it has and how long the
 // first is; and where its window block starts and how long it is.
 #[repr(C)]
-#[derive(Clone, Copy)]
+#[derive(Clone, Copy, Default)]
 pub struct Nsec {
     pub found: bool,
     pub next: usize,
@@ -95,7 +100,7 @@ pub struct Nsec {
 
 // A string of a TXT: the refusal, whether one is there, where its text starts and how long that is, and where the next string starts.
 #[repr(C)]
-#[derive(Clone, Copy)]
+#[derive(Clone, Copy, Default)]
 pub struct Text {
     pub refusal: u8,
     pub found: bool,
@@ -108,8 +113,8 @@ pub struct Text {
 pub fn kurgashel_question(message: &[u8], at: usize) -> Question
     ensures { result ≡ walked_question (question_read message.now at) }
 {
-    match wire::message::question_at(message, at) {
-        wire::message::QuestionRead::Found(q) => Question {
+    match question_at(message, at) {
+        Some(q) => Question {
             found: true,
             rtype: q.rtype,
             class: q.class,
@@ -119,16 +124,7 @@ pub fn kurgashel_question(message: &[u8], at: usize) -> Question
             name_first_label: q.span.first,
             next: q.next,
         },
-        wire::message::QuestionRead::Malformed => Question {
-            found: false,
-            rtype: 0,
-            class: 0,
-            name: 0,
-            name_length: 0,
-            name_labels: 0,
-            name_first_label: 0,
-            next: 0,
-        },
+        None => Question::default(),
     }
 }
 
@@ -136,8 +132,8 @@ pub fn kurgashel_question(message: &[u8], at: usize) -> Question
 pub fn kurgashel_record(message: &[u8], at: usize) -> Record
     ensures { result ≡ walked_record (record_read message.now at) }
 {
-    match wire::message::record_at(message, at) {
-        wire::message::RecordRead::Found(f) => Record {
+    match record_at(message, at) {
+        Some(f) => Record {
             found: true,
             rtype: f.rtype,
             class: f.class,
@@ -150,66 +146,28 @@ pub fn kurgashel_record(message: &[u8], at: usize) -> Record
             rdata_length: f.rdlength,
             next: f.next,
         },
-        wire::message::RecordRead::Malformed => Record {
-            found: false,
-            rtype: 0,
-            class: 0,
-            ttl: 0,
-            owner: 0,
-            owner_length: 0,
-            owner_labels: 0,
-            owner_first_label: 0,
-            rdata: 0,
-            rdata_length: 0,
-            next: 0,
-        },
+        None => Record::default(),
     }
 }
 
 // What stands behind the owner of a record, which ends at an offset. The owner is not read, so that one that was read is not followed again.
+#[tactic(auto, unfolding(crate::specs::Walked::fields_at))]
 pub fn kurgashel_fields(message: &[u8], end: usize) -> Fields
     ensures { result ≡ fields_at message.now end }
 {
-    if message.len() < end {
-        return Fields {
-            found: false,
-            rtype: 0,
-            class: 0,
-            ttl: 0,
-            rdata: 0,
-            rdata_length: 0,
-            next: 0,
-        };
+    if message.len() < end || message.len() - end < 10 {
+        return Fields::default();
     }
-    if message.len() - end < 10 {
-        return Fields {
-            found: false,
-            rtype: 0,
-            class: 0,
-            ttl: 0,
-            rdata: 0,
-            rdata_length: 0,
-            next: 0,
-        };
-    }
-    let rdata_length = wire::octets::be16(message, end + 8) as usize;
+    let rdata_length = be16(message, end + 8) as usize;
     let rdata = end + 10;
     if message.len() - rdata < rdata_length {
-        return Fields {
-            found: false,
-            rtype: 0,
-            class: 0,
-            ttl: 0,
-            rdata: 0,
-            rdata_length: 0,
-            next: 0,
-        };
+        return Fields::default();
     }
     Fields {
         found: true,
-        rtype: wire::octets::be16(message, end),
-        class: wire::octets::be16(message, end + 2),
-        ttl: wire::message::counted_ttl(wire::octets::be32(message, end + 4)),
+        rtype: be16(message, end),
+        class: be16(message, end + 2),
+        ttl: counted_ttl(be32(message, end + 4)),
         rdata,
         rdata_length,
         next: rdata + rdata_length,
@@ -220,12 +178,12 @@ pub fn kurgashel_fields(message: &[u8], end: usize) -> Fields
 pub fn kurgashel_address(message: &[u8], rtype: u16, at: usize, len: usize) -> Address
     ensures { result ≡ address_of (address_at message.now rtype at len) }
 {
-    let d = wire::rdata::part(message, at, len);
+    let d = part(message, at, len);
     let mut bytes = [0u8; 16];
     if d.len() != len {
         return Address { length: 0, bytes };
     }
-    let address = wire::rdata::address_in(d, rtype);
+    let address = address_in(d, rtype);
     wire::buffer::put(&mut bytes, 0, address);
     Address {
         length: address.len(),
@@ -237,21 +195,12 @@ pub fn kurgashel_address(message: &[u8], rtype: u16, at: usize, len: usize) -> A
 pub fn kurgashel_srv(message: &[u8], at: usize, len: usize) -> Srv
     ensures { result ≡ srv_of (srv_at message.now at len) }
 {
-    let d = wire::rdata::part(message, at, len);
+    let d = part(message, at, len);
     if d.len() != len {
-        return Srv {
-            found: false,
-            priority: 0,
-            weight: 0,
-            port: 0,
-            target: 0,
-            target_length: 0,
-            target_labels: 0,
-            target_first_label: 0,
-        };
+        return Srv::default();
     }
-    match wire::rdata::srv_in(message, at, d) {
-        wire::rdata::SrvRead::Found(s) => Srv {
+    match srv_in(message, at, d) {
+        Some(s) => Srv {
             found: true,
             priority: s.priority,
             weight: s.weight,
@@ -261,16 +210,7 @@ pub fn kurgashel_srv(message: &[u8], at: usize, len: usize) -> Srv
             target_labels: s.span.labels,
             target_first_label: s.span.first,
         },
-        wire::rdata::SrvRead::Malformed => Srv {
-            found: false,
-            priority: 0,
-            weight: 0,
-            port: 0,
-            target: 0,
-            target_length: 0,
-            target_labels: 0,
-            target_first_label: 0,
-        },
+        None => Srv::default(),
     }
 }
 
@@ -278,32 +218,16 @@ pub fn kurgashel_srv(message: &[u8], at: usize, len: usize) -> Srv
 pub fn kurgashel_nsec(message: &[u8], owner: usize, at: usize, len: usize) -> Nsec
     ensures { result ≡ nsec_at message.now owner at len }
 {
-    let d = wire::rdata::part(message, at, len);
+    let d = part(message, at, len);
     if d.len() != len {
-        return Nsec {
-            found: false,
-            next: 0,
-            next_length: 0,
-            next_labels: 0,
-            next_first_label: 0,
-            block: 0,
-            block_length: 0,
-        };
+        return Nsec::default();
     }
-    let held = wire::rdata::next_form(message, owner, at, d);
+    let held = next_form(message, owner, at, d);
     if !held.named {
-        return Nsec {
-            found: false,
-            next: 0,
-            next_length: 0,
-            next_labels: 0,
-            next_first_label: 0,
-            block: 0,
-            block_length: 0,
-        };
+        return Nsec::default();
     }
-    match wire::rdata::name_in(message, at, d, 0, held.behind) {
-        wire::names::Name::Found(span) => Nsec {
+    match name_in(message, at, d, 0, held.behind) {
+        Some(span) => Nsec {
             found: true,
             next: at,
             next_length: span.len,
@@ -312,15 +236,7 @@ pub fn kurgashel_nsec(message: &[u8], owner: usize, at: usize, len: usize) -> Ns
             block: span.end,
             block_length: held.behind,
         },
-        wire::names::Name::Malformed => Nsec {
-            found: false,
-            next: 0,
-            next_length: 0,
-            next_labels: 0,
-            next_first_label: 0,
-            block: 0,
-            block_length: 0,
-        },
+        None => Nsec::default(),
     }
 }
 
@@ -335,27 +251,18 @@ pub fn kurgashel_nsec_names(block: &[u8], rtype: u16) -> bool
 pub fn kurgashel_txt_string(txt: &[u8], at: usize) -> Text
     ensures { result ≡ string_of (string_at txt.now at) }
 {
-    match wire::rdata::string_at(txt, at) {
-        wire::rdata::StringRead::Found(s) => Text {
+    match string_at(txt, at) {
+        StringRead::Found(s) => Text {
             refusal: 0,
             found: true,
             text: s.text,
             length: s.len,
             next: s.next,
         },
-        wire::rdata::StringRead::End => Text {
-            refusal: 0,
-            found: false,
-            text: 0,
-            length: 0,
-            next: 0,
-        },
-        wire::rdata::StringRead::Malformed => Text {
-            refusal: wire::refusals::MALFORMED,
-            found: false,
-            text: 0,
-            length: 0,
-            next: 0,
+        StringRead::End => Text::default(),
+        StringRead::Malformed => Text {
+            refusal: MALFORMED,
+            ..Text::default()
         },
     }
 }

@@ -1,6 +1,5 @@
 -- Laws that belong to no one function.
 pub mod Parts
-pub mod Cases
 pub mod Lengths
 pub mod Stands
 pub mod Multicast

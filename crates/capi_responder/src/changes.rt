@@ -10,15 +10,19 @@ ghost use Rattle.capi_responder.specs.codec.Layout as layout;
 ghost use Rattle.capi_responder.specs.codec.Codec.{bytes16, strings_bytes};
 ghost use Rattle.capi_responder.specs.Exported.{Calls};
 
-use crate::{Called, layout};
+use crate::codec::read_state;
+use crate::encoder::put_progress;
+use crate::{Called, answered, layout, refusal_of};
 use own::records::MOST_TXT;
+use responder::changes;
+use wire::buffer::put;
 
 // Writes a port over that of the set-up.
 fn put_port(state: &mut [u8], port: u16)
     ensures { state.new ≡ sets state.old layout.port (bytes16 port) }
 {
     let bytes = [(port / 256 % 256) as u8, (port % 256) as u8];
-    wire::buffer::put(state, layout::PORT, &bytes);
+    put(state, layout::PORT, &bytes);
 }
 
 // Writes TXT strings over those of the set-up, and their length.
@@ -27,11 +31,11 @@ fn put_txt(state: &mut [u8], txt: &[u8])
     ensures { state.new ≡ sets state.old layout.txt (strings_bytes (strings_of txt.now)) }
 {
     let mut strings = [0u8; MOST_TXT];
-    wire::buffer::put(&mut strings, 0, txt);
-    wire::buffer::put(state, layout::TXT, &strings);
+    put(&mut strings, 0, txt);
+    put(state, layout::TXT, &strings);
     let len = txt.len();
     let tail = [(len / 256 % 256) as u8, (len % 256) as u8];
-    wire::buffer::put(state, layout::TXT + MOST_TXT, &tail);
+    put(state, layout::TXT + MOST_TXT, &tail);
 }
 
 // Ends a responder: writes the goodbye of what it holds, and leaves both claims lost.
@@ -39,15 +43,11 @@ pub fn kurgashel_stop(state: &mut [u8], time: u64, out: &mut [u8]) -> Called
     ensures { (let t : Tick = record { time = time; room = length out.old } in
         Calls state.old (stopped t) out.old result state.new out.new) }
 {
-    let ended = responder::changes::stop(crate::codec::read_state(state), time, out);
-    let answer = ended.answer;
-    if crate::refusal_of(answer) != 0 {
-        return crate::answered(answer, false);
+    let ended = changes::stop(read_state(state), time, out);
+    if refusal_of(ended.answer) == 0 {
+        put_progress(state, ended.state.progress);
     }
-    let after = ended.state;
-    let progress = after.progress;
-    crate::encoder::put_progress(state, progress);
-    crate::answered(answer, false)
+    answered(ended.answer, false)
 }
 
 // Changes the port of the SRV record, and writes its announcement where the instance's name is held.
@@ -55,16 +55,12 @@ pub fn kurgashel_update_port(state: &mut [u8], time: u64, port: u16, out: &mut [
     ensures { (let u : Update = record { time = time; room = length out.old; new = new_port port } in
         Calls state.old (updated u) out.old result state.new out.new) }
 {
-    let changed = responder::changes::update_port(crate::codec::read_state(state), time, port, out);
-    let answer = changed.answer;
-    if crate::refusal_of(answer) != 0 {
-        return crate::answered(answer, false);
+    let changed = changes::update_port(read_state(state), time, port, out);
+    if refusal_of(changed.answer) == 0 {
+        put_port(state, port);
+        put_progress(state, changed.state.progress);
     }
-    let after = changed.state;
-    let progress = after.progress;
-    put_port(state, port);
-    crate::encoder::put_progress(state, progress);
-    crate::answered(answer, false)
+    answered(changed.answer, false)
 }
 
 // Changes the TXT record, and writes its announcement where the instance's name is held.
@@ -72,14 +68,10 @@ pub fn kurgashel_update_txt(state: &mut [u8], time: u64, txt: &[u8], out: &mut [
     ensures { (let u : Update = record { time = time; room = length out.old; new = new_txt txt.now } in
         Calls state.old (updated u) out.old result state.new out.new) }
 {
-    let changed = responder::changes::update_txt(crate::codec::read_state(state), time, txt, out);
-    let answer = changed.answer;
-    if crate::refusal_of(answer) != 0 {
-        return crate::answered(answer, false);
+    let changed = changes::update_txt(read_state(state), time, txt, out);
+    if refusal_of(changed.answer) == 0 {
+        put_txt(state, txt);
+        put_progress(state, changed.state.progress);
     }
-    let after = changed.state;
-    let progress = after.progress;
-    put_txt(state, txt);
-    crate::encoder::put_progress(state, progress);
-    crate::answered(answer, false)
+    answered(changed.answer, false)
 }

@@ -10,18 +10,20 @@ ghost use Rattle.capi_responder.specs.codec.Codec.{setup_of, decode};
 
 use crate::layout;
 use claims::holds::{Address, Hold, Holds};
-use claims::records::{Own, RECORDS, Set};
-use claims::{ClaimState, Multicast, Multicasts, Progress, When};
-use own::records::{Label, Service, Setup, Strings};
-use responder::State;
+use claims::records::{Own, RECORDS, Set, index_of, record_at, set_of};
+use claims::{ClaimState, Multicast, Multicasts, Progress};
+use own::records::{Label, MOST_LABEL, MOST_SERVICE, MOST_TXT, Service, Setup, Strings};
+use responder::{State, blank_state};
+use wire::buffer::put;
+use wire::octets::{be16, be32, byte};
 
 // The 64-bit number at an offset.
 fn be64(b: &[u8], at: usize) -> u64
     requires { at < state_size }
     ensures { result ≡ word64 b.now at }
 {
-    let high = wire::octets::be32(b, at) as u64;
-    let low = wire::octets::be32(b, at + 4) as u64;
+    let high = be32(b, at) as u64;
+    let low = be32(b, at + 4) as u64;
     high * 4294967296 + low
 }
 
@@ -29,7 +31,7 @@ fn be64(b: &[u8], at: usize) -> u64
 fn flag(b: &[u8], at: usize) -> bool
     ensures { result ≡ flag_at b.now at }
 {
-    wire::octets::byte(b, at) % 2 == 1
+    byte(b, at) % 2 == 1
 }
 
 // Fills `out` with the bytes from an offset on.
@@ -38,7 +40,7 @@ fn fill(out: &mut [u8], b: &[u8], at: usize)
     ensures { out.new ≡ part_at b.now at (length out.old) }
 {
     let end = at + out.len();
-    wire::buffer::put(out, 0, &b[at..end]);
+    put(out, 0, &b[at..end]);
 }
 
 // ---- the set-up
@@ -48,11 +50,11 @@ fn label_at(b: &[u8], at: usize) -> Label
     requires { at + most_label ≤ length b.now }
     ensures { result ≡ label_at b.now at }
 {
-    let mut bytes = [0u8; own::records::MOST_LABEL];
+    let mut bytes = [0u8; MOST_LABEL];
     fill(&mut bytes, b, at);
     Label {
         bytes,
-        len: wire::octets::byte(b, at + own::records::MOST_LABEL) as usize,
+        len: byte(b, at + MOST_LABEL) as usize,
     }
 }
 
@@ -60,11 +62,11 @@ fn service_at(b: &[u8], at: usize) -> Service
     requires { at + most_service ≤ length b.now }
     ensures { result ≡ service_at b.now at }
 {
-    let mut bytes = [0u8; own::records::MOST_SERVICE];
+    let mut bytes = [0u8; MOST_SERVICE];
     fill(&mut bytes, b, at);
     Service {
         bytes,
-        len: wire::octets::byte(b, at + own::records::MOST_SERVICE) as usize,
+        len: byte(b, at + MOST_SERVICE) as usize,
     }
 }
 
@@ -72,11 +74,11 @@ fn strings_at(b: &[u8], at: usize) -> Strings
     requires { at + most_txt ≤ length b.now }
     ensures { result ≡ strings_at b.now at }
 {
-    let mut bytes = [0u8; own::records::MOST_TXT];
+    let mut bytes = [0u8; MOST_TXT];
     fill(&mut bytes, b, at);
     Strings {
         bytes,
-        len: wire::octets::be16(b, at + own::records::MOST_TXT) as usize,
+        len: be16(b, at + MOST_TXT) as usize,
     }
 }
 
@@ -98,7 +100,7 @@ fn setup_at(b: &[u8]) -> Setup
         protocol,
         host: label_at(b, layout::HOST),
         domain,
-        port: wire::octets::be16(b, layout::PORT),
+        port: be16(b, layout::PORT),
         txt: strings_at(b, layout::TXT),
         a,
         hasaaaa: flag(b, layout::HAS_AAAA),
@@ -128,38 +130,36 @@ fn claim_at(b: &[u8], at: usize) -> ClaimState
     requires { at + 1 < state_size }
     ensures { result ≡ claim_at b.now at }
 {
-    claim_of(wire::octets::byte(b, at), be64(b, at + 1))
+    claim_of(byte(b, at), be64(b, at + 1))
 }
 
 // A time that is set or not: a flag, and the time behind it.
-fn when_at(b: &[u8], at: usize) -> When
+fn when_at(b: &[u8], at: usize) -> Option<u64>
     requires { at + 1 < state_size }
     ensures { result ≡ when_at b.now at }
 {
     if flag(b, at) {
-        return When::At(be64(b, at + 1));
+        Some(be64(b, at + 1))
+    } else {
+        None
     }
-    When::Never
 }
 
 // When an own record was last multicast.
-fn sent_at(b: &[u8], o: Own) -> When
+fn sent_at(b: &[u8], o: Own) -> Option<u64>
     ensures { result ≡ sent_at b.now o }
 {
-    let i = claims::records::index_of(o);
-    when_at(b, layout::MULTICASTS + i * layout::CASE_SIZE)
+    when_at(b, layout::MULTICASTS + index_of(o) * layout::CASE_SIZE)
 }
 
 fn multicasts_at(b: &[u8]) -> Multicasts
     ensures { result ≡ multicasts_at b.now }
 {
-    let never = Multicast { last: When::Never };
+    let never = Multicast { last: None };
     let mut of = [never; RECORDS];
-    let mut i = 0;
-    while i < RECORDS {
-        let last = sent_at(b, claims::records::record_at(i));
+    for i in 0..RECORDS {
+        let last = sent_at(b, record_at(i));
         of[i] = Multicast { last };
-        i += 1;
     }
     Multicasts { of }
 }
@@ -169,7 +169,7 @@ fn set_flag(b: &[u8], at: usize, o: Own) -> bool
     requires { at < state_size }
     ensures { result ≡ flag_at b.now (at + index_of o) }
 {
-    flag(b, at + claims::records::index_of(o))
+    flag(b, at + index_of(o))
 }
 
 fn set_at(b: &[u8], at: usize) -> Set
@@ -177,12 +177,10 @@ fn set_at(b: &[u8], at: usize) -> Set
     ensures { result ≡ set_at b.now at }
 {
     let mut flags = [false; RECORDS];
-    let mut i = 0;
-    while i < RECORDS {
-        flags[i] = set_flag(b, at, claims::records::record_at(i));
-        i += 1;
+    for i in 0..RECORDS {
+        flags[i] = set_flag(b, at, record_at(i));
     }
-    claims::records::set_of(flags)
+    set_of(flags)
 }
 
 // A held query.
@@ -238,10 +236,10 @@ pub fn read_setup(b: &[u8]) -> Setup
     ensures { result ≡ setup_of b.now }
 {
     if b.len() == layout::SETUP_SIZE {
-        return setup_at(b);
+        setup_at(b)
+    } else {
+        blank_state().setup
     }
-    let blank = responder::blank_state();
-    blank.setup
 }
 
 // What changes of the state that a buffer holds; its set-up stays unread.
@@ -250,10 +248,10 @@ pub fn read_progress(b: &[u8]) -> Progress
 {
     let size = b.len();
     if size == layout::STATE_SIZE {
-        return progress_at(b);
+        progress_at(b)
+    } else {
+        blank_state().progress
     }
-    let blank = responder::blank_state();
-    blank.progress
 }
 
 // The state that a buffer holds.
@@ -261,10 +259,11 @@ pub fn read_state(b: &[u8]) -> State
     ensures { result ≡ decode b.now }
 {
     if b.len() == layout::STATE_SIZE {
-        return State {
+        State {
             setup: setup_at(b),
             progress: progress_at(b),
-        };
+        }
+    } else {
+        blank_state()
     }
-    responder::blank_state()
 }

@@ -12,8 +12,8 @@ ghost use Rattle.capi_responder.specs.encoder.Laid.{Laid};
 
 use crate::layout;
 use claims::holds::{Hold, Holds};
-use claims::records::{Own, RECORDS, Set};
-use claims::{ClaimState, Multicasts, Progress, When};
+use claims::records::{Own, RECORDS, Set, is_in, record_at};
+use claims::{ClaimState, Multicasts, Progress, sent_of};
 
 // Lays `s` over `out` from index `at` on.
 fn put(out: &mut [u8], at: usize, s: &[u8])
@@ -82,33 +82,26 @@ fn claim_due(c: ClaimState) -> u64
     ensures { result ≡ claim_due c }
 {
     match c {
-        ClaimState::Waiting(due) => due,
-        ClaimState::Probing1(due) => due,
-        ClaimState::Probing2(due) => due,
-        ClaimState::Probing3(due) => due,
-        ClaimState::Deferred(due) => due,
-        ClaimState::Announced(due) => due,
-        ClaimState::Held => 0,
-        ClaimState::Lost => 0,
+        ClaimState::Waiting(due)
+        | ClaimState::Probing1(due)
+        | ClaimState::Probing2(due)
+        | ClaimState::Probing3(due)
+        | ClaimState::Deferred(due)
+        | ClaimState::Announced(due) => due,
+        ClaimState::Held | ClaimState::Lost => 0,
     }
 }
 
-fn when_flag(w: When) -> u8
+fn when_flag(w: Option<u64>) -> u8
     ensures { result ≡ when_flag w }
 {
-    match w {
-        When::Never => 0,
-        When::At(_) => 1,
-    }
+    if w.is_some() { 1 } else { 0 }
 }
 
-fn when_time(w: When) -> u64
+fn when_time(w: Option<u64>) -> u64
     ensures { result ≡ when_time w }
 {
-    match w {
-        When::Never => 0,
-        When::At(time) => time,
-    }
+    w.unwrap_or(0)
 }
 
 fn put_claim(out: &mut [u8], at: usize, c: ClaimState)
@@ -118,7 +111,7 @@ fn put_claim(out: &mut [u8], at: usize, c: ClaimState)
     put_case(out, at, claim_tag(c), claim_due(c));
 }
 
-fn put_when(out: &mut [u8], at: usize, w: When)
+fn put_when(out: &mut [u8], at: usize, w: Option<u64>)
     requires { at + layout.case_size ≤ length out.old }
     ensures { Laid out.old at (when_bytes w) out.new × Fits64 (when_time w) }
 {
@@ -130,11 +123,9 @@ fn put_multicasts(out: &mut [u8], sent: Multicasts)
     requires { layout.state_size ≤ length out.old }
     ensures { Laid out.old layout.multicasts (multicasts_bytes sent) out.new × MulticastsFit sent }
 {
-    let mut i = 0;
-    while i < RECORDS {
-        let last = claims::sent_of(claims::records::record_at(i), sent);
+    for i in 0..RECORDS {
+        let last = sent_of(record_at(i), sent);
         put_when(out, layout::MULTICASTS + i * layout::CASE_SIZE, last);
-        i += 1;
     }
 }
 
@@ -142,10 +133,7 @@ fn put_multicasts(out: &mut [u8], sent: Multicasts)
 fn flag_byte(o: Own, set: Set) -> u8
     ensures { result ≡ flag_byte (has o set) }
 {
-    if claims::records::is_in(o, set) {
-        return 1;
-    }
-    0
+    if is_in(o, set) { 1 } else { 0 }
 }
 
 // The flags of a set of own records.
@@ -153,10 +141,8 @@ fn set_bytes(set: Set) -> [u8; layout::SET_SIZE]
     ensures { result ≡ set_bytes set }
 {
     let mut flags = [0u8; layout::SET_SIZE];
-    let mut i = 0;
-    while i < RECORDS {
-        flags[i] = flag_byte(claims::records::record_at(i), set);
-        i += 1;
+    for i in 0..RECORDS {
+        flags[i] = flag_byte(record_at(i), set);
     }
     flags
 }
@@ -175,17 +161,14 @@ fn put_hold(out: &mut [u8], at: usize, h: Hold)
     ensures { Laid out.old at (hold_bytes h) out.new × HoldFits h }
 {
     let from = h.from;
-    let due = h.due;
-    let asked = h.asked;
-    let known = h.known;
-    let lowat = at + layout::NUMBER_SIZE;
-    let dueat = lowat + layout::NUMBER_SIZE;
-    let askedat = dueat + layout::CASE_SIZE;
+    let low = at + layout::NUMBER_SIZE;
+    let due = low + layout::NUMBER_SIZE;
+    let asked = due + layout::CASE_SIZE;
     put_number(out, at, from.high);
-    put_number(out, lowat, from.low);
-    put_when(out, dueat, due);
-    put_set(out, askedat, asked);
-    put_set(out, askedat + layout::SET_SIZE, known);
+    put_number(out, low, from.low);
+    put_when(out, due, h.due);
+    put_set(out, asked, h.asked);
+    put_set(out, asked + layout::SET_SIZE, h.known);
 }
 
 // The held queries, one behind the other.
@@ -193,14 +176,10 @@ fn put_holds(out: &mut [u8], holds: Holds)
     requires { layout.state_size ≤ length out.old }
     ensures { Laid out.old layout.holds (holds_bytes holds) out.new × HoldsFit holds }
 {
-    let first = holds.first;
-    let second = holds.second;
-    let third = holds.third;
-    let fourth = holds.fourth;
-    put_hold(out, layout::HOLDS, first);
-    put_hold(out, layout::HOLDS + layout::HOLD_SIZE, second);
-    put_hold(out, layout::HOLDS + 2 * layout::HOLD_SIZE, third);
-    put_hold(out, layout::HOLDS + 3 * layout::HOLD_SIZE, fourth);
+    put_hold(out, layout::HOLDS, holds.first);
+    put_hold(out, layout::HOLDS + layout::HOLD_SIZE, holds.second);
+    put_hold(out, layout::HOLDS + 2 * layout::HOLD_SIZE, holds.third);
+    put_hold(out, layout::HOLDS + 3 * layout::HOLD_SIZE, holds.fourth);
 }
 
 // Writes what changes, behind the set-up.
@@ -208,18 +187,12 @@ fn lay_progress(out: &mut [u8], progress: Progress)
     requires { length out.old ≡ layout.state_size }
     ensures { Laid out.old layout.setup_size (progress_bytes progress) out.new × ProgressFits progress }
 {
-    let instance = progress.instance;
-    let host = progress.host;
-    let sent = progress.sent;
-    let reply = progress.reply;
-    let holds = progress.holds;
-    let updated = progress.updated;
-    put_claim(out, layout::INSTANCE_CLAIM, instance);
-    put_claim(out, layout::HOST_CLAIM, host);
-    put_multicasts(out, sent);
-    put_when(out, layout::REPLY, reply);
-    put_when(out, layout::UPDATED, updated);
-    put_holds(out, holds);
+    put_claim(out, layout::INSTANCE_CLAIM, progress.instance);
+    put_claim(out, layout::HOST_CLAIM, progress.host);
+    put_multicasts(out, progress.sent);
+    put_when(out, layout::REPLY, progress.reply);
+    put_when(out, layout::UPDATED, progress.updated);
+    put_holds(out, progress.holds);
     put_number(out, layout::DRAW, progress.draw);
     put_number(out, layout::LAST, progress.last);
 }
@@ -248,10 +221,7 @@ pub fn put_time(state: &mut [u8], time: u64)
 pub fn put_setup(state: &mut [u8], setup: &[u8])
     ensures { state.new ≡ with_setup state.old setup.now }
 {
-    if state.len() != layout::STATE_SIZE {
-        return;
-    }
-    if setup.len() == layout::SETUP_SIZE {
+    if state.len() == layout::STATE_SIZE && setup.len() == layout::SETUP_SIZE {
         put(state, 0, setup);
     }
 }

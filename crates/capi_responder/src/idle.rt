@@ -7,6 +7,7 @@ ghost use Rattle.capi_responder.specs.codec.Layout as layout;
 ghost use Rattle.capi_responder.specs.idle.Idle.{to_come, claim_rests, reply_rests, when_kept, multicasts_kept, none_held, nothing_due, is_idle};
 
 use crate::layout;
+use crate::setup_test::keeps_rules;
 use claims::records::RECORDS;
 use claims::refusal_tests::{LAST_KEPT, LAST_TIME};
 use writer::own_packets::LEAST_OUT;
@@ -38,10 +39,7 @@ fn number_at(b: &[u8], at: usize) -> u64
 fn is_to_come(due: u64, time: u64) -> bool
     ensures { result ≡ to_come due time }
 {
-    if due <= time {
-        return false;
-    }
-    due <= LAST_KEPT
+    time < due && due <= LAST_KEPT
 }
 
 // No step of the claim is due, its time is one that a state may keep, and its bytes are those that would be written.
@@ -51,12 +49,10 @@ fn claim_rests(b: &[u8], at: usize, time: u64) -> bool
 {
     let tag = b[at];
     if tag < 6 {
-        return is_to_come(number_at(b, at + 1), time);
+        is_to_come(number_at(b, at + 1), time)
+    } else {
+        tag <= 7 && number_at(b, at + 1) == 0
     }
-    if 7 < tag {
-        return false;
-    }
-    number_at(b, at + 1) == 0
 }
 
 // The same of the PTR reply.
@@ -66,12 +62,10 @@ fn reply_rests(b: &[u8], at: usize, time: u64) -> bool
 {
     let flag = b[at];
     if flag == 0 {
-        return number_at(b, at + 1) == 0;
+        number_at(b, at + 1) == 0
+    } else {
+        flag == 1 && is_to_come(number_at(b, at + 1), time)
     }
-    if flag != 1 {
-        return false;
-    }
-    is_to_come(number_at(b, at + 1), time)
 }
 
 // A last multicast or the last update, if there was one, is a time that a state may keep, and its bytes are those that would be written.
@@ -81,12 +75,10 @@ fn when_kept(b: &[u8], at: usize) -> bool
 {
     let flag = b[at];
     if flag == 0 {
-        return number_at(b, at + 1) == 0;
+        number_at(b, at + 1) == 0
+    } else {
+        flag == 1 && number_at(b, at + 1) <= LAST_KEPT
     }
-    if flag != 1 {
-        return false;
-    }
-    number_at(b, at + 1) <= LAST_KEPT
 }
 
 // The same of each.
@@ -94,12 +86,10 @@ fn multicasts_kept(b: &[u8]) -> bool
     requires { length b.now ≡ layout.state_size }
     ensures { result ≡ multicasts_kept b.now }
 {
-    let mut i = 0;
-    while i < RECORDS {
+    for i in 0..RECORDS {
         if !when_kept(b, layout::MULTICASTS + i * layout::CASE_SIZE) {
             return false;
         }
-        i += 1;
     }
     true
 }
@@ -111,12 +101,10 @@ fn none_held(b: &[u8]) -> bool
     ensures { result ≡ none_held b.now }
 {
     let mut clear = true;
-    let mut i = layout::HOLDS;
-    while i < layout::DRAW + 4 {
-        if b[i] != 0 {
+    for x in &b[layout::HOLDS..layout::DRAW + 4] {
+        if *x != 0 {
             clear = false;
         }
-        i += 1;
     }
     clear
 }
@@ -126,45 +114,23 @@ fn nothing_due(b: &[u8], time: u64) -> bool
     requires { length b.now ≡ layout.state_size }
     ensures { result ≡ nothing_due b.now time }
 {
-    if !claim_rests(b, layout::INSTANCE_CLAIM, time) {
-        return false;
-    }
-    if !claim_rests(b, layout::HOST_CLAIM, time) {
-        return false;
-    }
-    if !reply_rests(b, layout::REPLY, time) {
-        return false;
-    }
-    if !when_kept(b, layout::UPDATED) {
-        return false;
-    }
-    if !none_held(b) {
-        return false;
-    }
-    if 250 < number_at(b, layout::DRAW) {
-        return false;
-    }
-    if time < number_at(b, layout::LAST) {
-        return false;
-    }
-    multicasts_kept(b)
+    claim_rests(b, layout::INSTANCE_CLAIM, time)
+        && claim_rests(b, layout::HOST_CLAIM, time)
+        && reply_rests(b, layout::REPLY, time)
+        && when_kept(b, layout::UPDATED)
+        && none_held(b)
+        && number_at(b, layout::DRAW) <= 250
+        && number_at(b, layout::LAST) <= time
+        && multicasts_kept(b)
 }
 
 // Whether a tick at `time`, with an out buffer of `room` bytes, is accepted and has nothing to do but to keep its time.
 pub fn is_idle(b: &[u8], time: u64, room: usize) -> bool
     ensures { result ≡ is_idle b.now time room }
 {
-    if LAST_TIME < time {
-        return false;
-    }
-    if room < LEAST_OUT {
-        return false;
-    }
-    if b.len() != layout::STATE_SIZE {
-        return false;
-    }
-    if !nothing_due(b, time) {
-        return false;
-    }
-    crate::setup_test::keeps_rules(b)
+    time <= LAST_TIME
+        && LEAST_OUT <= room
+        && b.len() == layout::STATE_SIZE
+        && nothing_due(b, time)
+        && keeps_rules(b)
 }

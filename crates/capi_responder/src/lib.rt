@@ -17,8 +17,13 @@ ghost use Rattle.responder.specs.Calls.{refusal_of, length_of, unicast_length_of
 ghost use Rattle.responder.specs.Runs.{ticked};
 ghost use Rattle.capi_responder.specs.Exported.{called_with, setup_for, Starts, Calls, Receives};
 
+use codec::{read_setup, read_state};
+use encoder::{put_progress, put_setup, put_time};
+use idle::is_idle;
+use layout::STATE_SIZE;
 use own::records::Setup;
-use responder::Answer;
+use responder::address::address_of;
+use responder::{Answer, blank_state};
 
 // A call's answer: the specification's refusal number, or 0; whether more is due, after a tick; the length of the packet that goes to all, or 0; and the
 // length of the one that goes to where the message came from that it answers, or 0.
@@ -36,10 +41,7 @@ fn refusal_of(answer: Answer) -> u8
 {
     match answer {
         Answer::Refused(number) => number,
-        Answer::Quiet => 0,
-        Answer::Sent(_) => 0,
-        Answer::Unicast(_) => 0,
-        Answer::Both(_, _) => 0,
+        Answer::Quiet | Answer::Sent(_) | Answer::Unicast(_) | Answer::Both(_, _) => 0,
     }
 }
 
@@ -47,11 +49,8 @@ fn length_of(answer: Answer) -> usize
     ensures { result ≡ length_of answer }
 {
     match answer {
-        Answer::Refused(_) => 0,
-        Answer::Quiet => 0,
-        Answer::Sent(length) => length,
-        Answer::Unicast(_) => 0,
-        Answer::Both(length, _) => length,
+        Answer::Sent(length) | Answer::Both(length, _) => length,
+        Answer::Refused(_) | Answer::Quiet | Answer::Unicast(_) => 0,
     }
 }
 
@@ -59,11 +58,8 @@ fn unicast_length(answer: Answer) -> usize
     ensures { result ≡ unicast_length_of answer }
 {
     match answer {
-        Answer::Refused(_) => 0,
-        Answer::Quiet => 0,
-        Answer::Sent(_) => 0,
-        Answer::Unicast(length) => length,
-        Answer::Both(_, length) => length,
+        Answer::Unicast(length) | Answer::Both(_, length) => length,
+        Answer::Refused(_) | Answer::Quiet | Answer::Sent(_) => 0,
     }
 }
 
@@ -82,11 +78,11 @@ fn answered(answer: Answer, more: bool) -> Called
 fn setup_for(setup: &[u8], room: usize) -> Setup
     ensures { result ≡ setup_for setup.now room }
 {
-    if room == crate::layout::STATE_SIZE {
-        return crate::codec::read_setup(setup);
+    if room == STATE_SIZE {
+        read_setup(setup)
+    } else {
+        blank_state().setup
     }
-    let blank = responder::blank_state();
-    blank.setup
 }
 
 // Begins a responder in lent bytes, with the bytes of a set-up.
@@ -94,15 +90,11 @@ pub fn kurgashel_start(state: &mut [u8], setup: &[u8], time: u64, draw: u64) -> 
     ensures { Starts state.old setup.now time draw result state.new }
 {
     let begun = responder::start(setup_for(setup, state.len()), time, draw);
-    let answer = begun.answer;
-    if refusal_of(answer) != 0 {
-        return answered(answer, false);
+    if refusal_of(begun.answer) == 0 {
+        put_setup(state, setup);
+        put_progress(state, begun.state.progress);
     }
-    let after = begun.state;
-    let progress = after.progress;
-    crate::encoder::put_setup(state, setup);
-    crate::encoder::put_progress(state, progress);
-    answered(answer, false)
+    answered(begun.answer, false)
 }
 
 // Takes a packet that came from an address (16 bytes, or the 4 of IPv4) and a port, with the draws for a PTR reply and for a query that is held, and writes the
@@ -126,9 +118,9 @@ pub fn kurgashel_receive(
         Receives state.old a out.old unicast.old result state.new out.new unicast.new) }
 {
     let heard = responder::receive(
-        crate::codec::read_state(state),
+        read_state(state),
         time,
-        responder::address::address_of(from),
+        address_of(from),
         port,
         draw,
         hold,
@@ -136,14 +128,10 @@ pub fn kurgashel_receive(
         out,
         unicast,
     );
-    let answer = heard.answer;
-    if refusal_of(answer) != 0 {
-        return answered(answer, false);
+    if refusal_of(heard.answer) == 0 {
+        put_progress(state, heard.state.progress);
     }
-    let after = heard.state;
-    let progress = after.progress;
-    crate::encoder::put_progress(state, progress);
-    answered(answer, false)
+    answered(heard.answer, false)
 }
 
 // Walks the due steps, and writes the packet of the first that sends.
@@ -151,18 +139,13 @@ pub fn kurgashel_tick(state: &mut [u8], time: u64, out: &mut [u8]) -> Called
     ensures { (let t : Tick = record { time = time; room = length out.old } in
         Calls state.old (ticked t) out.old result state.new out.new) }
 {
-    if crate::idle::is_idle(state, time, out.len()) {
-        crate::encoder::put_time(state, time);
+    if is_idle(state, time, out.len()) {
+        put_time(state, time);
         return answered(Answer::Quiet, false);
     }
-    let walked = responder::tick(crate::codec::read_state(state), time, out);
-    let answer = walked.answer;
-    let more = walked.more;
-    if refusal_of(answer) != 0 {
-        return answered(answer, more);
+    let walked = responder::tick(read_state(state), time, out);
+    if refusal_of(walked.answer) == 0 {
+        put_progress(state, walked.state.progress);
     }
-    let after = walked.state;
-    let progress = after.progress;
-    crate::encoder::put_progress(state, progress);
-    answered(answer, more)
+    answered(walked.answer, walked.more)
 }

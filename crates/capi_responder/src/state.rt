@@ -3,7 +3,9 @@
 ghost use Rattle.std.specs.Prelude.{◌≡◌};
 ghost use Rattle.capi_responder.specs.state.Told.{claim_number, next_step};
 
-use claims::When;
+use crate::codec::read_progress;
+use claims::due::next_due;
+use claims::state_number;
 
 // Whether a step is due at all, and when.
 #[repr(C)]
@@ -17,25 +19,23 @@ pub struct NextStep {
 pub fn kurgashel_claim(state: &[u8], claim: u8) -> u8
     ensures { result ≡ claim_number state.now claim }
 {
-    let progress = crate::codec::read_progress(state);
+    let progress = read_progress(state);
     if claim == 0 {
-        let instance = progress.instance;
-        return claims::state_number(instance);
+        state_number(progress.instance)
+    } else {
+        state_number(progress.host)
     }
-    let host = progress.host;
-    claims::state_number(host)
 }
 
 // When the next step is due: until then a tick sends nothing.
 pub fn kurgashel_due(state: &[u8]) -> NextStep
     ensures { result ≡ next_step state.now }
 {
-    let progress = crate::codec::read_progress(state);
-    match claims::due::next_due(progress) {
-        When::Never => NextStep {
+    match next_due(read_progress(state)) {
+        None => NextStep {
             due: false,
             time: 0,
         },
-        When::At(time) => NextStep { due: true, time },
+        Some(time) => NextStep { due: true, time },
     }
 }

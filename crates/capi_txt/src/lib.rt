@@ -11,7 +11,7 @@ use txt::{Answer, Buffer};
 // What a key says: the specification's refusal number, or 0; 0 absent, 1 present without value, 2 empty value, 3 the value itself; and the part shown, by its
 // buffer (0 received, 1 factory), its place there and its length: the empty part at the received TXT's start where no value is shown.
 #[repr(C)]
-#[derive(Clone, Copy)]
+#[derive(Clone, Copy, Default)]
 pub struct Pair {
     pub refusal: u8,
     pub answer: u8,
@@ -33,44 +33,26 @@ fn pair_of(answer: Answer) -> Pair
     ensures { result ≡ pair_of answer }
 {
     match answer {
-        Answer::Refused(number) => Pair {
-            refusal: number,
-            answer: 0,
-            buffer: 0,
-            at: 0,
-            length: 0,
+        Answer::Refused(refusal) => Pair {
+            refusal,
+            ..Pair::default()
         },
-        Answer::Absent => Pair {
-            refusal: 0,
-            answer: 0,
-            buffer: 0,
-            at: 0,
-            length: 0,
-        },
+        Answer::Absent => Pair::default(),
         Answer::Present => Pair {
-            refusal: 0,
             answer: 1,
-            buffer: 0,
-            at: 0,
-            length: 0,
+            ..Pair::default()
         },
         Answer::Empty => Pair {
-            refusal: 0,
             answer: 2,
-            buffer: 0,
-            at: 0,
-            length: 0,
+            ..Pair::default()
         },
-        Answer::Value(held) => {
-            let buffer = held.buffer;
-            Pair {
-                refusal: 0,
-                answer: 3,
-                buffer: buffer_number(buffer),
-                at: held.at,
-                length: held.len,
-            }
-        }
+        Answer::Value(held) => Pair {
+            refusal: 0,
+            answer: 3,
+            buffer: buffer_number(held.buffer),
+            at: held.at,
+            length: held.len,
+        },
     }
 }
 

@@ -1,4 +1,5 @@
 -- Which changes leave every time that is kept at most `most`. Assumes nothing.
+use Rattle.std.specs.Prelude.{Option}
 use Prim.Native.Nat.{ℕ, ◌≤◌}
 use mathlib.Core.Path.{◌≡◌, refl}
 use mathlib.Core.Bool.{Bool, true, false, cond, ◌&&◌}
@@ -15,7 +16,6 @@ use Rattle.claims.specs.declared.ClaimState.{ClaimState}
 use Rattle.claims.specs.declared.ClaimState.TheVariants.{Waiting, Probing1, Probing2, Probing3, Deferred, Announced, Held, Lost}
 use Rattle.claims.specs.declared.Multicasts.{Multicasts}
 use Rattle.claims.specs.declared.records.Set.{Set}
-use Rattle.claims.specs.declared.When.{When}
 use Rattle.claims.specs.declared.holds.Address.{Address}
 use Rattle.claims.specs.declared.holds.Hold.{Hold}
 use Rattle.claims.specs.declared.holds.Holds.{Holds}
@@ -52,7 +52,7 @@ together k = simp (k.instance, k.host, k.sent, k.reply, k.holds, k.updated, k.la
 
 module _ (most : ℕ) where
   -- the times that are kept, one by one
-  abbrev pub Parts : ClaimState → ClaimState → Multicasts → When → Holds → When → ℕ → Type 0
+  abbrev pub Parts : ClaimState → ClaimState → Multicasts → Option ℕ → Holds → Option ℕ → ℕ → Type 0
   Parts instance host sent reply holds updated last =
       AllKept (claim_kept most instance) (claim_kept most host) (multicasts_kept most sent) (at_most most reply) (holds_kept most holds)
       (at_most most updated) (leb last most)
@@ -68,7 +68,7 @@ module _ (most : ℕ) where
   unfolding kept
   whole progress p = together p
 
-  marked-kept : (went : Bool) (s : When) (now : ℕ) → at_most most s ≡ true → leb now most ≡ true → at_most most (marked went s now) ≡ true
+  marked-kept : (went : Bool) (s : Option ℕ) (now : ℕ) → at_most most s ≡ true → leb now most ≡ true → at_most most (marked went s now) ≡ true
   marked-kept true s now h l = l
   marked-kept false s now h l = h
 

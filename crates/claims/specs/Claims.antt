@@ -1,14 +1,12 @@
 -- A claim, and what moves it but for its own steps (specification, 'A claim's life'): the start, a conflict, a probe. Assumes nothing: these are
 -- definitions.
-use Rattle.std.specs.Prelude.{ℕ, Bool, true, false}
+use Rattle.std.specs.Prelude.{ℕ, Bool, true, false, Option, Some, None}
 use Rattle.claims.specs.Time.{after_ms, never_sent}
 use Rattle.claims.specs.holds.Holds.{no_holds}
 use Rattle.claims.specs.declared.ClaimState.{ClaimState}
 use Rattle.claims.specs.declared.ClaimState.TheVariants.{Waiting, Probing1, Probing2, Probing3, Deferred, Announced, Held, Lost}
 use Rattle.claims.specs.declared.records.Claim.{Claim}
 use Rattle.claims.specs.declared.records.Claim.TheVariants.{Instance, Host}
-use Rattle.claims.specs.declared.When.{When}
-use Rattle.claims.specs.declared.When.TheVariants.{Never, At}
 use Rattle.claims.specs.declared.Progress.{Progress}
 
 -- the number of a claim's state: 0 waiting, 1 probing, 2 deferred, 3 held, 4 lost
@@ -23,15 +21,15 @@ state_number Held = 3
 state_number Lost = 4
 
 -- when the claim's next step is due
-abbrev pub due_of : ClaimState → When
-due_of (Waiting due) = At due
-due_of (Probing1 due) = At due
-due_of (Probing2 due) = At due
-due_of (Probing3 due) = At due
-due_of (Deferred due) = At due
-due_of (Announced due) = At due
-due_of Held = Never
-due_of Lost = Never
+abbrev pub due_of : ClaimState → Option ℕ
+due_of (Waiting due) = Some due
+due_of (Probing1 due) = Some due
+due_of (Probing2 due) = Some due
+due_of (Probing3 due) = Some due
+due_of (Deferred due) = Some due
+due_of (Announced due) = Some due
+due_of Held = None
+due_of Lost = None
 
 -- the claim is held
 abbrev pub held_now : ClaimState → Bool
@@ -56,9 +54,9 @@ begun_at now draw =
       instance = Waiting (after_ms now draw);
       host = Waiting (after_ms now draw);
       sent = never_sent;
-      reply = Never;
+      reply = None;
       holds = no_holds;
-      updated = Never;
+      updated = None;
       draw = draw;
       last = now;
     }

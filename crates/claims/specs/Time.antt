@@ -1,11 +1,9 @@
 -- Times and how long ago they are (specification, 'What the dock does'): "Time is in milliseconds, 64 bits, at most 2^62. A kept time ahead of now counts as
 -- 0 ms ago." Assumes nothing: these are definitions.
-use Rattle.std.specs.Prelude.{ℕ, ◌+◌, ◌-◌, Bool, true, false, cond, map, leb, ltb, get_or}
+use Rattle.std.specs.Prelude.{ℕ, ◌+◌, ◌-◌, Bool, true, false, cond, map, leb, ltb, get_or, Option, Some, None}
 use Rattle.claims.specs.records.Own.{all, index_of, has}
 use Rattle.claims.specs.declared.records.Own.{Own}
 use Rattle.claims.specs.declared.records.Set.{Set}
-use Rattle.claims.specs.declared.When.{When}
-use Rattle.claims.specs.declared.When.TheVariants.{Never, At}
 use Rattle.claims.specs.declared.Multicast.{Multicast}
 use Rattle.claims.specs.declared.Multicasts.{Multicasts}
 
@@ -46,37 +44,37 @@ abbrev pub age : ℕ → ℕ → ℕ
 age time now = now - time
 
 -- a time that may be there has come
-abbrev pub due_by : When → ℕ → Bool
-due_by Never now = false
-due_by (At time) now = leb time now
+abbrev pub due_by : Option ℕ → ℕ → Bool
+due_by None now = false
+due_by (Some time) now = leb time now
 
 -- a time, where there is one, is at most `most`
-abbrev pub at_most : ℕ → When → Bool
-at_most most Never = true
-at_most most (At time) = leb time most
+abbrev pub at_most : ℕ → Option ℕ → Bool
+at_most most None = true
+at_most most (Some time) = leb time most
 
 -- "multicast less than .. ms ago"
-abbrev pub recently : When → ℕ → ℕ → Bool
-recently Never now gap = false
-recently (At time) now gap = ltb (age time now) gap
+abbrev pub recently : Option ℕ → ℕ → ℕ → Bool
+recently None now gap = false
+recently (Some time) now gap = ltb (age time now) gap
 
 -- the last multicast of each record
-abbrev pub last_of : When → Multicast
+abbrev pub last_of : Option ℕ → Multicast
 last_of last = record { last = last }
 
-abbrev pub each_last : (Own → When) → Multicasts
+abbrev pub each_last : (Own → Option ℕ) → Multicasts
 each_last last = record { of = map (λ o. last_of (last o)) all }
 
 abbrev pub never_sent : Multicasts
-never_sent = each_last (λ o. Never)
+never_sent = each_last (λ o. None)
 
 -- when the record was last multicast
-abbrev pub sent_of : Own → Multicasts → When
-sent_of o sent = (get_or sent.of (index_of o) (last_of Never)).last
+abbrev pub sent_of : Own → Multicasts → Option ℕ
+sent_of o sent = (get_or sent.of (index_of o) (last_of None)).last
 
 -- the last multicast of a record after a packet of time `now`, with the record in it or not
-abbrev pub marked : Bool → When → ℕ → When
-marked went last now = cond went (At now) last
+abbrev pub marked : Bool → Option ℕ → ℕ → Option ℕ
+marked went last now = cond went (Some now) last
 
 unfoldable pub marked_all : Set → Multicasts → ℕ → Multicasts
 marked_all set sent now = each_last (λ o. marked (has o set) (sent_of o sent) now)

@@ -5,9 +5,12 @@ ghost use Rattle.claims.specs.answers.Answers.{heard_of, asks_of, asks_of_hold, 
 ghost use Rattle.claims.specs.answers.Answers.{is_to_asker, asked_by, multicast_asks, unicast_asks, judged_of, due_to, plain_of};
 ghost use Rattle.claims.specs.answers.Held.{to_hold, hold_of, held_back, receive_of};
 
-use crate::holds::{Address, Hold, Holds};
-use crate::records::{Claim, Own, RECORDS, Set};
-use crate::{ClaimState, Progress, When};
+use crate::holds::{Address, Hold, Holds, add, add_known, some_free, some_from};
+use crate::records::{Claim, Own, Set, at_once, claim_for, is_in, is_present, no_record, own_ttl};
+use crate::{
+    ClaimState, MULTICAST_GAP, Progress, after, after_conflict, after_probe, claim_of, is_held,
+    mark_all, sent_of, was_recent,
+};
 
 // A deferred claim sends its next first probe after 1,000 ms.
 const DEFERRAL: u64 = 1000;
@@ -70,56 +73,35 @@ pub struct Received {
 fn heard_by(c: ClaimState, response: bool, h: Heard, again: u64, deferred: u64) -> ClaimState
     ensures { result ≡ heard_of c response h again deferred }
 {
-    let conflict = h.conflict;
-    let probe = h.probe;
-    let later = h.later;
     if response {
-        if conflict {
-            return crate::after_conflict(c, again);
+        if h.conflict {
+            after_conflict(c, again)
+        } else {
+            c
         }
-        return c;
+    } else if h.probe && h.later {
+        after_probe(c, deferred)
+    } else {
+        c
     }
-    if probe {
-        if later {
-            return crate::after_probe(c, deferred);
-        }
-    }
-    c
 }
 
 // How long ago a record has to have been multicast, to a probe for its claim or not.
 fn gap_of(probe: bool) -> u64
     ensures { result ≡ gap_of probe }
 {
-    if probe {
-        return DEFENCE_GAP;
-    }
-    crate::MULTICAST_GAP
+    if probe { DEFENCE_GAP } else { MULTICAST_GAP }
 }
 
 // What a message asks for and knows: a response asks for nothing.
 fn asks_of(f: Facts) -> Asks
     ensures { result ≡ asks_of f }
 {
-    let asked = f.asked;
-    let known = f.known;
-    let instance = f.instance;
-    let host = f.host;
-    let instancegap = gap_of(instance.probe);
-    let hostgap = gap_of(host.probe);
-    if f.response {
-        return Asks {
-            asked: crate::records::no_record(),
-            known,
-            instancegap,
-            hostgap,
-        };
-    }
     Asks {
-        asked,
-        known,
-        instancegap,
-        hostgap,
+        asked: if f.response { no_record() } else { f.asked },
+        known: f.known,
+        instancegap: gap_of(f.instance.probe),
+        hostgap: gap_of(f.host.probe),
     }
 }
 
@@ -127,13 +109,11 @@ fn asks_of(f: Facts) -> Asks
 pub fn asks_of_hold(h: Hold) -> Asks
     ensures { result ≡ asks_of_hold h }
 {
-    let asked = h.asked;
-    let known = h.known;
     Asks {
-        asked,
-        known,
-        instancegap: crate::MULTICAST_GAP,
-        hostgap: crate::MULTICAST_GAP,
+        asked: h.asked,
+        known: h.known,
+        instancegap: MULTICAST_GAP,
+        hostgap: MULTICAST_GAP,
     }
 }
 
@@ -150,76 +130,37 @@ fn gap_for(claim: Claim, q: Asks) -> u64
 fn is_due(progress: Progress, q: Asks, aaaa: bool, o: Own) -> bool
     ensures { result ≡ is_due progress q aaaa o }
 {
-    let asked = q.asked;
-    let c = crate::claim_of(crate::records::claim_for(o), progress);
-    if crate::is_held(c) {
-        if crate::records::is_present(o, aaaa) {
-            return crate::records::is_in(o, asked);
-        }
-    }
-    false
+    is_held(claim_of(claim_for(o), progress)) && is_present(o, aaaa) && is_in(o, q.asked)
 }
 
 // Is a record left out if it is due?
 fn is_omitted(progress: Progress, q: Asks, now: u64, o: Own) -> bool
     ensures { result ≡ is_omitted progress q now o }
 {
-    let known = q.known;
-    let sent = progress.sent;
-    if crate::records::is_in(o, known) {
-        return true;
-    }
-    let gap = gap_for(crate::records::claim_for(o), q);
-    crate::was_recent(crate::sent_of(o, sent), now, gap)
+    let gap = gap_for(claim_for(o), q);
+    is_in(o, q.known) || was_recent(sent_of(o, progress.sent), now, gap)
 }
 
 // Is a record due and not left out?
 fn is_wanted(progress: Progress, q: Asks, now: u64, aaaa: bool, o: Own) -> bool
     ensures { result ≡ is_wanted progress q now aaaa o }
 {
-    if is_due(progress, q, aaaa, o) {
-        return !is_omitted(progress, q, now, o);
-    }
-    false
+    is_due(progress, q, aaaa, o) && !is_omitted(progress, q, now, o)
 }
 
 // The own records that are due and not left out.
 pub fn wanted(progress: Progress, q: Asks, now: u64, aaaa: bool) -> Set
     ensures { result ≡ wanted_of progress q now aaaa }
 {
-    let mut flags = [false; RECORDS];
-    let mut i = 0;
-    while i < RECORDS {
-        flags[i] = is_wanted(progress, q, now, aaaa, crate::records::record_at(i));
-        i += 1;
-    }
-    crate::records::set_of(flags)
+    Set::of(|o| is_wanted(progress, q, now, aaaa, o))
 }
 
 // Does a record that a message asks for go to its sender alone, if it goes at all?
 fn is_to_asker(progress: Progress, f: Facts, now: u64, o: Own) -> bool
     ensures { result ≡ is_to_asker progress f now o }
 {
-    let qm = f.qm;
-    let sent = progress.sent;
-    if crate::records::is_in(o, qm) {
-        return false;
-    }
-    let quarter = QUARTER_OF_A_SECOND * crate::records::own_ttl(o) as u64;
-    crate::was_recent(crate::sent_of(o, sent), now, quarter)
-}
-
-// Does a record that a message asks for, or not, go the one way or the other?
-fn goes_by(unicast: bool, asked: bool, toasker: bool) -> bool
-    ensures { result ≡ asked && cond unicast toasker (not toasker) }
-{
-    if asked {
-        if unicast {
-            return toasker;
-        }
-        return !toasker;
-    }
-    false
+    let quarter = QUARTER_OF_A_SECOND * u64::from(own_ttl(o));
+    !is_in(o, f.qm) && was_recent(sent_of(o, progress.sent), now, quarter)
 }
 
 // Of the records that a message asks for those that go by unicast, if they go at all, or those that go by multicast.
@@ -227,33 +168,18 @@ fn asked_by(unicast: bool, progress: Progress, f: Facts, now: u64) -> Set
     ensures { result ≡ asked_by unicast progress f now }
 {
     let q = asks_of(f);
-    let asked = q.asked;
-    let mut flags = [false; RECORDS];
-    let mut i = 0;
-    while i < RECORDS {
-        let o = crate::records::record_at(i);
-        flags[i] = goes_by(
-            unicast,
-            crate::records::is_in(o, asked),
-            is_to_asker(progress, f, now, o),
-        );
-        i += 1;
-    }
-    crate::records::set_of(flags)
+    Set::of(|o| is_in(o, q.asked) && is_to_asker(progress, f, now, o) == unicast)
 }
 
 // What a message asks of all on the link.
 fn multicast_asks(progress: Progress, f: Facts, now: u64) -> Asks
     ensures { result ≡ multicast_asks progress f now }
 {
-    let known = f.known;
-    let instance = f.instance;
-    let host = f.host;
     Asks {
         asked: asked_by(false, progress, f, now),
-        known,
-        instancegap: gap_of(instance.probe),
-        hostgap: gap_of(host.probe),
+        known: f.known,
+        instancegap: gap_of(f.instance.probe),
+        hostgap: gap_of(f.host.probe),
     }
 }
 
@@ -261,28 +187,19 @@ fn multicast_asks(progress: Progress, f: Facts, now: u64) -> Asks
 fn unicast_asks(progress: Progress, f: Facts, now: u64) -> Asks
     ensures { result ≡ unicast_asks progress f now }
 {
-    let known = f.known;
     Asks {
         asked: asked_by(true, progress, f, now),
-        known,
+        known: f.known,
         instancegap: 0,
         hostgap: 0,
     }
 }
 
 // The PTR reply after a message that asks for it or not; a reply that is set stays.
-fn set_reply(asks: bool, reply: When, due: u64) -> When
+fn set_reply(asks: bool, reply: Option<u64>, due: u64) -> Option<u64>
     ensures { result ≡ set_reply asks reply due }
 {
-    match reply {
-        When::Never => {
-            if asks {
-                return When::At(due);
-            }
-            When::Never
-        }
-        When::At(was) => When::At(was),
-    }
+    reply.or(asks.then_some(due))
 }
 
 // A packet received that is judged at once: what it does to the claims, and which records go out for it. A query adds its known answers to a held one of its
@@ -290,34 +207,21 @@ fn set_reply(asks: bool, reply: When, due: u64) -> When
 fn judge(progress: Progress, c: Coming, f: Facts, aaaa: bool) -> Received
     ensures { result ≡ judged_of progress c f aaaa }
 {
-    let instance = progress.instance;
-    let host = progress.host;
-    let sent = progress.sent;
-    let reply = progress.reply;
-    let holds = progress.holds;
-    let updated = progress.updated;
-    let told = f.instance;
-    let toldhost = f.host;
     let now = c.now;
-    let again = crate::after(now, progress.draw);
-    let deferred = crate::after(now, DEFERRAL);
+    let again = after(now, progress.draw);
+    let deferred = after(now, DEFERRAL);
     let go = wanted(progress, multicast_asks(progress, f, now), now, aaaa);
-    let answers = crate::records::at_once(go);
+    let answers = at_once(go);
     let unicast = wanted(progress, unicast_asks(progress, f, now), now, aaaa);
     Received {
         progress: Progress {
-            instance: heard_by(instance, f.response, told, again, deferred),
-            host: heard_by(host, f.response, toldhost, again, deferred),
-            sent: crate::mark_all(answers, sent, now),
-            reply: set_reply(
-                crate::records::is_in(Own::Ptr, go),
-                reply,
-                crate::after(now, c.draw),
-            ),
-            holds: join(holds, c, f),
-            updated,
-            draw: progress.draw,
+            instance: heard_by(progress.instance, f.response, f.instance, again, deferred),
+            host: heard_by(progress.host, f.response, f.host, again, deferred),
+            sent: mark_all(answers, progress.sent, now),
+            reply: set_reply(is_in(Own::Ptr, go), progress.reply, after(now, c.draw)),
+            holds: join(progress.holds, c, f),
             last: now,
+            ..progress
         },
         answers,
         unicast,
@@ -328,51 +232,34 @@ fn judge(progress: Progress, c: Coming, f: Facts, aaaa: bool) -> Received
 fn join(holds: Holds, c: Coming, f: Facts) -> Holds
     ensures { result ≡ joined holds c f }
 {
-    let from = c.from;
-    let known = f.known;
     if f.response {
-        return holds;
+        holds
+    } else {
+        add_known(c.from, f.known, holds)
     }
-    crate::holds::add_known(from, known, holds)
 }
 
 // Is a message held? A query with more known answers to follow is, but for a probe, where there is room and none of its address is held.
 fn is_to_hold(holds: Holds, c: Coming, f: Facts) -> bool
     ensures { result ≡ to_hold holds c f }
 {
-    let from = c.from;
-    let instance = f.instance;
-    let host = f.host;
-    if f.response {
-        return false;
-    }
-    if f.truncated {
-        if instance.probe {
-            return false;
-        }
-        if host.probe {
-            return false;
-        }
-        if crate::holds::some_from(from, holds) {
-            return false;
-        }
-        return crate::holds::some_free(holds);
-    }
-    false
+    !f.response
+        && f.truncated
+        && !f.instance.probe
+        && !f.host.probe
+        && !some_from(c.from, holds)
+        && some_free(holds)
 }
 
 // What is kept of a query that is held.
 fn hold_of(c: Coming, f: Facts) -> Hold
     ensures { result ≡ hold_of c f }
 {
-    let from = c.from;
-    let asked = f.asked;
-    let known = f.known;
     Hold {
-        from,
-        due: When::At(crate::after(c.now, c.hold)),
-        asked,
-        known,
+        from: c.from,
+        due: Some(after(c.now, c.hold)),
+        asked: f.asked,
+        known: f.known,
     }
 }
 
@@ -380,25 +267,14 @@ fn hold_of(c: Coming, f: Facts) -> Hold
 fn hold_back(progress: Progress, c: Coming, f: Facts) -> Received
     ensures { result ≡ held_back progress c f }
 {
-    let instance = progress.instance;
-    let host = progress.host;
-    let sent = progress.sent;
-    let reply = progress.reply;
-    let holds = progress.holds;
-    let updated = progress.updated;
     Received {
         progress: Progress {
-            instance,
-            host,
-            sent,
-            reply,
-            holds: crate::holds::add(hold_of(c, f), holds),
-            updated,
-            draw: progress.draw,
+            holds: add(hold_of(c, f), progress.holds),
             last: c.now,
+            ..progress
         },
-        answers: crate::records::no_record(),
-        unicast: crate::records::no_record(),
+        answers: no_record(),
+        unicast: no_record(),
     }
 }
 
@@ -406,24 +282,18 @@ fn hold_back(progress: Progress, c: Coming, f: Facts) -> Received
 pub fn receive(progress: Progress, c: Coming, f: Facts, aaaa: bool) -> Received
     ensures { result ≡ receive_of progress c f aaaa }
 {
-    let holds = progress.holds;
-    if is_to_hold(holds, c, f) {
-        return hold_back(progress, c, f);
+    if is_to_hold(progress.holds, c, f) {
+        hold_back(progress, c, f)
+    } else {
+        judge(progress, c, f, aaaa)
     }
-    judge(progress, c, f, aaaa)
 }
 
 // The own records that are due, whatever is known of them or was multicast before.
 fn due(progress: Progress, q: Asks, aaaa: bool) -> Set
     ensures { result ≡ due_to progress q aaaa }
 {
-    let mut flags = [false; RECORDS];
-    let mut i = 0;
-    while i < RECORDS {
-        flags[i] = is_due(progress, q, aaaa, crate::records::record_at(i));
-        i += 1;
-    }
-    crate::records::set_of(flags)
+    Set::of(|o| is_due(progress, q, aaaa, o))
 }
 
 // A query received at `now` from a plain resolver, by a port other than 5353: the records that are due, PTR too, go out at once by unicast, and nothing but
@@ -431,24 +301,12 @@ fn due(progress: Progress, q: Asks, aaaa: bool) -> Set
 pub fn plain(progress: Progress, now: u64, f: Facts, aaaa: bool) -> Received
     ensures { result ≡ plain_of progress now f aaaa }
 {
-    let instance = progress.instance;
-    let host = progress.host;
-    let sent = progress.sent;
-    let reply = progress.reply;
-    let holds = progress.holds;
-    let updated = progress.updated;
     Received {
         progress: Progress {
-            instance,
-            host,
-            sent,
-            reply,
-            holds,
-            updated,
-            draw: progress.draw,
             last: now,
+            ..progress
         },
-        answers: crate::records::no_record(),
+        answers: no_record(),
         unicast: due(progress, asks_of(f), aaaa),
     }
 }

@@ -5,9 +5,9 @@ ghost use Rattle.claims.specs.changes.Changes.{is_parting, goodbye_of, stop_of, 
 ghost use Rattle.claims.specs.changes.Changes.{forgetting_all, update_of, is_lost, lost_to_update, too_soon};
 
 use crate::holds::{Hold, Holds};
-use crate::records::{Own, RECORDS, Set};
+use crate::records::{Own, Set, carries_data, claim_for, is_in, is_present, no_record, only};
 use crate::steps::ANNOUNCEMENT_GAP;
-use crate::{ClaimState, Progress, When};
+use crate::{ClaimState, Progress, after, claim_of, is_held, mark_all, was_recent};
 
 // An update is refused until 6,000 ms after the last.
 pub const UPDATE_GAP: u64 = 6000;
@@ -37,47 +37,26 @@ pub struct Updated {
 fn is_parting(progress: Progress, aaaa: bool, o: Own) -> bool
     ensures { result ≡ is_parting progress aaaa o }
 {
-    let c = crate::claim_of(crate::records::claim_for(o), progress);
-    if crate::is_held(c) {
-        return crate::records::both(
-            crate::records::carries_data(o),
-            crate::records::is_present(o, aaaa),
-        );
-    }
-    false
+    is_held(claim_of(claim_for(o), progress)) && carries_data(o) && is_present(o, aaaa)
 }
 
 // The records of a goodbye.
 fn goodbye(progress: Progress, aaaa: bool) -> Set
     ensures { result ≡ goodbye_of progress aaaa }
 {
-    let mut flags = [false; RECORDS];
-    let mut i = 0;
-    while i < RECORDS {
-        flags[i] = is_parting(progress, aaaa, crate::records::record_at(i));
-        i += 1;
-    }
-    crate::records::set_of(flags)
+    Set::of(|o| is_parting(progress, aaaa, o))
 }
 
 // A stop: the held claims' records go out with TTL 0, and both claims are lost. `aaaa` says whether there is an AAAA record.
 pub fn stop(progress: Progress, now: u64, aaaa: bool) -> Stopped
     ensures { result ≡ stop_of progress now aaaa }
 {
-    let sent = progress.sent;
-    let reply = progress.reply;
-    let holds = progress.holds;
-    let updated = progress.updated;
     Stopped {
         progress: Progress {
             instance: ClaimState::Lost,
             host: ClaimState::Lost,
-            sent,
-            reply,
-            holds,
-            updated,
-            draw: progress.draw,
             last: now,
+            ..progress
         },
         goodbye: goodbye(progress, aaaa),
     }
@@ -98,13 +77,12 @@ fn after_update(c: ClaimState, again: u64, second: u64) -> ClaimState
     ensures { result ≡ after_update c again second }
 {
     match c {
-        ClaimState::Waiting(_) => ClaimState::Waiting(again),
-        ClaimState::Probing1(_) => ClaimState::Waiting(again),
-        ClaimState::Probing2(_) => ClaimState::Waiting(again),
-        ClaimState::Probing3(_) => ClaimState::Waiting(again),
-        ClaimState::Deferred(_) => ClaimState::Waiting(again),
-        ClaimState::Announced(_) => ClaimState::Announced(second),
-        ClaimState::Held => ClaimState::Announced(second),
+        ClaimState::Waiting(_)
+        | ClaimState::Probing1(_)
+        | ClaimState::Probing2(_)
+        | ClaimState::Deferred(_)
+        | ClaimState::Probing3(_) => ClaimState::Waiting(again),
+        ClaimState::Announced(_) | ClaimState::Held => ClaimState::Announced(second),
         ClaimState::Lost => ClaimState::Lost,
     }
 }
@@ -113,67 +91,38 @@ fn after_update(c: ClaimState, again: u64, second: u64) -> ClaimState
 fn announced(progress: Progress, change: Change) -> Set
     ensures { result ≡ announced_of progress change }
 {
-    let instance = progress.instance;
-    if crate::is_held(instance) {
-        return crate::records::only(changed_record(change));
+    if is_held(progress.instance) {
+        only(changed_record(change))
+    } else {
+        no_record()
     }
-    crate::records::no_record()
-}
-
-fn but_not(a: bool, b: bool) -> bool
-    ensures { result ≡ a && not b }
-{
-    if a {
-        return !b;
-    }
-    false
 }
 
 // The records of a set but for those of another.
 fn without(set: Set, gone: Set) -> Set
     ensures { result ≡ without set gone }
 {
-    let mut flags = [false; RECORDS];
-    let mut i = 0;
-    while i < RECORDS {
-        let o = crate::records::record_at(i);
-        flags[i] = but_not(
-            crate::records::is_in(o, set),
-            crate::records::is_in(o, gone),
-        );
-        i += 1;
-    }
-    crate::records::set_of(flags)
+    Set::of(|o| is_in(o, set) && !is_in(o, gone))
 }
 
 // A held query that no longer knows the record.
 fn forget(o: Own, h: Hold) -> Hold
     ensures { result ≡ forgetting o h }
 {
-    let from = h.from;
-    let due = h.due;
-    let asked = h.asked;
-    let known = h.known;
     Hold {
-        from,
-        due,
-        asked,
-        known: without(known, crate::records::only(o)),
+        known: without(h.known, only(o)),
+        ..h
     }
 }
 
 fn forget_all(o: Own, holds: Holds) -> Holds
     ensures { result ≡ forgetting_all o holds }
 {
-    let first = holds.first;
-    let second = holds.second;
-    let third = holds.third;
-    let fourth = holds.fourth;
     Holds {
-        first: forget(o, first),
-        second: forget(o, second),
-        third: forget(o, third),
-        fourth: forget(o, fourth),
+        first: forget(o, holds.first),
+        second: forget(o, holds.second),
+        third: forget(o, holds.third),
+        fourth: forget(o, holds.fourth),
     }
 }
 
@@ -181,41 +130,19 @@ fn forget_all(o: Own, holds: Holds) -> Holds
 pub fn update(progress: Progress, now: u64, change: Change) -> Updated
     ensures { result ≡ update_of progress now change }
 {
-    let instance = progress.instance;
-    let host = progress.host;
-    let sent = progress.sent;
-    let reply = progress.reply;
-    let holds = progress.holds;
-    let again = crate::after(now, progress.draw);
-    let second = crate::after(now, ANNOUNCEMENT_GAP);
+    let again = after(now, progress.draw);
+    let second = after(now, ANNOUNCEMENT_GAP);
     let goes = announced(progress, change);
     Updated {
         progress: Progress {
-            instance: after_update(instance, again, second),
-            host,
-            sent: crate::mark_all(goes, sent, now),
-            reply,
-            holds: forget_all(changed_record(change), holds),
-            updated: When::At(now),
-            draw: progress.draw,
+            instance: after_update(progress.instance, again, second),
+            sent: mark_all(goes, progress.sent, now),
+            holds: forget_all(changed_record(change), progress.holds),
+            updated: Some(now),
             last: now,
+            ..progress
         },
         announced: goes,
-    }
-}
-
-fn is_lost(c: ClaimState) -> bool
-    ensures { result ≡ is_lost c }
-{
-    match c {
-        ClaimState::Waiting(_) => false,
-        ClaimState::Probing1(_) => false,
-        ClaimState::Probing2(_) => false,
-        ClaimState::Probing3(_) => false,
-        ClaimState::Deferred(_) => false,
-        ClaimState::Announced(_) => false,
-        ClaimState::Held => false,
-        ClaimState::Lost => true,
     }
 }
 
@@ -223,14 +150,12 @@ fn is_lost(c: ClaimState) -> bool
 pub fn lost_refused(progress: Progress) -> bool
     ensures { result ≡ lost_to_update progress }
 {
-    let instance = progress.instance;
-    is_lost(instance)
+    matches!(progress.instance, ClaimState::Lost)
 }
 
 // Refusal 11 of an update: the last was less than 6,000 ms ago.
 pub fn too_soon_refused(progress: Progress, now: u64) -> bool
     ensures { result ≡ too_soon progress now }
 {
-    let updated = progress.updated;
-    crate::was_recent(updated, now, UPDATE_GAP)
+    was_recent(progress.updated, now, UPDATE_GAP)
 }

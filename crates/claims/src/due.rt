@@ -3,39 +3,26 @@
 ghost use Rattle.std.specs.Prelude.{◌≡◌};
 ghost use Rattle.claims.specs.due.Due.{earliest, next_due};
 
-use crate::steps::STEPS;
-use crate::{Progress, When};
+use crate::Progress;
+use crate::steps::{STEPS, step_at, step_due};
 
 // The earlier of two.
-fn earlier(a: When, b: When) -> When
+fn earlier(a: Option<u64>, b: Option<u64>) -> Option<u64>
     ensures { result ≡ earliest a b }
 {
-    match a {
-        When::Never => b,
-        When::At(first) => match b {
-            When::Never => a,
-            When::At(second) => {
-                if first <= second {
-                    return a;
-                }
-                b
-            }
-        },
+    match (a, b) {
+        (Some(first), Some(second)) => Some(first.min(second)),
+        _ => a.or(b),
     }
 }
 
 // When the next step is due.
-pub fn next_due(progress: Progress) -> When
+pub fn next_due(progress: Progress) -> Option<u64>
     ensures { result ≡ next_due progress }
 {
-    let mut first = When::Never;
-    let mut i = 0;
-    while i < STEPS {
-        first = earlier(
-            first,
-            crate::steps::step_due(crate::steps::step_at(i), progress),
-        );
-        i += 1;
+    let mut first = None;
+    for i in 0..STEPS {
+        first = earlier(first, step_due(step_at(i), progress));
     }
     first
 }

@@ -4,11 +4,10 @@ ghost use Rattle.std.specs.Prelude.{◌≡◌, ◌||◌};
 ghost use Rattle.claims.specs.holds.Holds.{is_taken, no_hold, no_holds, hold_at, with_hold, same_address, is_from, some_from, some_free, union, knowing};
 ghost use Rattle.claims.specs.holds.Holds.{knowing_all, queued};
 
-use crate::When;
-use crate::records::{RECORDS, Set};
+use crate::records::{Set, is_in, no_record};
 
 // An address of 16 bytes, as two numbers, the first eight bytes in `high`; an IPv4 address is ::ffff:a.b.c.d.
-#[derive(Clone, Copy)]
+#[derive(Clone, Copy, PartialEq, Eq)]
 pub struct Address {
     pub high: u64,
     pub low: u64,
@@ -19,7 +18,7 @@ pub struct Address {
 #[derive(Clone, Copy)]
 pub struct Hold {
     pub from: Address,
-    pub due: When,
+    pub due: Option<u64>,
     pub asked: Set,
     pub known: Set,
 }
@@ -48,9 +47,9 @@ pub fn no_hold() -> Hold
 {
     Hold {
         from: Address { high: 0, low: 0 },
-        due: When::Never,
-        asked: crate::records::no_record(),
-        known: crate::records::no_record(),
+        due: None,
+        asked: no_record(),
+        known: no_record(),
     }
 }
 
@@ -71,11 +70,7 @@ pub fn no_holds() -> Holds
 pub fn is_taken(h: Hold) -> bool
     ensures { result ≡ is_taken h }
 {
-    let due = h.due;
-    match due {
-        When::Never => false,
-        When::At(_) => true,
-    }
+    h.due.is_some()
 }
 
 // What is held at a place.
@@ -94,156 +89,71 @@ pub fn hold_at(place: Place, holds: Holds) -> Hold
 pub fn with_hold(place: Place, h: Hold, holds: Holds) -> Holds
     ensures { result ≡ with_hold place h holds }
 {
-    let first = holds.first;
-    let second = holds.second;
-    let third = holds.third;
-    let fourth = holds.fourth;
     match place {
-        Place::First => Holds {
-            first: h,
-            second,
-            third,
-            fourth,
-        },
-        Place::Second => Holds {
-            first,
-            second: h,
-            third,
-            fourth,
-        },
-        Place::Third => Holds {
-            first,
-            second,
-            third: h,
-            fourth,
-        },
-        Place::Fourth => Holds {
-            first,
-            second,
-            third,
-            fourth: h,
-        },
+        Place::First => Holds { first: h, ..holds },
+        Place::Second => Holds { second: h, ..holds },
+        Place::Third => Holds { third: h, ..holds },
+        Place::Fourth => Holds { fourth: h, ..holds },
     }
-}
-
-fn same_address(a: Address, b: Address) -> bool
-    ensures { result ≡ same_address a b }
-{
-    if a.high == b.high {
-        return a.low == b.low;
-    }
-    false
 }
 
 // Is a query from the address held there?
 fn is_from(from: Address, h: Hold) -> bool
     ensures { result ≡ is_from from h }
 {
-    let its = h.from;
-    if is_taken(h) {
-        return same_address(its, from);
-    }
-    false
+    is_taken(h) && h.from == from
 }
 
 // Is a query from the address held?
 pub fn some_from(from: Address, holds: Holds) -> bool
     ensures { result ≡ some_from from holds }
 {
-    let first = holds.first;
-    let second = holds.second;
-    let third = holds.third;
-    let fourth = holds.fourth;
-    if is_from(from, first) {
-        return true;
-    }
-    if is_from(from, second) {
-        return true;
-    }
-    if is_from(from, third) {
-        return true;
-    }
-    if is_from(from, fourth) {
-        return true;
-    }
-    false
+    is_from(from, holds.first)
+        || is_from(from, holds.second)
+        || is_from(from, holds.third)
+        || is_from(from, holds.fourth)
 }
 
 // Are fewer than four held?
 pub fn some_free(holds: Holds) -> bool
     ensures { result ≡ some_free holds }
 {
-    let first = holds.first;
-    let second = holds.second;
-    let third = holds.third;
-    let fourth = holds.fourth;
-    if is_taken(first) {
-        if is_taken(second) {
-            if is_taken(third) {
-                if is_taken(fourth) {
-                    return false;
-                }
-            }
-        }
-    }
-    true
-}
-
-fn either(a: bool, b: bool) -> bool
-    ensures { result ≡ a || b }
-{
-    if a {
-        return true;
-    }
-    b
+    !(is_taken(holds.first)
+        && is_taken(holds.second)
+        && is_taken(holds.third)
+        && is_taken(holds.fourth))
 }
 
 // The records of either set.
 pub fn union(a: Set, b: Set) -> Set
     ensures { result ≡ union a b }
 {
-    let mut flags = [false; RECORDS];
-    let mut i = 0;
-    while i < RECORDS {
-        let o = crate::records::record_at(i);
-        flags[i] = either(crate::records::is_in(o, a), crate::records::is_in(o, b));
-        i += 1;
-    }
-    crate::records::set_of(flags)
+    Set::of(|o| is_in(o, a) || is_in(o, b))
 }
 
 // What is held at a place, after a query from `from` that knows some records.
 fn knowing(from: Address, known: Set, h: Hold) -> Hold
     ensures { result ≡ knowing from known h }
 {
-    let its = h.from;
-    let due = h.due;
-    let asked = h.asked;
-    let before = h.known;
     if is_from(from, h) {
-        return Hold {
-            from: its,
-            due,
-            asked,
-            known: union(before, known),
-        };
+        Hold {
+            known: union(h.known, known),
+            ..h
+        }
+    } else {
+        h
     }
-    h
 }
 
 // The held queries after a query from `from`: each that came from there knows its known answers too.
 pub fn add_known(from: Address, known: Set, holds: Holds) -> Holds
     ensures { result ≡ knowing_all from known holds }
 {
-    let first = holds.first;
-    let second = holds.second;
-    let third = holds.third;
-    let fourth = holds.fourth;
     Holds {
-        first: knowing(from, known, first),
-        second: knowing(from, known, second),
-        third: knowing(from, known, third),
-        fourth: knowing(from, known, fourth),
+        first: knowing(from, known, holds.first),
+        second: knowing(from, known, holds.second),
+        third: knowing(from, known, holds.third),
+        fourth: knowing(from, known, holds.fourth),
     }
 }
 
@@ -251,41 +161,39 @@ pub fn add_known(from: Address, known: Set, holds: Holds) -> Holds
 pub fn add(new: Hold, holds: Holds) -> Holds
     ensures { result ≡ queued new holds }
 {
-    let first = holds.first;
-    let second = holds.second;
-    let third = holds.third;
-    let fourth = holds.fourth;
-    if is_taken(first) {
-        if is_taken(second) {
-            if is_taken(third) {
-                if is_taken(fourth) {
-                    return holds;
-                }
-                return Holds {
-                    first,
-                    second,
-                    third,
-                    fourth: new,
-                };
-            }
-            return Holds {
-                first,
-                second,
-                third: fourth,
-                fourth: new,
-            };
+    let Holds {
+        first,
+        second,
+        third,
+        fourth,
+    } = holds;
+    if !is_taken(first) {
+        Holds {
+            first: second,
+            second: third,
+            third: fourth,
+            fourth: new,
         }
-        return Holds {
+    } else if !is_taken(second) {
+        Holds {
             first,
             second: third,
             third: fourth,
             fourth: new,
-        };
-    }
-    Holds {
-        first: second,
-        second: third,
-        third: fourth,
-        fourth: new,
+        }
+    } else if !is_taken(third) {
+        Holds {
+            first,
+            second,
+            third: fourth,
+            fourth: new,
+        }
+    } else if !is_taken(fourth) {
+        Holds {
+            fourth: new,
+            ..holds
+        }
+    } else {
+        holds
     }
 }

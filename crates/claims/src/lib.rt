@@ -15,21 +15,11 @@ ghost use Rattle.std.specs.Prelude.{◌≡◌};
 ghost use Rattle.claims.specs.Time.{after_ms, age, recently, due_by, at_most, never_sent, sent_of, marked, marked_all};
 ghost use Rattle.claims.specs.Claims.{state_number, due_of, held_now, claim_of, begun_at, after_conflict, after_probe};
 
-use crate::holds::Holds;
-use crate::records::{Claim, Own, RECORDS, Set};
-
-// The last time that 64 bits hold.
-const END_OF_TIME: u64 = 18446744073709551615;
+use crate::holds::{Holds, no_holds};
+use crate::records::{Claim, Own, RECORDS, Set, index_of, is_in, record_at};
 
 // A record that was multicast less than 1,000 ms ago is not sent again.
 pub const MULTICAST_GAP: u64 = 1000;
-
-// Never, or at a time.
-#[derive(Clone, Copy)]
-pub enum When {
-    Never,
-    At(u64),
-}
 
 // The state of a claim, each case with the time at which its next step is due: `Probing1` has sent one probe, `Announced` holds the name and has its second
 // announcement to come.
@@ -48,7 +38,7 @@ pub enum ClaimState {
 // When a record was last multicast.
 #[derive(Clone, Copy)]
 pub struct Multicast {
-    pub last: When,
+    pub last: Option<u64>,
 }
 
 // The last multicast of each own record, by its index.
@@ -64,9 +54,9 @@ pub struct Progress {
     pub instance: ClaimState,
     pub host: ClaimState,
     pub sent: Multicasts,
-    pub reply: When,
+    pub reply: Option<u64>,
     pub holds: Holds,
-    pub updated: When,
+    pub updated: Option<u64>,
     pub draw: u64,
     pub last: u64,
 }
@@ -75,50 +65,28 @@ pub struct Progress {
 pub fn after(now: u64, ms: u64) -> u64
     ensures { result ≡ after_ms now ms }
 {
-    if END_OF_TIME - now < ms {
-        return END_OF_TIME;
-    }
-    now + ms
-}
-
-// How long ago a kept time is.
-fn ms_ago(time: u64, now: u64) -> u64
-    ensures { result ≡ age time now }
-{
-    if now < time {
-        return 0;
-    }
-    now - time
+    now.saturating_add(ms)
 }
 
 // Was a record that was last multicast then multicast less than `gap` ms ago?
-pub fn was_recent(last: When, now: u64, gap: u64) -> bool
+pub fn was_recent(last: Option<u64>, now: u64, gap: u64) -> bool
     ensures { result ≡ recently last now gap }
 {
-    match last {
-        When::Never => false,
-        When::At(time) => ms_ago(time, now) < gap,
-    }
+    last.is_some_and(|time| now.saturating_sub(time) < gap)
 }
 
 // Has the time come?
-pub fn has_come(due: When, now: u64) -> bool
+pub fn has_come(due: Option<u64>, now: u64) -> bool
     ensures { result ≡ due_by due now }
 {
-    match due {
-        When::Never => false,
-        When::At(time) => time <= now,
-    }
+    due.is_some_and(|time| time <= now)
 }
 
 // Is the time, if there is one, at most `most`?
-pub fn is_within(kept: When, most: u64) -> bool
+pub fn is_within(kept: Option<u64>, most: u64) -> bool
     ensures { result ≡ at_most most kept }
 {
-    match kept {
-        When::Never => true,
-        When::At(time) => time <= most,
-    }
+    kept.is_none_or(|time| time <= most)
 }
 
 // The number of a claim's state: 0 waiting, 1 probing, 2 deferred, 3 held, 4 lost.
@@ -127,45 +95,32 @@ pub fn state_number(c: ClaimState) -> u8
 {
     match c {
         ClaimState::Waiting(_) => 0,
-        ClaimState::Probing1(_) => 1,
-        ClaimState::Probing2(_) => 1,
-        ClaimState::Probing3(_) => 1,
+        ClaimState::Probing1(_) | ClaimState::Probing2(_) | ClaimState::Probing3(_) => 1,
         ClaimState::Deferred(_) => 2,
-        ClaimState::Announced(_) => 3,
-        ClaimState::Held => 3,
+        ClaimState::Announced(_) | ClaimState::Held => 3,
         ClaimState::Lost => 4,
     }
 }
 
 // When the claim's next step is due.
-pub fn due_of(c: ClaimState) -> When
+pub fn due_of(c: ClaimState) -> Option<u64>
     ensures { result ≡ due_of c }
 {
     match c {
-        ClaimState::Waiting(due) => When::At(due),
-        ClaimState::Probing1(due) => When::At(due),
-        ClaimState::Probing2(due) => When::At(due),
-        ClaimState::Probing3(due) => When::At(due),
-        ClaimState::Deferred(due) => When::At(due),
-        ClaimState::Announced(due) => When::At(due),
-        ClaimState::Held => When::Never,
-        ClaimState::Lost => When::Never,
+        ClaimState::Waiting(due)
+        | ClaimState::Probing1(due)
+        | ClaimState::Probing2(due)
+        | ClaimState::Probing3(due)
+        | ClaimState::Announced(due)
+        | ClaimState::Deferred(due) => Some(due),
+        ClaimState::Held | ClaimState::Lost => None,
     }
 }
 
 pub fn is_held(c: ClaimState) -> bool
     ensures { result ≡ held_now c }
 {
-    match c {
-        ClaimState::Waiting(_) => false,
-        ClaimState::Probing1(_) => false,
-        ClaimState::Probing2(_) => false,
-        ClaimState::Probing3(_) => false,
-        ClaimState::Deferred(_) => false,
-        ClaimState::Announced(_) => true,
-        ClaimState::Held => true,
-        ClaimState::Lost => false,
-    }
+    matches!(c, ClaimState::Announced(_) | ClaimState::Held)
 }
 
 // The state of one of the two claims.
@@ -182,9 +137,8 @@ pub fn claim_of(claim: Claim, progress: Progress) -> ClaimState
 pub fn never_sent() -> Multicasts
     ensures { result ≡ never_sent }
 {
-    let never = Multicast { last: When::Never };
     Multicasts {
-        of: [never; RECORDS],
+        of: [Multicast { last: None }; RECORDS],
     }
 }
 
@@ -197,9 +151,9 @@ pub fn start(now: u64, draw: u64) -> Progress
         instance: ClaimState::Waiting(due),
         host: ClaimState::Waiting(due),
         sent: never_sent(),
-        reply: When::Never,
-        holds: crate::holds::no_holds(),
-        updated: When::Never,
+        reply: None,
+        holds: no_holds(),
+        updated: None,
         draw,
         last: now,
     }
@@ -209,15 +163,10 @@ pub fn start(now: u64, draw: u64) -> Progress
 pub fn after_conflict(c: ClaimState, due: u64) -> ClaimState
     ensures { result ≡ after_conflict c due }
 {
-    match c {
-        ClaimState::Waiting(_) => ClaimState::Lost,
-        ClaimState::Probing1(_) => ClaimState::Lost,
-        ClaimState::Probing2(_) => ClaimState::Lost,
-        ClaimState::Probing3(_) => ClaimState::Lost,
-        ClaimState::Deferred(_) => ClaimState::Lost,
-        ClaimState::Announced(_) => ClaimState::Waiting(due),
-        ClaimState::Held => ClaimState::Waiting(due),
-        ClaimState::Lost => ClaimState::Lost,
+    if is_held(c) {
+        ClaimState::Waiting(due)
+    } else {
+        ClaimState::Lost
     }
 }
 
@@ -226,49 +175,36 @@ pub fn after_probe(c: ClaimState, due: u64) -> ClaimState
     ensures { result ≡ after_probe c due }
 {
     match c {
-        ClaimState::Waiting(was) => ClaimState::Waiting(was),
-        ClaimState::Probing1(_) => ClaimState::Deferred(due),
-        ClaimState::Probing2(_) => ClaimState::Deferred(due),
-        ClaimState::Probing3(_) => ClaimState::Deferred(due),
-        ClaimState::Deferred(was) => ClaimState::Deferred(was),
-        ClaimState::Announced(was) => ClaimState::Announced(was),
-        ClaimState::Held => ClaimState::Held,
-        ClaimState::Lost => ClaimState::Lost,
+        ClaimState::Probing1(_) | ClaimState::Probing2(_) | ClaimState::Probing3(_) => {
+            ClaimState::Deferred(due)
+        }
+        _ => c,
     }
 }
 
 // When the record was last multicast.
-pub fn sent_of(o: Own, sent: Multicasts) -> When
+pub fn sent_of(o: Own, sent: Multicasts) -> Option<u64>
     ensures { result ≡ sent_of o sent }
 {
-    let i = crate::records::index_of(o);
-    let of = sent.of;
-    let m = of[i];
-    m.last
+    sent.of[index_of(o)].last
 }
 
 // The last multicast of a record after a packet, with the record in it or not.
-fn mark(went: bool, last: When, now: u64) -> When
+fn mark(went: bool, last: Option<u64>, now: u64) -> Option<u64>
     ensures { result ≡ marked went last now }
 {
-    if went {
-        return When::At(now);
-    }
-    last
+    if went { Some(now) } else { last }
 }
 
 // The last multicasts after a packet with the records of a set.
 pub fn mark_all(set: Set, sent: Multicasts, now: u64) -> Multicasts
     ensures { result ≡ marked_all set sent now }
 {
-    let never = Multicast { last: When::Never };
-    let mut of = [never; RECORDS];
-    let mut i = 0;
-    while i < RECORDS {
-        let o = crate::records::record_at(i);
-        let last = mark(crate::records::is_in(o, set), sent_of(o, sent), now);
+    let mut of = [Multicast { last: None }; RECORDS];
+    for i in 0..RECORDS {
+        let o = record_at(i);
+        let last = mark(is_in(o, set), sent_of(o, sent), now);
         of[i] = Multicast { last };
-        i += 1;
     }
     Multicasts { of }
 }

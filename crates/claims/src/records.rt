@@ -6,7 +6,7 @@ ghost use Rattle.claims.specs.records.Own.{first_of, second_of, has, each};
 ghost use Rattle.claims.specs.records.Sets.{no_record, only, any_of, at_once, with_data, records_of};
 
 // The two claims: to the instance's name and to the host's.
-#[derive(Clone, Copy)]
+#[derive(Clone, Copy, PartialEq, Eq)]
 pub enum Claim {
     Instance,
     Host,
@@ -49,6 +49,24 @@ pub struct Set {
     pub hostnsec: bool,
 }
 
+impl Set {
+    // The records of which a test holds.
+    pub(crate) fn of<F: Fn(Own) -> bool>(test: F) -> Set
+        requires { F.IsAlwaysCallable test }
+        ensures { (o : _) → F.post test o (has o result) }
+    {
+        Set {
+            ptr: test(Own::Ptr),
+            srv: test(Own::Srv),
+            txt: test(Own::Txt),
+            a: test(Own::A),
+            aaaa: test(Own::Aaaa),
+            instancensec: test(Own::InstanceNsec),
+            hostnsec: test(Own::HostNsec),
+        }
+    }
+}
+
 // The record of an index; past the end, the first.
 pub fn record_at(i: usize) -> Own
     ensures { result ≡ record_at i }
@@ -62,25 +80,14 @@ pub fn record_at(i: usize) -> Own
         Own::InstanceNsec,
         Own::HostNsec,
     ];
-    if i < RECORDS {
-        let o = all[i];
-        return o;
-    }
-    Own::Ptr
+    if i < RECORDS { all[i] } else { Own::Ptr }
 }
 
+// The place of a record in the order of `Own`.
 pub fn index_of(o: Own) -> usize
     ensures { result ≡ index_of o }
 {
-    match o {
-        Own::Ptr => 0,
-        Own::Srv => 1,
-        Own::Txt => 2,
-        Own::A => 3,
-        Own::Aaaa => 4,
-        Own::InstanceNsec => 5,
-        Own::HostNsec => 6,
-    }
+    o as usize
 }
 
 pub fn own_type(o: Own) -> u16
@@ -204,30 +211,6 @@ pub fn second_of(claim: Claim) -> Own
     }
 }
 
-fn same_claim(a: Claim, b: Claim) -> bool
-    ensures { result ≡ same_claim a b }
-{
-    match a {
-        Claim::Instance => match b {
-            Claim::Instance => true,
-            Claim::Host => false,
-        },
-        Claim::Host => match b {
-            Claim::Instance => false,
-            Claim::Host => true,
-        },
-    }
-}
-
-pub fn both(a: bool, b: bool) -> bool
-    ensures { result ≡ a && b }
-{
-    if a {
-        return b;
-    }
-    false
-}
-
 // Is the record in the set?
 pub fn is_in(o: Own, set: Set) -> bool
     ensures { result ≡ has o set }
@@ -279,57 +262,26 @@ pub fn only(o: Own) -> Set
 pub fn is_any(set: Set) -> bool
     ensures { result ≡ any_of set }
 {
-    let mut i = 0;
-    while i < RECORDS {
-        if is_in(record_at(i), set) {
-            return true;
-        }
-        i += 1;
-    }
-    false
+    set.ptr || set.srv || set.txt || set.a || set.aaaa || set.instancensec || set.hostnsec
 }
 
 // The records of a set that go out at once.
 pub fn at_once(set: Set) -> Set
     ensures { result ≡ at_once set }
 {
-    let mut flags = [false; RECORDS];
-    let mut i = 0;
-    while i < RECORDS {
-        let o = record_at(i);
-        flags[i] = both(goes_at_once(o), is_in(o, set));
-        i += 1;
-    }
-    set_of(flags)
+    Set::of(|o| goes_at_once(o) && is_in(o, set))
 }
 
 // The records of a set that carry data.
 pub fn with_data(set: Set) -> Set
     ensures { result ≡ with_data set }
 {
-    let mut flags = [false; RECORDS];
-    let mut i = 0;
-    while i < RECORDS {
-        let o = record_at(i);
-        flags[i] = both(carries_data(o), is_in(o, set));
-        i += 1;
-    }
-    set_of(flags)
+    Set::of(|o| carries_data(o) && is_in(o, set))
 }
 
 // The records that are announced for a claim.
 pub fn records_of(claim: Claim, aaaa: bool) -> Set
     ensures { result ≡ records_of claim aaaa }
 {
-    let mut flags = [false; RECORDS];
-    let mut i = 0;
-    while i < RECORDS {
-        let o = record_at(i);
-        flags[i] = both(
-            same_claim(claim_for(o), claim),
-            both(carries_data(o), is_present(o, aaaa)),
-        );
-        i += 1;
-    }
-    set_of(flags)
+    Set::of(|o| claim_for(o) == claim && carries_data(o) && is_present(o, aaaa))
 }

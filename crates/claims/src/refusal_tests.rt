@@ -5,8 +5,7 @@ ghost use Rattle.claims.specs.Refusals.{claim_kept, multicasts_kept, hold_kept, 
 ghost use Rattle.claims.specs.Refusals.{wrong_hold_draw, wrong_draws};
 
 use crate::holds::{Hold, Holds};
-use crate::records::RECORDS;
-use crate::{ClaimState, Multicasts, Progress};
+use crate::{ClaimState, Multicasts, Progress, due_of, is_within};
 
 // The last time that a call may carry: 2^62.
 pub const LAST_TIME: u64 = 4611686018427387904;
@@ -18,90 +17,44 @@ pub const LAST_KEPT: u64 = 4611686018427389904;
 fn claim_kept(c: ClaimState, most: u64) -> bool
     ensures { result ≡ claim_kept most c }
 {
-    crate::is_within(crate::due_of(c), most)
+    is_within(due_of(c), most)
 }
 
 // Is every last multicast at most `most`?
 fn multicasts_kept(sent: Multicasts, most: u64) -> bool
     ensures { result ≡ multicasts_kept most sent }
 {
-    let mut i = 0;
-    while i < RECORDS {
-        let last = crate::sent_of(crate::records::record_at(i), sent);
-        if !crate::is_within(last, most) {
-            return false;
-        }
-        i += 1;
-    }
-    true
+    sent.of.iter().all(|m| is_within(m.last, most))
 }
 
 // Is the due time of a held query, if there is one, at most `most`?
 fn hold_kept(h: Hold, most: u64) -> bool
     ensures { result ≡ hold_kept most h }
 {
-    let due = h.due;
-    crate::is_within(due, most)
+    is_within(h.due, most)
 }
 
 // Is the due time of every held query at most `most`?
 fn holds_kept(holds: Holds, most: u64) -> bool
     ensures { result ≡ holds_kept most holds }
 {
-    let first = holds.first;
-    let second = holds.second;
-    let third = holds.third;
-    let fourth = holds.fourth;
-    if hold_kept(first, most) {
-        if hold_kept(second, most) {
-            if hold_kept(third, most) {
-                if hold_kept(fourth, most) {
-                    return true;
-                }
-            }
-        }
-    }
-    false
-}
-
-// Do all seven hold?
-fn all_seven(a: bool, b: bool, c: bool, d: bool, e: bool, f: bool, g: bool) -> bool
-    ensures { result ≡ a && (b && (c && (d && (e && (f && g))))) }
-{
-    if a {
-        if b {
-            if c {
-                if d {
-                    if e {
-                        return f && g;
-                    }
-                }
-            }
-        }
-    }
-    false
+    hold_kept(holds.first, most)
+        && hold_kept(holds.second, most)
+        && hold_kept(holds.third, most)
+        && hold_kept(holds.fourth, most)
 }
 
 // Is every time that is kept at most `most`?
 fn is_kept(progress: Progress, most: u64) -> bool
     ensures { result ≡ kept most progress }
 {
-    let instance = progress.instance;
-    let host = progress.host;
-    let sent = progress.sent;
-    let reply = progress.reply;
-    let holds = progress.holds;
-    let updated = progress.updated;
-    let last = progress.last;
-    all_seven(
-        claim_kept(instance, most),
-        claim_kept(host, most),
-        multicasts_kept(sent, most),
-        crate::is_within(reply, most),
-        holds_kept(holds, most),
-        crate::is_within(updated, most),
-        last <= most,
-    )
+    claim_kept(progress.instance, most)
+        && claim_kept(progress.host, most)
+        && multicasts_kept(progress.sent, most)
+        && is_within(progress.reply, most)
+        && holds_kept(progress.holds, most)
+        && is_within(progress.updated, most)
+        && progress.last <= most
 }
 
 // Refusal 1 of a start.
@@ -115,14 +68,7 @@ pub fn start_time_refused(now: u64) -> bool
 pub fn time_refused(progress: Progress, now: u64) -> bool
     ensures { result ≡ wrong_time progress now }
 {
-    let last = progress.last;
-    if LAST_TIME < now {
-        return true;
-    }
-    if now < last {
-        return true;
-    }
-    !is_kept(progress, LAST_KEPT)
+    start_time_refused(now) || now < progress.last || !is_kept(progress, LAST_KEPT)
 }
 
 // Refusal 2 of a start, and what refusal 7 asks of a kept start draw.
@@ -136,28 +82,19 @@ pub fn start_draw_refused(draw: u64) -> bool
 fn reply_draw_refused(draw: u64) -> bool
     ensures { result ≡ wrong_reply_draw draw }
 {
-    if draw < 20 {
-        return true;
-    }
-    120 < draw
+    draw < 20 || 120 < draw
 }
 
 // Refusal 2 of a packet received: the draw for a hold.
 fn hold_draw_refused(hold: u64) -> bool
     ensures { result ≡ wrong_hold_draw hold }
 {
-    if hold < 400 {
-        return true;
-    }
-    500 < hold
+    hold < 400 || 500 < hold
 }
 
 // Refusal 2 of a packet received: either draw.
 pub fn draws_refused(draw: u64, hold: u64) -> bool
     ensures { result ≡ wrong_draws draw hold }
 {
-    if reply_draw_refused(draw) {
-        return true;
-    }
-    hold_draw_refused(hold)
+    reply_draw_refused(draw) || hold_draw_refused(hold)
 }

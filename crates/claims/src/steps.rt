@@ -6,9 +6,13 @@ ghost use Rattle.claims.specs.steps.Tick.{with_claim, with_sent, without_reply, 
 ghost use Rattle.claims.specs.steps.Tick.{ptr_reply, reply_turn, without_hold, hold_answers, hold_turn, step_turn, walked, ended_of, tick_of};
 ghost use Rattle.claims.specs.steps.Steps as steps;
 
-use crate::holds::Place;
-use crate::records::{Claim, Own, RECORDS, Set};
-use crate::{ClaimState, Multicasts, Progress, When};
+use crate::answers::{asks_of_hold, wanted};
+use crate::holds::{Place, hold_at, no_hold, with_hold};
+use crate::records::{Claim, Own, Set, is_any, is_in, no_record, only, records_of};
+use crate::{
+    ClaimState, MULTICAST_GAP, Multicasts, Progress, after, claim_of, due_of, has_come, is_held,
+    mark_all, sent_of, was_recent,
+};
 
 // The first probe is followed by two more, and each probe by the next step, after 250 ms; the first announcement by the second after 1,000 ms.
 const PROBE_GAP: u64 = 250;
@@ -72,26 +76,25 @@ pub fn step_at(i: usize) -> Step
         Step::OfHold(Place::Fourth),
     ];
     if i < STEPS {
-        let s = steps[i];
-        return s;
+        steps[i]
+    } else {
+        Step::OfClaim(Claim::Instance)
     }
-    Step::OfClaim(Claim::Instance)
 }
 
 // When the query that is held at a place is answered.
-fn hold_due(place: Place, progress: Progress) -> When
+fn hold_due(place: Place, progress: Progress) -> Option<u64>
     ensures { result ≡ hold_due place progress }
 {
-    let h = crate::holds::hold_at(place, progress.holds);
-    h.due
+    hold_at(place, progress.holds).due
 }
 
 // When a step is due.
-pub fn step_due(s: Step, progress: Progress) -> When
+pub fn step_due(s: Step, progress: Progress) -> Option<u64>
     ensures { result ≡ step_due s progress }
 {
     match s {
-        Step::OfClaim(claim) => crate::due_of(crate::claim_of(claim, progress)),
+        Step::OfClaim(claim) => due_of(claim_of(claim, progress)),
         Step::PtrReply => progress.reply,
         Step::OfHold(place) => hold_due(place, progress),
     }
@@ -101,12 +104,10 @@ pub fn step_due(s: Step, progress: Progress) -> When
 fn more_due(progress: Progress, now: u64) -> bool
     ensures { result ≡ more_due progress now }
 {
-    let mut i = 0;
-    while i < STEPS {
-        if crate::has_come(step_due(step_at(i), progress), now) {
+    for i in 0..STEPS {
+        if has_come(step_due(step_at(i), progress), now) {
             return true;
         }
-        i += 1;
     }
     false
 }
@@ -115,82 +116,55 @@ fn more_due(progress: Progress, now: u64) -> bool
 fn taken_action(c: ClaimState, now: u64) -> Action
     ensures { result ≡ taken_action c now }
 {
-    let next = crate::after(now, PROBE_GAP);
+    let next = after(now, PROBE_GAP);
     match c {
-        ClaimState::Waiting(_) => Action::Probe(ClaimState::Probing1(next)),
+        ClaimState::Waiting(_) | ClaimState::Deferred(_) => {
+            Action::Probe(ClaimState::Probing1(next))
+        }
         ClaimState::Probing1(_) => Action::Probe(ClaimState::Probing2(next)),
         ClaimState::Probing2(_) => Action::Probe(ClaimState::Probing3(next)),
         ClaimState::Probing3(_) => {
-            Action::Announce(ClaimState::Announced(crate::after(now, ANNOUNCEMENT_GAP)))
+            Action::Announce(ClaimState::Announced(after(now, ANNOUNCEMENT_GAP)))
         }
-        ClaimState::Deferred(_) => Action::Probe(ClaimState::Probing1(next)),
         ClaimState::Announced(_) => Action::Repeat(ClaimState::Held),
-        ClaimState::Held => Action::Idle,
-        ClaimState::Lost => Action::Idle,
+        ClaimState::Held | ClaimState::Lost => Action::Idle,
     }
 }
 
 fn claim_action(c: ClaimState, now: u64) -> Action
     ensures { result ≡ action_of c now }
 {
-    if crate::has_come(crate::due_of(c), now) {
-        return taken_action(c, now);
+    if has_come(due_of(c), now) {
+        taken_action(c, now)
+    } else {
+        Action::Idle
     }
-    Action::Idle
 }
 
 // Is a record wanted, and not multicast too short a time ago?
-fn is_unsent(wanted: bool, last: When, now: u64) -> bool
+fn is_unsent(wanted: bool, last: Option<u64>, now: u64) -> bool
     ensures { result ≡ unsent wanted last now }
 {
-    if wanted {
-        return !crate::was_recent(last, now, crate::MULTICAST_GAP);
-    }
-    false
+    wanted && !was_recent(last, now, MULTICAST_GAP)
 }
 
 fn unsent_of(set: Set, sent: Multicasts, now: u64) -> Set
     ensures { result ≡ unsent_of set sent now }
 {
-    let mut flags = [false; RECORDS];
-    let mut i = 0;
-    while i < RECORDS {
-        let o = crate::records::record_at(i);
-        flags[i] = is_unsent(crate::records::is_in(o, set), crate::sent_of(o, sent), now);
-        i += 1;
-    }
-    crate::records::set_of(flags)
+    Set::of(|o| is_unsent(is_in(o, set), sent_of(o, sent), now))
 }
 
 fn with_claim(claim: Claim, c: ClaimState, progress: Progress) -> Progress
     ensures { result ≡ with_claim claim c progress }
 {
-    let instance = progress.instance;
-    let host = progress.host;
-    let sent = progress.sent;
-    let reply = progress.reply;
-    let holds = progress.holds;
-    let updated = progress.updated;
     match claim {
         Claim::Instance => Progress {
             instance: c,
-            host,
-            sent,
-            reply,
-            holds,
-            updated,
-            draw: progress.draw,
-            last: progress.last,
+            ..progress
         },
         Claim::Host => Progress {
-            instance,
             host: c,
-            sent,
-            reply,
-            holds,
-            updated,
-            draw: progress.draw,
-            last: progress.last,
+            ..progress
         },
     }
 }
@@ -198,40 +172,15 @@ fn with_claim(claim: Claim, c: ClaimState, progress: Progress) -> Progress
 fn with_sent(sent: Multicasts, progress: Progress) -> Progress
     ensures { result ≡ with_sent sent progress }
 {
-    let instance = progress.instance;
-    let host = progress.host;
-    let reply = progress.reply;
-    let holds = progress.holds;
-    let updated = progress.updated;
-    Progress {
-        instance,
-        host,
-        sent,
-        reply,
-        holds,
-        updated,
-        draw: progress.draw,
-        last: progress.last,
-    }
+    Progress { sent, ..progress }
 }
 
 fn without_reply(progress: Progress) -> Progress
     ensures { result ≡ without_reply progress }
 {
-    let instance = progress.instance;
-    let host = progress.host;
-    let sent = progress.sent;
-    let holds = progress.holds;
-    let updated = progress.updated;
     Progress {
-        instance,
-        host,
-        sent,
-        reply: When::Never,
-        holds,
-        updated,
-        draw: progress.draw,
-        last: progress.last,
+        reply: None,
+        ..progress
     }
 }
 
@@ -239,23 +188,22 @@ fn without_reply(progress: Progress) -> Progress
 fn send(set: Set, now: u64, progress: Progress) -> Turn
     ensures { result ≡ sends set now progress }
 {
-    let sent = progress.sent;
-    if crate::records::is_any(set) {
-        return Turn {
-            progress: with_sent(crate::mark_all(set, sent, now), progress),
+    if is_any(set) {
+        Turn {
+            progress: with_sent(mark_all(set, progress.sent, now), progress),
             output: Output::Response(set),
-        };
-    }
-    Turn {
-        progress,
-        output: Output::Nothing,
+        }
+    } else {
+        Turn {
+            progress,
+            output: Output::Nothing,
+        }
     }
 }
 
 fn action_turn(a: Action, claim: Claim, aaaa: bool, now: u64, progress: Progress) -> Turn
     ensures { result ≡ action_turn a claim aaaa now progress }
 {
-    let sent = progress.sent;
     match a {
         Action::Idle => Turn {
             progress,
@@ -265,13 +213,9 @@ fn action_turn(a: Action, claim: Claim, aaaa: bool, now: u64, progress: Progress
             progress: with_claim(claim, c, progress),
             output: Output::Probe(claim),
         },
-        Action::Announce(c) => send(
-            crate::records::records_of(claim, aaaa),
-            now,
-            with_claim(claim, c, progress),
-        ),
+        Action::Announce(c) => send(records_of(claim, aaaa), now, with_claim(claim, c, progress)),
         Action::Repeat(c) => send(
-            unsent_of(crate::records::records_of(claim, aaaa), sent, now),
+            unsent_of(records_of(claim, aaaa), progress.sent, now),
             now,
             with_claim(claim, c, progress),
         ),
@@ -282,8 +226,7 @@ fn action_turn(a: Action, claim: Claim, aaaa: bool, now: u64, progress: Progress
 fn claim_turn(claim: Claim, aaaa: bool, now: u64, progress: Progress) -> Turn
     ensures { result ≡ claim_turn claim aaaa now progress }
 {
-    let c = crate::claim_of(claim, progress);
-    let a = claim_action(c, now);
+    let a = claim_action(claim_of(claim, progress), now);
     action_turn(a, claim, aaaa, now, progress)
 }
 
@@ -291,25 +234,24 @@ fn claim_turn(claim: Claim, aaaa: bool, now: u64, progress: Progress) -> Turn
 fn ptr_reply(now: u64, progress: Progress) -> Set
     ensures { result ≡ ptr_reply now progress }
 {
-    let c = progress.instance;
-    let sent = progress.sent;
-    if crate::is_held(c) {
-        return unsent_of(crate::records::only(Own::Ptr), sent, now);
+    if is_held(progress.instance) {
+        unsent_of(only(Own::Ptr), progress.sent, now)
+    } else {
+        no_record()
     }
-    crate::records::no_record()
 }
 
 // The step of the PTR reply, if it is due.
 fn reply_turn(now: u64, progress: Progress) -> Turn
     ensures { result ≡ reply_turn now progress }
 {
-    let reply = progress.reply;
-    if crate::has_come(reply, now) {
-        return send(ptr_reply(now, progress), now, without_reply(progress));
-    }
-    Turn {
-        progress,
-        output: Output::Nothing,
+    if has_come(progress.reply, now) {
+        send(ptr_reply(now, progress), now, without_reply(progress))
+    } else {
+        Turn {
+            progress,
+            output: Output::Nothing,
+        }
     }
 }
 
@@ -317,21 +259,9 @@ fn reply_turn(now: u64, progress: Progress) -> Turn
 fn without_hold(place: Place, progress: Progress) -> Progress
     ensures { result ≡ without_hold place progress }
 {
-    let instance = progress.instance;
-    let host = progress.host;
-    let sent = progress.sent;
-    let reply = progress.reply;
-    let holds = progress.holds;
-    let updated = progress.updated;
     Progress {
-        instance,
-        host,
-        sent,
-        reply,
-        holds: crate::holds::with_hold(place, crate::holds::no_hold(), holds),
-        updated,
-        draw: progress.draw,
-        last: progress.last,
+        holds: with_hold(place, no_hold(), progress.holds),
+        ..progress
     }
 }
 
@@ -339,24 +269,25 @@ fn without_hold(place: Place, progress: Progress) -> Progress
 fn hold_answers(place: Place, aaaa: bool, now: u64, progress: Progress) -> Set
     ensures { result ≡ hold_answers place aaaa now progress }
 {
-    let h = crate::holds::hold_at(place, progress.holds);
-    crate::answers::wanted(progress, crate::answers::asks_of_hold(h), now, aaaa)
+    let h = hold_at(place, progress.holds);
+    wanted(progress, asks_of_hold(h), now, aaaa)
 }
 
 // The step of the query that is held at a place, if one is and it is due.
 fn hold_turn(place: Place, aaaa: bool, now: u64, progress: Progress) -> Turn
     ensures { result ≡ hold_turn place aaaa now progress }
 {
-    if crate::has_come(hold_due(place, progress), now) {
-        return send(
+    if has_come(hold_due(place, progress), now) {
+        send(
             hold_answers(place, aaaa, now, progress),
             now,
             without_hold(place, progress),
-        );
-    }
-    Turn {
-        progress,
-        output: Output::Nothing,
+        )
+    } else {
+        Turn {
+            progress,
+            output: Output::Nothing,
+        }
     }
 }
 
@@ -376,23 +307,12 @@ fn walk_steps(aaaa: bool, now: u64, progress: Progress) -> Turn
     ensures { result ≡ walked steps.steps aaaa now progress }
 {
     let mut here = progress;
-    let mut i = 0;
-    while i < STEPS {
+    for i in 0..STEPS {
         let t = step_turn(step_at(i), aaaa, now, here);
-        let output = t.output;
-        match output {
-            Output::Nothing => {
-                let next = t.progress;
-                here = next;
-            }
-            Output::Probe(_) => {
-                return t;
-            }
-            Output::Response(_) => {
-                return t;
-            }
+        match t.output {
+            Output::Nothing => here = t.progress,
+            Output::Probe(_) | Output::Response(_) => return t,
         }
-        i += 1;
     }
     Turn {
         progress: here,
@@ -403,27 +323,13 @@ fn walk_steps(aaaa: bool, now: u64, progress: Progress) -> Turn
 fn ended(t: Turn, now: u64) -> Ticked
     ensures { result ≡ ended_of t now }
 {
-    let progress = t.progress;
-    let output = t.output;
-    let instance = progress.instance;
-    let host = progress.host;
-    let sent = progress.sent;
-    let reply = progress.reply;
-    let holds = progress.holds;
-    let updated = progress.updated;
     Ticked {
         progress: Progress {
-            instance,
-            host,
-            sent,
-            reply,
-            holds,
-            updated,
-            draw: progress.draw,
             last: now,
+            ..t.progress
         },
-        output,
-        more: more_due(progress, now),
+        output: t.output,
+        more: more_due(t.progress, now),
     }
 }
 

@@ -1,2 +1,2 @@
--- Laws that belong to no one function: what a line makes of the browser.
+-- Laws that belong to no one function: what a line starts, and what is lent of the table.
 mod After

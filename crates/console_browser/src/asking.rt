@@ -7,15 +7,14 @@ use console_calls::output::{bad_line, bytes, finish, first, only, refused, word}
 use console_responder::sending::{is_tick, lent};
 use console_table::Table;
 use console_text::fields::number;
+use console_text::lines::front;
 
 // Shows a packet, and whether more is due.
 fn sent(packet: &[u8], more: bool, rt: &impl Print, text: &mut [u8; 4096]) {
     let used = first(rt, text, b"sent");
-    let used = bytes(rt, text, used, packet);
+    let mut used = bytes(rt, text, used, packet);
     if more {
-        let used = word(rt, text, used, b"more");
-        finish(rt, text, used);
-        return;
+        used = word(rt, text, used, b"more");
     }
     finish(rt, text, used);
 }
@@ -33,12 +32,14 @@ fn shown(
         return refused(rt, text, refusal as u64);
     }
     if length == 0 {
-        return only(rt, text, b"quiet");
+        only(rt, text, b"quiet")
+    } else {
+        sent(front(out, length), more, rt, text)
     }
-    sent(console_text::lines::front(out, length), more, rt, text)
 }
 
 // Ticks over the first bytes of the out buffer, `n` of them.
+#[tactic(auto, unfolding(crate::specs::Lines::asked))]
 fn step(
     table: Table,
     store: &[u8],
@@ -55,6 +56,7 @@ fn step(
 }
 
 // `ask NOW` or `ask NOW OUT`: the browser after it.
+#[tactic(auto, unfolding(crate::specs::Lines::after_ask))]
 pub fn ask(
     line: &[u8],
     held: BrowserNumbers,

@@ -6,30 +6,21 @@ ghost use Rattle.console_browser.specs.Lines.{start_told, after_browse};
 use capi_browser::{BrowserNumbers, StartedNumbers};
 use console_calls::output::{bad_line, only, refused};
 use console_text::fields::{are_bytes, has_arguments, is_number, number};
+use console_text::hex::fill;
+use console_text::lines::{field, front};
 
 // Whether a line is of the form of `browse`.
+#[tactic(auto, unfolding(crate::specs::Forms::is_browse))]
 fn is_browse(line: &[u8]) -> bool
     ensures { result ≡ is_browse line.now }
 {
-    if !has_arguments(line, 6) {
-        return false;
-    }
-    if !is_number(line, 1) {
-        return false;
-    }
-    if !is_number(line, 2) {
-        return false;
-    }
-    if !is_number(line, 3) {
-        return false;
-    }
-    if !are_bytes(line, 4) {
-        return false;
-    }
-    if !are_bytes(line, 5) {
-        return false;
-    }
-    are_bytes(line, 6)
+    has_arguments(line, 6)
+        && is_number(line, 1)
+        && is_number(line, 2)
+        && is_number(line, 3)
+        && are_bytes(line, 4)
+        && are_bytes(line, 5)
+        && are_bytes(line, 6)
 }
 
 // What a line of `browse` starts.
@@ -40,15 +31,15 @@ fn begin(line: &[u8]) -> StartedNumbers
     let draw = number(line, 2);
     let refresh = number(line, 3);
     let mut service = [0u8; 20000];
-    let s = console_text::hex::fill(console_text::lines::field(line, 4), &mut service);
+    let s = fill(field(line, 4), &mut service);
     let mut protocol = [0u8; 20000];
-    let p = console_text::hex::fill(console_text::lines::field(line, 5), &mut protocol);
+    let p = fill(field(line, 5), &mut protocol);
     let mut domain = [0u8; 20000];
-    let d = console_text::hex::fill(console_text::lines::field(line, 6), &mut domain);
+    let d = fill(field(line, 6), &mut domain);
     capi_browser::kurgashel_browse_start(
-        console_text::lines::front(&service, s),
-        console_text::lines::front(&protocol, p),
-        console_text::lines::front(&domain, d),
+        front(&service, s),
+        front(&protocol, p),
+        front(&domain, d),
         time,
         draw,
         refresh,
@@ -56,6 +47,7 @@ fn begin(line: &[u8]) -> StartedNumbers
 }
 
 // `browse NOW DRAW REFRESH SERVICE PROTOCOL DOMAIN`: the browser after it.
+#[tactic(auto, unfolding(crate::specs::Lines::after_browse))]
 pub fn browse(
     line: &[u8],
     held: BrowserNumbers,

@@ -14,6 +14,7 @@ ghost use Rattle.console_browser.specs.Lines.{unbrowsed, browsing, browser_after
 use capi_browser::BrowserNumbers;
 use console_calls::output::bad_line;
 use console_table::Table;
+use wire::expansion::same_bytes;
 
 // The browser before the first `browse`: a blank one.
 pub fn at_first() -> BrowserNumbers
@@ -35,19 +36,15 @@ pub fn at_first() -> BrowserNumbers
 }
 
 // Whether a word is one of these calls.
+#[tactic(auto, unfolding(crate::specs::Forms::is_browser_call))]
 pub fn is_call(word: &[u8]) -> bool
     ensures { result ≡ is_browser_call word.now }
 {
-    if wire::expansion::same_bytes(word, b"browse") {
-        return true;
-    }
-    if wire::expansion::same_bytes(word, b"ask") {
-        return true;
-    }
-    wire::expansion::same_bytes(word, b"list")
+    same_bytes(word, b"browse") || same_bytes(word, b"ask") || same_bytes(word, b"list")
 }
 
 // Answers one of these calls, and tells the browser after it. Any other line is a bad one.
+#[tactic(auto, unfolding(crate::specs::Lines::browser_after))]
 pub fn call(
     line: &[u8],
     held: BrowserNumbers,
@@ -61,13 +58,13 @@ pub fn call(
     ensures out { out.new ≡ (browser_after line.now table store.now (browsing held out.old)).out }
 {
     let word = console_text::lines::field(line, 0);
-    if wire::expansion::same_bytes(word, b"browse") {
+    if same_bytes(word, b"browse") {
         return browsing::browse(line, held, rt, text);
     }
-    if wire::expansion::same_bytes(word, b"ask") {
+    if same_bytes(word, b"ask") {
         return asking::ask(line, held, table, store, out, rt, text);
     }
-    if wire::expansion::same_bytes(word, b"list") {
+    if same_bytes(word, b"list") {
         listing::list(line, held, table, store, rt, text);
         return held;
     }

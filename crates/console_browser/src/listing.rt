@@ -35,29 +35,21 @@ fn rows(
 ) -> usize {
     let mut taken = used;
     let mut from = 0;
-    let mut left = MOST_ENTRIES;
-    while 0 < left {
+    for _listed in 0..MOST_ENTRIES {
         let listed = crate::lending::list(table, store, b, time, from);
         let k = listed.slot;
-        if !listed.found {
-            return taken;
-        }
-        if MOST_ENTRIES <= k {
+        if !listed.found || MOST_ENTRIES <= k {
             return taken;
         }
         taken = row(rt, text, taken, table, store, k);
         from = k + 1;
-        left -= 1;
     }
     taken
 }
 
 // Whether a line is of the form `list NOW`.
 fn is_list(line: &[u8]) -> bool {
-    if !has_arguments(line, 1) {
-        return false;
-    }
-    is_number(line, 1)
+    has_arguments(line, 1) && is_number(line, 1)
 }
 
 // `list NOW`

@@ -1,33 +1,28 @@
 // `question NAME TYPE`, `answer OWNER TYPE CLASS TTL RDATA` and `cached NOW K`: what the proxy makes of a question and of a record. They change nothing.
 use crate::Domains;
 use cache::entries::Entry;
-use console_calls::output::{bad_line, bytes, finish, first, only, refused};
+use console_calls::output::{
+    bad_line, bytes, finish, first, number as shown_number, only, refused,
+};
 use console_table::{MOST_ENTRIES, Table};
 use console_text::fields::{MOST_16, are_bytes, has_arguments, is_number, number, number_of_16};
-use console_text::lines::front;
+use console_text::hex::fill;
+use console_text::lines::{field, front};
 use proxy::questions::Asked;
 use proxy::records::{Fields, Passed, Passing};
+use wire::expansion::same_bytes;
 
 // The greatest number of 32 bits.
-const MOST_32: u64 = 4294967295;
+const MOST_32: u64 = u32::MAX as u64;
 
 // Whether a field of a line is a number of 16 bits.
 fn is_number_of_16(line: &[u8], index: usize) -> bool {
-    if !is_number(line, index) {
-        return false;
-    }
-    number(line, index) <= MOST_16
+    is_number(line, index) && number(line, index) <= MOST_16
 }
 
 // Whether a line is of the form `question NAME TYPE`.
 fn is_question(line: &[u8]) -> bool {
-    if !has_arguments(line, 2) {
-        return false;
-    }
-    if !are_bytes(line, 1) {
-        return false;
-    }
-    is_number_of_16(line, 2)
+    has_arguments(line, 2) && are_bytes(line, 1) && is_number_of_16(line, 2)
 }
 
 // `question NAME TYPE`
@@ -35,24 +30,18 @@ fn question(line: &[u8], held: Domains, rt: &impl Print, text: &mut [u8; 4096]) 
     if !is_question(line) {
         return bad_line(rt, text);
     }
-    let rich = held.rich;
-    let ldh = held.ldh;
-    let r = rich.bytes;
-    let l = ldh.bytes;
     let mut name = [0u8; 20000];
-    let n = console_text::hex::fill(console_text::lines::field(line, 1), &mut name);
+    let n = fill(field(line, 1), &mut name);
     let q = proxy::questions::ask(
-        front(&r, rich.len),
-        front(&l, ldh.len),
+        held.rich.name(),
+        held.ldh.name(),
         front(&name, n),
         number_of_16(line, 2),
     );
-    let asked = q.asked;
-    let b = q.name;
-    match asked {
+    match q.asked {
         Asked::Name(len) => {
             let used = first(rt, text, b"ask");
-            let used = bytes(rt, text, used, front(&b, len));
+            let used = bytes(rt, text, used, front(&q.name, len));
             finish(rt, text, used)
         }
         Asked::Negative => only(rt, text, b"negative"),
@@ -64,25 +53,24 @@ fn question(line: &[u8], held: Domains, rt: &impl Print, text: &mut [u8; 4096]) 
 fn record(f: Fields, owner: &[u8], rdata: &[u8], rt: &impl Print, text: &mut [u8; 4096]) {
     let used = first(rt, text, b"record");
     let used = bytes(rt, text, used, owner);
-    let used = console_calls::output::number(rt, text, used, f.rtype as u64);
-    let used = console_calls::output::number(rt, text, used, f.class as u64);
-    let used = console_calls::output::number(rt, text, used, f.ttl as u64);
+    let used = shown_number(rt, text, used, f.rtype as u64);
+    let used = shown_number(rt, text, used, f.class as u64);
+    let used = shown_number(rt, text, used, f.ttl as u64);
     let used = bytes(rt, text, used, rdata);
     finish(rt, text, used)
 }
 
 // What became of a record, whose rdata lies at hand: that is shown where it holds no name.
 fn passed(p: Passed, lies: &[u8], rt: &impl Print, text: &mut [u8; 4096]) {
-    let passing = p.passing;
-    let o = p.owner;
-    let d = p.rdata;
-    match passing {
+    match p.passing {
         Passing::Record(f) => {
-            let form = wire::rdata::form_of(f.rtype);
-            if form.named {
-                return record(f, front(&o, f.owner), front(&d, f.rdata), rt, text);
-            }
-            record(f, front(&o, f.owner), lies, rt, text)
+            let named = wire::rdata::form_of(f.rtype).named;
+            let rdata = if named {
+                front(&p.rdata, f.rdata)
+            } else {
+                lies
+            };
+            record(f, front(&p.owner, f.owner), rdata, rt, text)
         }
         Passing::Left => only(rt, text, b"left"),
         Passing::Refused(refusal) => refused(rt, text, refusal as u64),
@@ -91,34 +79,23 @@ fn passed(p: Passed, lies: &[u8], rt: &impl Print, text: &mut [u8; 4096]) {
 
 // Whether a line is of the form `answer OWNER TYPE CLASS TTL RDATA`.
 fn is_answer(line: &[u8]) -> bool {
-    if !has_arguments(line, 5) {
-        return false;
-    }
-    if !are_bytes(line, 1) {
-        return false;
-    }
-    if !is_number_of_16(line, 2) {
-        return false;
-    }
-    if !is_number_of_16(line, 3) {
-        return false;
-    }
-    if !is_number(line, 4) {
-        return false;
-    }
-    if MOST_32 < number(line, 4) {
-        return false;
-    }
-    are_bytes(line, 5)
+    has_arguments(line, 5)
+        && are_bytes(line, 1)
+        && is_number_of_16(line, 2)
+        && is_number_of_16(line, 3)
+        && is_number(line, 4)
+        && number(line, 4) <= MOST_32
+        && are_bytes(line, 5)
 }
 
 // A TTL of 32 bits as it counts.
 fn ttl(line: &[u8]) -> u32 {
     let n = number(line, 4);
     if MOST_32 < n {
-        return 0;
+        0
+    } else {
+        wire::message::counted_ttl(n as u32)
     }
-    wire::message::counted_ttl(n as u32)
 }
 
 // `answer OWNER TYPE CLASS TTL RDATA`
@@ -126,17 +103,13 @@ fn answer(line: &[u8], held: Domains, rt: &impl Print, text: &mut [u8; 4096]) {
     if !is_answer(line) {
         return bad_line(rt, text);
     }
-    let rich = held.rich;
-    let ldh = held.ldh;
-    let r = rich.bytes;
-    let l = ldh.bytes;
     let mut owner = [0u8; 20000];
     let mut rdata = [0u8; 20000];
-    let n = console_text::hex::fill(console_text::lines::field(line, 1), &mut owner);
-    let m = console_text::hex::fill(console_text::lines::field(line, 5), &mut rdata);
+    let n = fill(field(line, 1), &mut owner);
+    let m = fill(field(line, 5), &mut rdata);
     let p = proxy::records::record(
-        front(&r, rich.len),
-        front(&l, ldh.len),
+        held.rich.name(),
+        held.ldh.name(),
         front(&owner, n),
         number_of_16(line, 2),
         number_of_16(line, 3),
@@ -148,25 +121,15 @@ fn answer(line: &[u8], held: Domains, rt: &impl Print, text: &mut [u8; 4096]) {
 
 // Whether a line is of the form `cached NOW K`, of an entry that the table has.
 fn is_cached(line: &[u8], table: Table) -> bool {
-    if !has_arguments(line, 2) {
-        return false;
-    }
-    if !is_number(line, 1) {
-        return false;
-    }
-    if !is_number(line, 2) {
-        return false;
-    }
-    number(line, 2) < (table.count as u64)
+    has_arguments(line, 2)
+        && is_number(line, 1)
+        && is_number(line, 2)
+        && number(line, 2) < (table.count as u64)
 }
 
 // The record of an entry and its slot.
 fn entry(e: Entry, slot: &[u8], time: u64, held: Domains, rt: &impl Print, text: &mut [u8; 4096]) {
-    let rich = held.rich;
-    let ldh = held.ldh;
-    let r = rich.bytes;
-    let l = ldh.bytes;
-    let p = proxy::records::cached(front(&r, rich.len), front(&l, ldh.len), time, e, slot);
+    let p = proxy::records::cached(held.rich.name(), held.ldh.name(), time, e, slot);
     passed(p, wire::rdata::part(slot, 256, e.rdata as usize), rt, text)
 }
 
@@ -207,15 +170,14 @@ pub fn call(
     rt: &impl Print,
     text: &mut [u8; 4096],
 ) {
-    let word = console_text::lines::field(line, 0);
-    if wire::expansion::same_bytes(word, b"question") {
-        return question(line, held, rt, text);
+    let word = field(line, 0);
+    if same_bytes(word, b"question") {
+        question(line, held, rt, text)
+    } else if same_bytes(word, b"answer") {
+        answer(line, held, rt, text)
+    } else if same_bytes(word, b"cached") {
+        cached(line, held, table, store, rt, text)
+    } else {
+        bad_line(rt, text)
     }
-    if wire::expansion::same_bytes(word, b"answer") {
-        return answer(line, held, rt, text);
-    }
-    if wire::expansion::same_bytes(word, b"cached") {
-        return cached(line, held, table, store, rt, text);
-    }
-    bad_line(rt, text)
 }

@@ -6,8 +6,11 @@ ghost use Rattle.console_proxy.specs.Lines.{no_domains, is_proxy, domain_of, dom
 use crate::{Domain, Domains};
 use console_calls::output::{bad_line, only, refused};
 use console_text::fields::{are_bytes, has_arguments};
+use console_text::hex::fill;
+use console_text::lines::{field, front};
 
 // The domain of no bytes, twice.
+#[tactic(auto, unfolding(crate::specs::Lines::no_domains))]
 pub fn unset() -> Domains
     ensures { result ≡ no_domains }
 {
@@ -30,19 +33,15 @@ fn domain(bytes: &[u8]) -> Domain
 }
 
 // Whether a line is of the form `proxy RICH LDH`.
+#[tactic(auto, unfolding(crate::specs::Lines::is_proxy))]
 fn is_proxy(line: &[u8]) -> bool
     ensures { result ≡ is_proxy line.now }
 {
-    if !has_arguments(line, 2) {
-        return false;
-    }
-    if !are_bytes(line, 1) {
-        return false;
-    }
-    are_bytes(line, 2)
+    has_arguments(line, 2) && are_bytes(line, 1) && are_bytes(line, 2)
 }
 
 // The set-up of two domains, or what is held where it is refused.
+#[tactic(auto, unfolding(crate::specs::Lines::domains_of))]
 fn set_up(rich: &[u8], ldh: &[u8], held: Domains, rt: &impl Print, text: &mut [u8; 4096]) -> Domains
     ensures { result ≡ domains_of rich.now ldh.now held }
 {
@@ -59,6 +58,7 @@ fn set_up(rich: &[u8], ldh: &[u8], held: Domains, rt: &impl Print, text: &mut [u
 }
 
 // `proxy RICH LDH`: the domains after it.
+#[tactic(auto, unfolding(crate::specs::Lines::after_proxy))]
 pub fn proxy(line: &[u8], held: Domains, rt: &impl Print, text: &mut [u8; 4096]) -> Domains
     ensures { result ≡ after_proxy line.now held }
 {
@@ -68,13 +68,7 @@ pub fn proxy(line: &[u8], held: Domains, rt: &impl Print, text: &mut [u8; 4096])
     }
     let mut rich = [0u8; 20000];
     let mut ldh = [0u8; 20000];
-    let n = console_text::hex::fill(console_text::lines::field(line, 1), &mut rich);
-    let m = console_text::hex::fill(console_text::lines::field(line, 2), &mut ldh);
-    set_up(
-        console_text::lines::front(&rich, n),
-        console_text::lines::front(&ldh, m),
-        held,
-        rt,
-        text,
-    )
+    let n = fill(field(line, 1), &mut rich);
+    let m = fill(field(line, 2), &mut ldh);
+    set_up(front(&rich, n), front(&ldh, m), held, rt, text)
 }

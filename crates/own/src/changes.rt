@@ -20,49 +20,15 @@ fn strings_of(txt: &[u8]) -> Strings
 pub fn with_port(s: Setup, port: u16) -> Setup
     ensures { result ≡ with_port s port }
 {
-    let instance = s.instance;
-    let service = s.service;
-    let protocol = s.protocol;
-    let host = s.host;
-    let domain = s.domain;
-    let txt = s.txt;
-    let a = s.a;
-    let aaaa = s.aaaa;
-    Setup {
-        instance,
-        service,
-        protocol,
-        host,
-        domain,
-        port,
-        txt,
-        a,
-        hasaaaa: s.hasaaaa,
-        aaaa,
-    }
+    Setup { port, ..s }
 }
 
 // The set-up with other TXT strings.
 pub fn with_txt(s: Setup, txt: &[u8]) -> Setup
     ensures { result ≡ with_txt s txt.now }
 {
-    let instance = s.instance;
-    let service = s.service;
-    let protocol = s.protocol;
-    let host = s.host;
-    let domain = s.domain;
-    let a = s.a;
-    let aaaa = s.aaaa;
     Setup {
-        instance,
-        service,
-        protocol,
-        host,
-        domain,
-        port: s.port,
         txt: strings_of(txt),
-        a,
-        hasaaaa: s.hasaaaa,
-        aaaa,
+        ..s
     }
 }

@@ -77,10 +77,7 @@ fn put_held(out: &mut [u8; 400], at: usize, bytes: &[u8], len: usize) -> usize
     requires { (at + 1 + length bytes.now ≤ 400) × (length bytes.now < 256) }
     ensures { Laid at (label_bytes (take len bytes.now)) (1 + length bytes.now) out.old result out.new }
 {
-    if len < bytes.len() {
-        return put_label(out, at, &bytes[..len]);
-    }
-    put_label(out, at, bytes)
+    put_label(out, at, &bytes[..len.min(bytes.len())])
 }
 
 // The label of a protocol: one of the two fixed strings.
@@ -89,9 +86,10 @@ fn put_protocol(out: &mut [u8; 400], at: usize, p: [u8; 4]) -> usize
     ensures { Laid at (label_bytes (protocol_label p)) 5 out.old result out.new }
 {
     if wire::expansion::same_bytes(&p, b"_udp") {
-        return put_label(out, at, b"_udp");
+        put_label(out, at, b"_udp")
+    } else {
+        put_label(out, at, b"_tcp")
     }
-    put_label(out, at, b"_tcp")
 }
 
 // The label "local" and the zero byte, with which every own name ends.
@@ -109,11 +107,8 @@ fn put_service_name(out: &mut [u8; 400], at: usize, s: Setup) -> usize
     requires { at + 29 ≤ 400 }
     ensures { Laid at (encode (service_labels s)) 29 out.old result out.new }
 {
-    let service = s.service;
-    let bytes = service.bytes;
-    let protocol = s.protocol;
-    let a = put_held(out, at, &bytes, service.len);
-    let b = put_protocol(out, a, protocol);
+    let a = put_held(out, at, &s.service.bytes, s.service.len);
+    let b = put_protocol(out, a, s.protocol);
     put_local(out, b)
 }
 
@@ -122,9 +117,7 @@ fn put_instance_name(out: &mut [u8; 400], at: usize, s: Setup) -> usize
     requires { at + 93 ≤ 400 }
     ensures { Laid at (encode (instance_labels s)) 93 out.old result out.new }
 {
-    let instance = s.instance;
-    let bytes = instance.bytes;
-    let a = put_held(out, at, &bytes, instance.len);
+    let a = put_held(out, at, &s.instance.bytes, s.instance.len);
     put_service_name(out, a, s)
 }
 
@@ -133,13 +126,12 @@ fn put_host_name(out: &mut [u8; 400], at: usize, s: Setup) -> usize
     requires { at + 71 ≤ 400 }
     ensures { Laid at (encode (host_labels s)) 71 out.old result out.new }
 {
-    let host = s.host;
-    let bytes = host.bytes;
-    let a = put_held(out, at, &bytes, host.len);
+    let a = put_held(out, at, &s.host.bytes, s.host.len);
     put_local(out, a)
 }
 
 // Whether a set-up has the record.
+#[tactic(auto, unfolding(crate::specs::records::Records::has_record))]
 pub fn has_record(s: Setup, o: Own) -> bool
     ensures { result ≡ has_record s o }
 {
@@ -171,17 +163,14 @@ fn host_name(s: Setup) -> OwnBytes
 }
 
 // The owner of an own record.
+#[tactic(auto, unfolding(crate::specs::records::Records::own_name, crate::specs::records::Records::own_labels))]
 pub fn own_name(s: Setup, o: Own) -> OwnBytes
     ensures { result ≡ own_of (own_name s o) }
 {
     match o {
         Own::Ptr => service_name(s),
-        Own::Srv => instance_name(s),
-        Own::Txt => instance_name(s),
-        Own::A => host_name(s),
-        Own::Aaaa => host_name(s),
-        Own::InstanceNsec => instance_name(s),
-        Own::HostNsec => host_name(s),
+        Own::Srv | Own::Txt | Own::InstanceNsec => instance_name(s),
+        Own::A | Own::Aaaa | Own::HostNsec => host_name(s),
     }
 }
 
@@ -190,9 +179,7 @@ fn srv_rdata(s: Setup) -> OwnBytes
     ensures { result ≡ own_of (srv_rdata s) }
 {
     let mut bytes = [0u8; 400];
-    let port = s.port;
-    bytes[4] = (port / 256) as u8;
-    bytes[5] = (port % 256) as u8;
+    wire::buffer::put(&mut bytes, 4, &s.port.to_be_bytes());
     let len = put_host_name(&mut bytes, 6, s);
     OwnBytes { bytes, len }
 }
@@ -202,13 +189,7 @@ fn txt_rdata(t: Strings) -> OwnBytes
     ensures { result ≡ own_of (take t.len t.bytes) }
 {
     let held = t.bytes;
-    let len = t.len;
-    if MOST_TXT <= len {
-        return OwnBytes {
-            bytes: held,
-            len: MOST_TXT,
-        };
-    }
+    let len = t.len.min(MOST_TXT);
     let mut bytes = [0u8; 400];
     wire::buffer::put(&mut bytes, 0, &held[..len]);
     OwnBytes { bytes, len }
@@ -246,11 +227,10 @@ fn put_host_types(out: &mut [u8; 400], at: usize, aaaa: bool) -> usize
     ensures { Laid at (host_types aaaa) 6 out.old result out.new }
 {
     if aaaa {
-        let both = [0u8, 4, 0x40, 0, 0, 0x08];
-        return put_types(out, at, &both);
+        put_types(out, at, &[0, 4, 0x40, 0, 0, 0x08])
+    } else {
+        put_types(out, at, &[0, 1, 0x40])
     }
-    let one = [0u8, 1, 0x40];
-    put_types(out, at, &one)
 }
 
 // The instance's name, and that it has TXT and SRV.
@@ -275,18 +255,16 @@ fn host_nsec(s: Setup) -> OwnBytes
 }
 
 // The rdata of an own record, names expanded.
+#[tactic(auto, unfolding(crate::specs::records::Records::own_rdata))]
 pub fn own_rdata(s: Setup, o: Own) -> OwnBytes
     ensures { result ≡ own_of (own_rdata s o) }
 {
-    let txt = s.txt;
-    let a = s.a;
-    let aaaa = s.aaaa;
     match o {
         Own::Ptr => instance_name(s),
         Own::Srv => srv_rdata(s),
-        Own::Txt => txt_rdata(txt),
-        Own::A => a_rdata(a),
-        Own::Aaaa => aaaa_rdata(aaaa),
+        Own::Txt => txt_rdata(s.txt),
+        Own::A => a_rdata(s.a),
+        Own::Aaaa => aaaa_rdata(s.aaaa),
         Own::InstanceNsec => instance_nsec(s),
         Own::HostNsec => host_nsec(s),
     }

@@ -6,63 +6,35 @@ ghost use Rattle.own.specs.records.Setups.{service_rule, label_fits, instance_fi
 use crate::records::{Label, MOST_LABEL, MOST_SERVICE, MOST_TXT, Service, Setup, Strings};
 
 // An ASCII letter.
+#[tactic(auto, unfolding(crate::specs::records::Setups::is_letter))]
 fn letter(b: u8) -> bool
     ensures { result ≡ is_letter b }
 {
-    if b < b'A' {
-        return false;
-    }
-    if b <= b'Z' {
-        return true;
-    }
-    if b < b'a' {
-        return false;
-    }
-    b <= b'z'
+    b.is_ascii_alphabetic()
 }
 
 // A letter, a digit or a hyphen.
+#[tactic(auto, unfolding(crate::specs::records::Setups::is_name_byte))]
 fn name_byte(b: u8) -> bool
     ensures { result ≡ is_name_byte b }
 {
-    if letter(b) {
-        return true;
-    }
-    if b == b'-' {
-        return true;
-    }
-    if b < b'0' {
-        return false;
-    }
-    b <= b'9'
+    letter(b) || b == b'-' || b.is_ascii_digit()
 }
 
 // Only letters, digits and hyphens.
+#[tactic(auto, unfolding(crate::specs::records::Setups::all_name_bytes))]
 fn all_name_bytes(s: &[u8]) -> bool
     ensures { result ≡ all_name_bytes s.now }
 {
-    let mut i = 0;
-    while i < s.len() {
-        if !name_byte(s[i]) {
-            return false;
-        }
-        i += 1;
-    }
-    true
+    s.iter().all(|b| name_byte(*b))
 }
 
 // At least one letter.
+#[tactic(auto, unfolding(crate::specs::records::Setups::some_letter))]
 fn some_letter(s: &[u8]) -> bool
     ensures { result ≡ some_letter s.now }
 {
-    let mut i = 0;
-    while i < s.len() {
-        if letter(s[i]) {
-            return true;
-        }
-        i += 1;
-    }
-    false
+    s.iter().any(|b| letter(*b))
 }
 
 // No hyphen first, last or after another.
@@ -71,88 +43,56 @@ fn hyphens_apart(s: &[u8]) -> bool
 {
     // whether a hyphen may not stand here: at the start, and behind a hyphen
     let mut barred = true;
-    let mut i = 0;
-    while i < s.len() {
-        if s[i] == b'-' {
-            if barred {
-                return false;
-            }
-            barred = true;
-        } else {
-            barred = false;
+    for &b in s {
+        let hyphen = b == b'-';
+        if barred && hyphen {
+            return false;
         }
-        i += 1;
+        barred = hyphen;
     }
     !barred
 }
 
 // The rule for a service label: "_" and a name by RFC 6335.
+#[tactic(auto, using(crate::proofs::setups::Rules::rule_empty, crate::proofs::setups::Rules::rule_rest))]
 pub fn service_rule(s: &[u8]) -> bool
     ensures { result ≡ service_rule s.now }
 {
-    if s.len() == 0 {
+    let [first, name @ ..] = s else {
         return false;
-    }
-    if s[0] != b'_' {
-        return false;
-    }
-    let name = &s[1..];
-    if !all_name_bytes(name) {
-        return false;
-    }
-    if !some_letter(name) {
-        return false;
-    }
-    hyphens_apart(name)
+    };
+    *first == b'_' && all_name_bytes(name) && some_letter(name) && hyphens_apart(name)
 }
 
+#[tactic(auto, unfolding(crate::specs::records::Setups::label_fits))]
 fn label_fits(l: Label) -> bool
     ensures { result ≡ label_fits l }
 {
-    if l.len == 0 {
-        return false;
-    }
-    l.len <= MOST_LABEL
+    0 < l.len && l.len <= MOST_LABEL
 }
 
 // The rule for an instance label: one that a screen can show.
+#[tactic(auto, unfolding(crate::specs::records::Setups::instance_fits, crate::specs::records::Setups::label_fits))]
 fn instance_fits(l: Label) -> bool
     ensures { result ≡ instance_fits l }
 {
-    let bytes = l.bytes;
-    let len = l.len;
-    if len == 0 {
-        return false;
-    }
-    if MOST_LABEL < len {
-        return false;
-    }
-    crate::utf8::is_shown(&bytes[..len])
+    label_fits(l) && crate::utf8::is_shown(&l.bytes[..l.len])
 }
 
 // The rule for a service label with its length.
+#[tactic(auto, unfolding(crate::specs::records::Setups::service_fits))]
 pub fn service_fits(l: Service) -> bool
     ensures { result ≡ service_fits l }
 {
-    let bytes = l.bytes;
-    let len = l.len;
-    if len < 2 {
-        return false;
-    }
-    if MOST_SERVICE < len {
-        return false;
-    }
-    service_rule(&bytes[..len])
+    2 <= l.len && l.len <= MOST_SERVICE && service_rule(&l.bytes[..l.len])
 }
 
 // The rule for a protocol: one of the two fixed strings.
+#[tactic(auto, unfolding(crate::specs::records::Setups::protocol_fits))]
 pub fn protocol_fits(p: [u8; 4]) -> bool
     ensures { result ≡ protocol_fits p }
 {
-    if wire::expansion::same_bytes(&p, b"_tcp") {
-        return true;
-    }
-    wire::expansion::same_bytes(&p, b"_udp")
+    wire::expansion::same_bytes(&p, b"_tcp") || wire::expansion::same_bytes(&p, b"_udp")
 }
 
 // The rule for a domain: the fixed string.
@@ -162,44 +102,22 @@ pub fn domain_fits(d: [u8; 5]) -> bool
     wire::expansion::same_bytes(&d, b"local")
 }
 
+#[tactic(auto, unfolding(crate::specs::records::Setups::txt_fits))]
 fn txt_fits(t: Strings) -> bool
     ensures { result ≡ txt_fits t }
 {
-    let bytes = t.bytes;
-    let len = t.len;
-    if len == 0 {
-        return false;
-    }
-    if MOST_TXT < len {
-        return false;
-    }
-    wire::rdata::strings_fill(&bytes[..len])
+    0 < t.len && t.len <= MOST_TXT && wire::rdata::strings_fill(&t.bytes[..t.len])
 }
 
 // Whether a set-up keeps the rules; refusal 7 is for one that does not.
+#[tactic(auto, unfolding(crate::specs::records::Setups::valid_setup))]
 pub fn check_setup(s: Setup) -> bool
     ensures { result ≡ valid_setup s }
 {
-    let instance = s.instance;
-    if !instance_fits(instance) {
-        return false;
-    }
-    let service = s.service;
-    if !service_fits(service) {
-        return false;
-    }
-    let protocol = s.protocol;
-    if !protocol_fits(protocol) {
-        return false;
-    }
-    let host = s.host;
-    if !label_fits(host) {
-        return false;
-    }
-    let domain = s.domain;
-    if !domain_fits(domain) {
-        return false;
-    }
-    let txt = s.txt;
-    txt_fits(txt)
+    instance_fits(s.instance)
+        && service_fits(s.service)
+        && protocol_fits(s.protocol)
+        && label_fits(s.host)
+        && domain_fits(s.domain)
+        && txt_fits(s.txt)
 }

@@ -18,13 +18,11 @@ fn owes(owed: u8, low: u8, high: u8) -> Next
 }
 
 // A byte between two bounds.
+#[tactic(auto, unfolding(crate::specs::utf8::Utf8::within))]
 fn is_within(low: u8, high: u8, b: u8) -> bool
     ensures { result ≡ within low high b }
 {
-    if b < low {
-        return false;
-    }
-    b <= high
+    low <= b && b <= high
 }
 
 // Only characters of one byte. It looks at all of them, since a loop that may stop early takes several times as long.
@@ -32,12 +30,10 @@ fn all_plain(s: &[u8]) -> bool
     ensures { result ≡ all_plain s.now }
 {
     let mut plain = true;
-    let mut i = 0;
-    while i < s.len() {
-        if !is_within(0x20, 0x7E, s[i]) {
+    for &b in s {
+        if !is_within(0x20, 0x7E, b) {
             plain = false;
         }
-        i += 1;
     }
     plain
 }

@@ -3,7 +3,6 @@ use Prim.Native.Nat.{ℕ}
 use mathlib.Core.Path.{◌≡◌, refl}
 use mathlib.Core.List.{List, [], ◌∷◌}
 use lib.ListN.{length}
-use borrow.Author.Tests.{ne_eqb}
 use Rattle.own.specs.declared.records.Setup.{Setup}
 use Rattle.claims.specs.declared.records.Claim.{Claim}
 use Rattle.claims.specs.declared.records.Set.{Set}
@@ -11,8 +10,7 @@ use Rattle.claims.specs.declared.steps.Output.{Output}
 use Rattle.claims.specs.declared.steps.Output.TheVariants.{Nothing, Probe, Response}
 use Rattle.writer.specs.own_packets.Own.{response_packet, probe_packet, length_of, refusal, unless_refused, sent_of, written_of, laid_over}
 use Rattle.writer.specs.declared.own_packets.Written.{Written}
-use Rattle.responder.specs.Calls.{answer_with, packet_for}
-use Rattle.responder.specs.declared.Answer.TheVariants.{Quiet, Sent, Unicast, Both}
+use Rattle.responder.specs.Calls.{packet_for}
 
 length-sent : (packet : List ℕ) → length_of (sent_of packet) ≡ length packet
 length-sent [] = refl
@@ -58,18 +56,3 @@ module _ (setup : Setup) (output : Output) where
       → n ≡ length_of w
       → Sends out n o
   sends out packet w o n fine e h r = rw e (wrote setup out packet w o n fine h r)
-
--- ---- the answer for packets of two lengths
-
-module _ (n u : ℕ) where
-  pub with_none : n ≡ 0 → u ≡ 0 → Quiet ≡ answer_with n u
-  with_none e f = simp (e, f)
-
-  pub with-unicast : n ≡ 0 → (u ≡ 0 → ⊥) → Unicast u ≡ answer_with n u
-  with-unicast e f = simp (e, ne_eqb u 0 f)
-
-  pub with-multicast : (n ≡ 0 → ⊥) → u ≡ 0 → Sent n ≡ answer_with n u
-  with-multicast e f = simp (ne_eqb n 0 e, f)
-
-  pub with-both : (n ≡ 0 → ⊥) → (u ≡ 0 → ⊥) → Both n u ≡ answer_with n u
-  with-both e f = simp (ne_eqb n 0 e, ne_eqb u 0 f)

@@ -3,6 +3,7 @@ ghost use Rattle.std.specs.Prelude.{◌≡◌};
 ghost use Rattle.responder.specs.address.Address.{address_of};
 
 use claims::holds::Address;
+use wire::octets::be32;
 
 // What stands before the four bytes of an IPv4 address in the last eight of sixteen: ::ffff.
 const MAPPED: u64 = 281470681743360;
@@ -12,20 +13,20 @@ pub fn address_of(bytes: &[u8]) -> Address
     ensures { result ≡ address_of bytes.now }
 {
     if bytes.len() == 16 {
-        let first = wire::octets::be32(bytes, 0) as u64;
-        let second = wire::octets::be32(bytes, 4) as u64;
-        let third = wire::octets::be32(bytes, 8) as u64;
-        let fourth = wire::octets::be32(bytes, 12) as u64;
-        return Address {
+        let first = be32(bytes, 0) as u64;
+        let second = be32(bytes, 4) as u64;
+        let third = be32(bytes, 8) as u64;
+        let fourth = be32(bytes, 12) as u64;
+        Address {
             high: first * 4294967296 + second,
             low: third * 4294967296 + fourth,
-        };
-    }
-    if bytes.len() == 4 {
-        return Address {
+        }
+    } else if bytes.len() == 4 {
+        Address {
             high: 0,
-            low: MAPPED + wire::octets::be32(bytes, 0) as u64,
-        };
+            low: MAPPED + be32(bytes, 0) as u64,
+        }
+    } else {
+        Address { high: 0, low: 0 }
     }
-    Address { high: 0, low: 0 }
 }

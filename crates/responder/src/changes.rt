@@ -3,13 +3,17 @@
 ghost use Rattle.std.specs.Prelude.{◌≡◌, length};
 ghost use Rattle.own.specs.changes.Changes.{new_port, new_txt};
 ghost use Rattle.responder.specs.Handed.{Tick};
-ghost use Rattle.responder.specs.changes.Changes.{Update, refusal_to, Stops, UpdatesTo, Updates};
+ghost use Rattle.wire.specs.refusals.Numbers.{refused_by};
+ghost use Rattle.responder.specs.changes.Changes.{Update, update_tests, Stops, UpdatesTo, Updates};
 
-use crate::{Answer, State};
-use claims::changes::Change;
+use crate::{Answer, State, admit_tick, answer_with, length_of, send, state_refused};
+use claims::changes::{self, Change};
+use claims::refusal_tests;
 use claims::steps::Output;
 use own::records::Setup;
-use writer::own_packets::LEAST_OUT;
+use own::setups::check_setup;
+use wire::refusals::Refusal;
+use writer::own_packets::{self, LEAST_OUT};
 
 #[derive(Clone, Copy)]
 pub struct Stopped {
@@ -28,73 +32,64 @@ pub fn stop(state: State, time: u64, out: &mut [u8]) -> Stopped
     ensures { (let t : Tick = record { time = time; room = length out.old } in
         Stops state t out.old result out.new) }
 {
-    let refusal = crate::tick_refusal(state, time, out.len());
-    if refusal != 0 {
+    if let Err(refusal) = admit_tick(state, time, out.len()) {
         return Stopped {
-            answer: Answer::Refused(refusal),
+            answer: Answer::Refused(refusal.number()),
             state,
         };
     }
     let setup = state.setup;
-    let stopped = claims::changes::stop(state.progress, time, setup.hasaaaa);
-    let goodbye = stopped.goodbye;
-    let ended = stopped.progress;
-    let w = writer::own_packets::goodbye(setup, goodbye, out);
+    let stopped = changes::stop(state.progress, time, setup.hasaaaa);
+    let goodbye = length_of(own_packets::goodbye(setup, stopped.goodbye, out));
     Stopped {
-        answer: crate::answer_with(crate::length_of(w), 0),
+        answer: answer_with(goodbye, 0),
         state: State {
             setup,
-            progress: ended,
+            progress: stopped.progress,
         },
     }
 }
 
-// The refusal of an update to a set-up, 0 for none.
-fn update_refusal(state: State, time: u64, new: Setup, room: usize) -> u8
-    ensures { result ≡ refusal_to state time room new }
+// The refusal of an update to a set-up, if it is refused.
+fn admit_update(state: State, time: u64, new: Setup, room: usize) -> Result<(), Refusal>
+    ensures { result ≡ refused_by (update_tests state time room new) }
 {
     let progress = state.progress;
-    if claims::refusal_tests::time_refused(progress, time) {
-        return wire::refusals::TIME;
+    if refusal_tests::time_refused(progress, time) {
+        return Err(Refusal::Time);
     }
     if room < LEAST_OUT {
-        return wire::refusals::BUFFER;
+        return Err(Refusal::Buffer);
     }
-    if crate::state_refused(state) {
-        return wire::refusals::SETUP;
+    if state_refused(state) || !check_setup(new) {
+        return Err(Refusal::Setup);
     }
-    if !own::setups::check_setup(new) {
-        return wire::refusals::SETUP;
+    if changes::lost_refused(progress) {
+        return Err(Refusal::Lost);
     }
-    if claims::changes::lost_refused(progress) {
-        return wire::refusals::LOST;
+    if changes::too_soon_refused(progress, time) {
+        return Err(Refusal::TooSoon);
     }
-    if claims::changes::too_soon_refused(progress, time) {
-        return wire::refusals::TOO_SOON;
-    }
-    0
+    Ok(())
 }
 
 // An update to a set-up, of the record that it changes.
 fn update(state: State, time: u64, change: Change, new: Setup, out: &mut [u8]) -> Updated
     ensures { UpdatesTo state time change new out.old result out.new }
 {
-    let refusal = update_refusal(state, time, new, out.len());
-    if refusal != 0 {
+    if let Err(refusal) = admit_update(state, time, new, out.len()) {
         return Updated {
-            answer: Answer::Refused(refusal),
+            answer: Answer::Refused(refusal.number()),
             state,
         };
     }
-    let updated = claims::changes::update(state.progress, time, change);
-    let announced = updated.announced;
-    let after = updated.progress;
-    let sent = crate::send(new, Output::Response(announced), out);
+    let updated = changes::update(state.progress, time, change);
+    let sent = send(new, Output::Response(updated.announced), out);
     Updated {
-        answer: crate::answer_with(sent, 0),
+        answer: answer_with(sent, 0),
         state: State {
             setup: new,
-            progress: after,
+            progress: updated.progress,
         },
     }
 }
@@ -104,14 +99,8 @@ pub fn update_port(state: State, time: u64, port: u16, out: &mut [u8]) -> Update
     ensures { (let u : Update = record { time = time; room = length out.old; new = new_port port } in
         Updates state u out.old result out.new) }
 {
-    let setup = state.setup;
-    update(
-        state,
-        time,
-        Change::Port,
-        own::changes::with_port(setup, port),
-        out,
-    )
+    let new = own::changes::with_port(state.setup, port);
+    update(state, time, Change::Port, new, out)
 }
 
 // Changes the TXT record.
@@ -119,12 +108,6 @@ pub fn update_txt(state: State, time: u64, txt: &[u8], out: &mut [u8]) -> Update
     ensures { (let u : Update = record { time = time; room = length out.old; new = new_txt txt.now } in
         Updates state u out.old result out.new) }
 {
-    let setup = state.setup;
-    update(
-        state,
-        time,
-        Change::Txt,
-        own::changes::with_txt(setup, txt),
-        out,
-    )
+    let new = own::changes::with_txt(state.setup, txt);
+    update(state, time, Change::Txt, new, out)
 }

@@ -4,34 +4,25 @@ use mathlib.Core.List.{List, [], ◌∷◌}
 use mathlib.Core.Option.{none, some}
 use mathlib.Core.Bool.{Bool, true, false, cond}
 use Prim.Native.Nat.{ℕ, suc, ◌+◌, ◌<◌, ◌≤◌}
-use native.Mathlib.Numerals.{add-one}
 use native.Mathlib.Omega.{arith}
-use borrow.Author.Tests.{eq-eqb, ne_eqb}
-use lib.ListN.{length, get_or, take, drop, drop_of_length-le}
-use lib.Seq.{drop-cons}
-use lib.Dec.{eqb, eqb-suc-zero}
+use borrow.Author.Tests.{eq-eqb, ne_eqb, ltb-false}
+use lib.ListN.{length, take, drop}
+use lib.Dec.{eqb, ltb, eqb-suc-zero}
+use Rattle.std.specs.Prelude.{Some, None}
+use Rattle.std.specs.List.{position_or_len, position}
+use Rattle.std.specs.Option.{unwrap_or}
+use Rattle.std.proofs.lemmas.List.Recursion.{is_position_or_len}
 use Rattle.wire.specs.case_folding.Fold.{same_name}
 use Rattle.txt.specs.Txt.{key_of, value_of, skipped, has_key}
 
--- the key's length so far, in a loop that stops at the first "="
-module _ (s : List ℕ) (i : ℕ) (h : i < length s) (inv : length (key_of s) ≡ i + length (key_of (drop i s))) where
-  pub key_ends : get_or s i 0 ≡ 61 → i ≡ length (key_of s)
-  unfolding key_of
-  key_ends e =
-      let k : length (key_of (drop i s)) ≡ 0 = rw (drop-cons s i 0 h) (simp (eq-eqb (get_or s i 0) 61 e)) in
-      omega arith
+-- the key ends where the first "=" stands, or with the string
+len_step : (b : ℕ) (bs : List ℕ) (t : Bool) → length (cond t [] (b ∷ key_of bs)) ≡ cond t 0 (1 + length (key_of bs))
+len_step b bs true = refl
+len_step b bs false = omega arith
 
-  pub key_goes_on : (get_or s i 0 ≡ 61 → ⊥) → length (key_of s) ≡ (i + 1) + length (key_of (drop (i + 1) s))
-  unfolding key_of
-  key_goes_on ne =
-      let k : length (key_of (drop i s)) ≡ suc (length (key_of (drop (suc i) s))) = rw (drop-cons s i 0 h) (simp (ne_eqb (get_or s i 0) 61 ne)) in
-      rw add-one (omega arith)
-
-pub key_all : (s : List ℕ) (i : ℕ) → i ≤ length s → length s ≤ i → length (key_of s) ≡ i + length (key_of (drop i s)) → i ≡ length (key_of s)
+key_len_is : (s : List ℕ) → length (key_of s) ≡ position_or_len (λ b. eqb b 61) s
 unfolding key_of
-key_all s i lo h inv =
-    let k : length (key_of (drop i s)) ≡ 0 = rw (drop_of_length-le s h) in
-    omega arith
+key_len_is = is_position_or_len (λ s. length (key_of s)) (λ b. eqb b 61) refl (λ b bs. len_step b bs (eqb b 61))
 
 pub key_fits : (s : List ℕ) → length (key_of s) ≤ length s
 unfolding key_of
@@ -41,6 +32,14 @@ key_fits (b ∷ bs) = go (eqb b 61) (key_fits bs)
     go : (t : Bool) → length (key_of bs) ≤ length bs → length (cond t [] (b ∷ key_of bs)) ≤ suc (length bs)
     go true ih = omega arith
     go false ih = omega arith
+
+pub key_found : (s : List ℕ) → unwrap_or (position (λ b. eqb b 61) s) (length s) ≡ length (key_of s)
+key_found s = go (ltb (position_or_len (λ b. eqb b 61) s) (length s)) refl
+  where
+    go : (t : Bool) → ltb (position_or_len (λ b. eqb b 61) s) (length s) ≡ t
+        → unwrap_or (cond t (Some (position_or_len (λ b. eqb b 61) s)) None) (length s) ≡ length (key_of s)
+    go true e = sym (key_len_is s)
+    go false e = omega (arith, key_fits s, key_len_is s, ltb-false _ _ e)
 
 -- the key is the first bytes of the string
 pub key_part : (s : List ℕ) → take (length (key_of s)) s ≡ key_of s

@@ -1,41 +1,20 @@
 -- The part that is shown for each answer: its bytes, and where it starts in memory. Assumes nothing.
-use mathlib.Core.Path.{◌≡◌, refl, sym, ap, ◌∙◌}
-use mathlib.Core.List.{List, []}
+use mathlib.Core.Path.{◌≡◌, ap, ◌∙◌}
+use mathlib.Core.List.{List}
 use Prim.Native.Nat.{ℕ, ◌+◌, ◌≤◌}
-use native.Mathlib.Nat.{zero-add}
 use native.Mathlib.Omega.{arith}
-use lib.ListN.{length, take, drop}
+use lib.ListN.{length}
 use borrow.Author.Tests.{le-leb}
 use Rattle.wire.specs.rdata.Answers.{start_in}
-use Rattle.txt.specs.Lookup.{lookup_of, part_of, shown_of, empty_part, holder, bytes_of, stands_from}
-use Rattle.txt.specs.declared.Buffer.TheVariants.{Received, Factory}
+use Rattle.txt.specs.Lookup.{lookup_of, part_of, shown_of, holder, bytes_of, stands_from}
 use Rattle.txt.specs.declared.Held.{Held}
 use Rattle.txt.specs.declared.Answer.{Answer}
-use Rattle.txt.specs.declared.Answer.TheVariants.{Refused, Absent, Present, Empty, Value}
 use Rattle.txt.proofs.Use.{shown-inside}
-
--- an answer that is no value shows the empty part at the received TXT's start
-no_part : (a : Answer) → ((v : Held) → a ≡ Value v → ⊥) → part_of a ≡ empty_part
-no_part (Refused n) h = refl
-no_part Absent h = refl
-no_part Present h = refl
-no_part Empty h = refl
-no_part (Value v) h = absurd (h v refl)
 
 module _ (received factory : List ℕ) (pr pf : ℕ × ℕ) where
   -- where the part of an answer starts
   abbrev placed : Held → ℕ × ℕ
   placed h = start_in (holder h.buffer received factory) h.at (holder h.buffer pr pf)
-
-  pub shows_nothing : (a : Answer) → ((v : Held) → a ≡ Value v → ⊥) → ([] ≡ bytes_of (part_of a) received factory) × (pr ≡ placed (part_of a))
-  shows_nothing a h = rw (no_part a h) (refl, simp (le-leb 0 (length received) (omega arith)) (ap (λ (o : ℕ). (pr.0, o)) (sym (zero-add pr.1))))
-
-  module _ (a : Answer) (h : Held) (e : a ≡ Value h) (bytes : List ℕ) (at : ℕ × ℕ) where
-    pub shows-received : h.buffer ≡ Received → (bytes ≡ take h.len (drop h.at received)) × (at ≡ start_in received h.at pr) → (bytes ≡ bytes_of (part_of a) received factory) × (at ≡ placed (part_of a))
-    shows-received b is = rw (e, b) is
-
-    pub shows-factory : h.buffer ≡ Factory → (bytes ≡ take h.len (drop h.at factory)) × (at ≡ start_in factory h.at pf) → (bytes ≡ bytes_of (part_of a) received factory) × (at ≡ placed (part_of a))
-    shows-factory b is = rw (e, b) is
 
 -- a part that lies in its buffer starts at its place there
 starts-inside : (p : List ℕ) (at : ℕ) (place : ℕ × ℕ) → at ≤ length p → start_in p at place ≡ (place.0, at + place.1)

@@ -10,23 +10,6 @@ use Rattle.txt.specs.declared.Buffer.TheVariants.{Received, Factory}
 use Rattle.txt.specs.declared.Answer.{Answer}
 use Rattle.txt.specs.declared.Answer.TheVariants.{Refused, Absent, Present, Empty, Value}
 
-module _ (key received factory : List ℕ) where
-  pub refused_key : bad_key key ≡ true → 9 ≡ refusal_of key received factory
-  unfolding refusal_of
-  refused_key e = simp e
-
-  pub refused_received : bad_key key ≡ false → strings_fill 0 received ≡ false → 6 ≡ refusal_of key received factory
-  unfolding refusal_of
-  refused_received e r = simp (e, r)
-
-  pub refused_factory : bad_key key ≡ false → strings_fill 0 received ≡ true → strings_fill 0 factory ≡ false → 6 ≡ refusal_of key received factory
-  unfolding refusal_of
-  refused_factory e r f = simp (e, r, f)
-
-  pub not-refused : bad_key key ≡ false → strings_fill 0 received ≡ true → strings_fill 0 factory ≡ true → 0 ≡ refusal_of key received factory
-  unfolding refusal_of
-  not-refused e r f = simp (e, r, f)
-
 -- what is not refused is well formed
 both-fill : (a b c : Bool) → ◌≡◌ {A = ℕ} (cond a 9 (cond (not (b && c)) 6 0)) 0 → (b ≡ true) × (c ≡ true)
 both-fill true b c e = absurd (omega arith)

@@ -3,7 +3,8 @@
 use Rattle.std.specs.Prelude.{ℕ, zero, suc, ◌+◌, List, [], ◌∷◌, Bool, not, ◌&&◌, ◌||◌, length, take, drop, ltb, eqb}
 use Rattle.std.proofs.Math.Option.{Option, none, some}
 use Rattle.wire.specs.Lists.{some as some_of}
-use Rattle.wire.specs.refusals.Numbers.{MALFORMED, KEY, first_refusal}
+use Rattle.wire.specs.refusals.Numbers.{first_refusal}
+use Rattle.wire.specs.declared.refusals.Refusal.TheVariants.{Key, Malformed}
 use Rattle.wire.specs.rdata.Rdata.{strings_fill}
 use Rattle.txt.specs.Txt.{Text, text, strings, key_of, value_of, first_with}
 use Rattle.txt.specs.declared.Buffer.{Buffer}
@@ -25,7 +26,7 @@ bad_txt received factory = not (strings_fill 0 received && strings_fill 0 factor
 
 -- The refusals of a lookup, which "tests 9 first".
 unfoldable pub refusal_of : List ℕ → List ℕ → List ℕ → ℕ
-refusal_of key received factory = first_refusal ((KEY, bad_key key) ∷ ((MALFORMED, bad_txt received factory) ∷ []))
+refusal_of key received factory = first_refusal ((Key, bad_key key) ∷ ((Malformed, bad_txt received factory) ∷ []))
 
 -- "present without value, empty value, or the value itself": a value of so many bytes that starts at `at` of a buffer
 abbrev pub valued : Buffer → ℕ → Option (List ℕ) → Answer

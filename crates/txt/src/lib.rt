@@ -3,10 +3,14 @@
 #![tactic(auto)]
 
 ghost use Rattle.std.specs.Prelude.{◌≡◌, true, ◌-◌, ◌≤◌, length, take, drop};
+ghost use Rattle.wire.specs.refusals.Numbers.{number_in};
 ghost use Rattle.wire.specs.rdata.Rdata.{strings_fill};
 ghost use Rattle.wire.specs.rdata.Answers.{start_in};
 ghost use Rattle.txt.specs.Txt.{key_of, has_key};
 ghost use Rattle.txt.specs.Lookup.{bad_byte, bad_key, refusal_of, given_by, in_txt, lookup_of, number_of, part_of, shown_of, holder, bytes_of, stands_from};
+
+use wire::rdata::{part, strings_fill};
+use wire::refusals::Refusal;
 
 // Which of the two TXTs.
 #[derive(Clone, Copy)]
@@ -44,71 +48,44 @@ pub struct Shown<'a> {
 fn bad_byte(b: u8) -> bool
     ensures { result ≡ bad_byte b }
 {
-    if b < 0x20 {
-        return true;
-    }
-    if 0x7E < b {
-        return true;
-    }
-    b == b'='
+    b < 0x20 || 0x7E < b || b == b'='
 }
 
 // Whether a key may not be asked for.
 fn bad_key(key: &[u8]) -> bool
     ensures { result ≡ bad_key key.now }
 {
-    if key.len() == 0 {
-        return true;
-    }
-    let mut i = 0;
-    while i < key.len() {
-        if bad_byte(key[i]) {
-            return true;
-        }
-        i += 1;
-    }
-    false
+    key.is_empty() || key.iter().any(|b| bad_byte(*b))
 }
 
-// The number of the refusal, 0 for none.
-fn refusal(key: &[u8], received: &[u8], factory: &[u8]) -> u8
-    ensures { result ≡ refusal_of key.now received.now factory.now }
+// Whether a lookup is refused.
+#[tactic(auto, unfolding(crate::specs::Lookup::refusal_of))]
+fn check(key: &[u8], received: &[u8], factory: &[u8]) -> Result<(), Refusal>
+    ensures { number_in result ≡ refusal_of key.now received.now factory.now }
 {
     if bad_key(key) {
-        return wire::refusals::KEY;
+        return Err(Refusal::Key);
     }
-    if !wire::rdata::strings_fill(received) {
-        return wire::refusals::MALFORMED;
+    if !strings_fill(received) || !strings_fill(factory) {
+        return Err(Refusal::Malformed);
     }
-    if !wire::rdata::strings_fill(factory) {
-        return wire::refusals::MALFORMED;
-    }
-    0
+    Ok(())
 }
 
 // The length of a string's key: the bytes before its first "=", or all of them.
 fn key_len(s: &[u8]) -> usize
     ensures { result ≡ length (key_of s.now) }
 {
-    let mut i = 0;
-    while i < s.len() {
-        if s[i] == b'=' {
-            return i;
-        }
-        i += 1;
-    }
-    i
+    s.iter().position(|b| *b == b'=').unwrap_or(s.len())
 }
 
 // Whether a string has the key, ASCII case ignored. A string with no key has none.
+#[tactic(auto, using(crate::proofs::Pairs::no_key, crate::proofs::Pairs::some_key))]
 fn has_key(s: &[u8], key: &[u8]) -> bool
     ensures { result ≡ has_key key.now s.now }
 {
     let n = key_len(s);
-    if n == 0 {
-        return false;
-    }
-    wire::case_folding::same_name(&s[..n], key)
+    n != 0 && wire::case_folding::same_name(&s[..n], key)
 }
 
 // What the string from `start` to `end` of a TXT gives.
@@ -123,9 +100,10 @@ fn given(txt: &[u8], buffer: Buffer, start: usize, end: usize) -> Answer
     let at = start + n + 1;
     let len = end - at;
     if len == 0 {
-        return Answer::Empty;
+        Answer::Empty
+    } else {
+        Answer::Value(Held { buffer, at, len })
     }
-    Answer::Value(Held { buffer, at, len })
 }
 
 // What the first string that has the key gives, in a TXT that strings fill.
@@ -150,9 +128,8 @@ pub fn answer_for<'k, 'a>(key: &'k [u8], received: &'a [u8], factory: &'a [u8]) 
     ensures answer { result ≡ lookup_of key.now received.now factory.now }
     ensures number { number_of result ≡ refusal_of key.now received.now factory.now }
 {
-    let number = refusal(key, received, factory);
-    if number != 0 {
-        return Answer::Refused(number);
+    if let Err(refusal) = check(key, received, factory) {
+        return Answer::Refused(refusal.number());
     }
     let answer = find(key, received, Buffer::Received);
     match answer {
@@ -170,13 +147,10 @@ pub fn part_of<'a>(answer: Answer, received: &'a [u8], factory: &'a [u8]) -> &'a
         (holder h.buffer received.entry.ref_ptr factory.entry.ref_ptr)) }
 {
     match answer {
-        Answer::Value(held) => {
-            let buffer = held.buffer;
-            match buffer {
-                Buffer::Received => wire::rdata::part(received, held.at, held.len),
-                Buffer::Factory => wire::rdata::part(factory, held.at, held.len),
-            }
-        }
+        Answer::Value(held) => match held.buffer {
+            Buffer::Received => part(received, held.at, held.len),
+            Buffer::Factory => part(factory, held.at, held.len),
+        },
         _ => &received[..0],
     }
 }

@@ -2,16 +2,6 @@
 ghost use Rattle.std.specs.Prelude.{◌≡◌, cond, ltb};
 ghost use Rattle.std.proofs.lemmas.List.Edits.{sets};
 
-// The lesser of two numbers.
-fn lesser(a: usize, b: usize) -> usize
-    ensures { result ≡ cond (ltb a b) a b }
-{
-    if a < b {
-        return a;
-    }
-    b
-}
-
 // Writes `s` into `out` from index `at` on.
 pub fn put(out: &mut [u8], at: usize, s: &[u8])
     ensures { out.new ≡ sets out.old at s.now }
@@ -19,10 +9,7 @@ pub fn put(out: &mut [u8], at: usize, s: &[u8])
     if out.len() <= at {
         return;
     }
-    let n = lesser(s.len(), out.len() - at);
-    let mut i = 0;
-    while i < n {
-        out[at + i] = s[i];
-        i += 1;
-    }
+    let n = s.len().min(out.len() - at);
+    let end = at + n;
+    out[at..end].copy_from_slice(&s[..n]);
 }

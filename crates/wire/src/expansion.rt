@@ -6,7 +6,10 @@ ghost use Rattle.wire.specs.rdata.Rdata.{rdata_at};
 ghost use Rattle.wire.specs.expansion.Equal.{same_bytes, rdata_is};
 ghost use Rattle.wire.specs.expansion.Opened.{opened_name, opened_at, view_of, view_start};
 
+use crate::buffer::put;
+use crate::bytes::same_front;
 use crate::message::RecordAt;
+use crate::rdata::{form_at, part, rdata_fits};
 
 // Rdata with its name expanded: a name of 255 bytes at the most and 34 others (6 before it in an SRV, a window block behind it in an NSEC), zeros after them.
 #[derive(Clone, Copy)]
@@ -23,15 +26,14 @@ pub fn same_bytes(a: &[u8], b: &[u8]) -> bool
     if a.len() != b.len() {
         return false;
     }
-    let mut i = crate::bytes::same_front(a, b);
-    if 8 <= a.len() - i {
+    let same = same_front(a, b);
+    if 8 <= a.len() - same {
         return false;
     }
-    while i < a.len() {
+    for i in same..a.len() {
         if a[i] != b[i] {
             return false;
         }
-        i += 1;
     }
     true
 }
@@ -50,17 +52,17 @@ fn open_name(p: &[u8], at: usize, len: usize, before: usize, behind: usize) -> O
     let b = e.bytes;
     let mut out = [0u8; 289];
     match name {
-        crate::names::Name::Found(span) => {
+        Some(span) => {
             let n = span.len;
-            crate::buffer::put(&mut out, 0, &p[at..from]);
-            crate::buffer::put(&mut out, before, &b[..n]);
-            crate::buffer::put(&mut out, before + n, &p[to..end]);
+            put(&mut out, 0, &p[at..from]);
+            put(&mut out, before, &b[..n]);
+            put(&mut out, before + n, &p[to..end]);
             Opened {
                 len: before + n + behind,
                 bytes: out,
             }
         }
-        crate::names::Name::Malformed => Opened {
+        None => Opened {
             len: 0,
             bytes: [0u8; 289],
         },
@@ -71,13 +73,13 @@ fn open_name(p: &[u8], at: usize, len: usize, before: usize, behind: usize) -> O
 pub fn open(p: &[u8], f: RecordAt) -> Opened
     ensures { result ≡ opened_at p.now f }
 {
-    if !crate::rdata::rdata_fits(p, f) {
+    if !rdata_fits(p, f) {
         return Opened {
             len: 0,
             bytes: [0u8; 289],
         };
     }
-    let held = crate::rdata::form_at(p, f);
+    let held = form_at(p, f);
     if held.named {
         return open_name(p, f.rdata, f.rdlength, held.before, held.behind);
     }
@@ -92,23 +94,23 @@ pub fn view<'a>(p: &'a [u8], opened: &'a [u8], n: usize, f: RecordAt) -> &'a [u8
     ensures bytes { result.now ≡ view_of p.now opened.now n f }
     ensures start { result.ref_ptr ≡ view_start p.now p.entry.ref_ptr opened.now opened.entry.ref_ptr f }
 {
-    let held = crate::rdata::form_at(p, f);
+    let held = form_at(p, f);
     if held.named {
-        return crate::rdata::part(opened, 0, n);
+        return part(opened, 0, n);
     }
-    crate::rdata::part(p, f.rdata, f.rdlength)
+    part(p, f.rdata, f.rdlength)
 }
 
 // Whether the rdata of a record equals expanded bytes. Rdata that is not as its type asks equals nothing; what holds no name is compared as it lies.
 pub fn rdata_is(p: &[u8], f: RecordAt, other: &[u8]) -> bool
     ensures { result ≡ rdata_is (rdata_at p.now f) other.now }
 {
-    if !crate::rdata::rdata_fits(p, f) {
+    if !rdata_fits(p, f) {
         return false;
     }
-    let held = crate::rdata::form_at(p, f);
+    let held = form_at(p, f);
     if !held.named {
-        return same_bytes(crate::rdata::part(p, f.rdata, f.rdlength), other);
+        return same_bytes(part(p, f.rdata, f.rdlength), other);
     }
     let o = open(p, f);
     let b = o.bytes;

@@ -8,6 +8,7 @@ pub fn labels_in(name: &[u8]) -> usize
     ensures { result ≡ labels_in name.now }
 {
     let mut count = 0;
+    // by strides of a label each, so that no `for` fits
     let mut i = 0;
     while i < name.len() {
         let n = name[i] as usize;

@@ -8,10 +8,12 @@ ghost use Rattle.wire.specs.message.Layout.{question_at, record_at, list_from, s
 ghost use Rattle.wire.specs.message.Places.{past_item, past_list};
 ghost use Rattle.wire.specs.long_message.Noted.{Noted, length_of, past_name, ends_at};
 
-use crate::message::{Layout, MessageRead, Place, RecordAt, Section};
-use crate::name_pieces::Piece;
+use crate::message::{LEAST_MESSAGE, Layout, MOST_MESSAGE, RecordAt, Section, plain_header};
+use crate::name_pieces::{MOST_NAME, Piece, piece_at};
 use crate::names::Span;
-use crate::rdata::StringRead;
+use crate::octets::be16;
+use crate::rdata::{A, AAAA, PTR, SRV, StringRead, TXT};
+use crate::refusals::Refusal;
 
 // Notes how long each name is to which a pointer of the name at `at` leads, up to that at `last`, as far as it is not noted yet; `len` is the length of the
 // name at `at` itself.
@@ -26,7 +28,7 @@ fn note(p: &[u8], at: usize, len: usize, last: usize, noted: &mut [u8; 8972])
     let mut here = at;
     let mut used = 0;
     loop {
-        match crate::name_pieces::piece_at(p, start, here, used) {
+        match piece_at(p, start, here, used) {
             Piece::Root => {
                 return;
             }
@@ -53,7 +55,7 @@ fn note(p: &[u8], at: usize, len: usize, last: usize, noted: &mut [u8; 8972])
 }
 
 // Past the name at an offset.
-fn past_name(p: &[u8], at: usize, noted: &mut [u8; 8972]) -> Place
+fn past_name(p: &[u8], at: usize, noted: &mut [u8; 8972]) -> Option<usize>
     requires p_len_bound { length p.now ≤ 8972 }
     requires noted { Noted p.now noted.old }
     ensures answer { result ≡ past_name (name_at p.now at) }
@@ -65,13 +67,13 @@ fn past_name(p: &[u8], at: usize, noted: &mut [u8; 8972]) -> Place
     // past the first pointer, and 0 until one has been followed
     let mut end = 0;
     loop {
-        match crate::name_pieces::piece_at(p, start, here, used) {
+        match piece_at(p, start, here, used) {
             Piece::Root => {
                 if end == 0 {
-                    return Place::At(here + 1);
+                    return Some(here + 1);
                 }
                 note(p, at, used + 1, start, noted);
-                return Place::At(end);
+                return Some(end);
             }
             Piece::Label(n) => {
                 here = here + 1 + n;
@@ -80,14 +82,14 @@ fn past_name(p: &[u8], at: usize, noted: &mut [u8; 8972]) -> Place
             Piece::Pointer(target) => {
                 let rest = noted[target] as usize;
                 if 0 < rest {
-                    if crate::name_pieces::MOST_NAME - used < rest {
-                        return Place::Malformed;
+                    if MOST_NAME - used < rest {
+                        return None;
                     }
                     if end == 0 {
-                        return Place::At(here + 2);
+                        return Some(here + 2);
                     }
                     note(p, at, used + rest, start, noted);
-                    return Place::At(end);
+                    return Some(end);
                 }
                 if end == 0 {
                     end = here + 2;
@@ -96,7 +98,7 @@ fn past_name(p: &[u8], at: usize, noted: &mut [u8; 8972]) -> Place
                 here = target;
             }
             Piece::Bad => {
-                return Place::Malformed;
+                return None;
             }
         }
     }
@@ -109,16 +111,14 @@ fn ends_at(p: &[u8], at: usize, end: usize, noted: &mut [u8; 8972]) -> bool
     ensures answer { result ≡ ends_at end (name_at p.now at) }
     ensures notes { Noted p.now noted.new }
 {
-    match past_name(p, at, noted) {
-        Place::At(past) => past == end,
-        Place::Malformed => false,
-    }
+    past_name(p, at, noted) == Some(end)
 }
 
-// Whether strings, each after its length byte, fill the data exactly.
+// Whether strings, each after its length byte, fill the data exactly, as `rdata::strings_fill`, which a second caller would make slower.
 fn strings_fill(d: &[u8]) -> bool
     ensures { result ≡ strings_fill 0 d.now }
 {
+    // by strides of a string each, so that no `for` fits
     let mut at = 0;
     loop {
         match crate::rdata::string_at(d, at) {
@@ -144,22 +144,22 @@ fn fits_noted(p: &[u8], f: RecordAt, noted: &mut [u8; 8972]) -> bool
     ensures notes { Noted p.now noted.new }
 {
     let end = f.rdata + f.rdlength;
-    if f.rtype == crate::rdata::PTR {
+    if f.rtype == PTR {
         return ends_at(p, f.rdata, end, noted);
     }
-    if f.rtype == crate::rdata::SRV {
+    if f.rtype == SRV {
         if f.rdlength < 6 {
             return false;
         }
         return ends_at(p, f.rdata + 6, end, noted);
     }
-    if f.rtype == crate::rdata::A {
+    if f.rtype == A {
         return f.rdlength == 4;
     }
-    if f.rtype == crate::rdata::AAAA {
+    if f.rtype == AAAA {
         return f.rdlength == 16;
     }
-    if f.rtype == crate::rdata::TXT {
+    if f.rtype == TXT {
         let at = f.rdata;
         return strings_fill(&p[at..end]);
     }
@@ -167,143 +167,112 @@ fn fits_noted(p: &[u8], f: RecordAt, noted: &mut [u8; 8972]) -> bool
 }
 
 // Past the question at an offset.
-fn past_question(p: &[u8], at: usize, noted: &mut [u8; 8972]) -> Place
+fn past_question(p: &[u8], at: usize, noted: &mut [u8; 8972]) -> Option<usize>
     requires p_len_bound { length p.now ≤ 8972 }
     requires noted { Noted p.now noted.old }
     ensures answer { result ≡ past_item (question_at p.now at) }
     ensures notes { Noted p.now noted.new }
 {
-    match past_name(p, at, noted) {
-        Place::At(end) => {
-            if p.len() < end {
-                return Place::Malformed;
-            }
-            if p.len() - end < 4 {
-                return Place::Malformed;
-            }
-            Place::At(end + 4)
-        }
-        Place::Malformed => Place::Malformed,
+    let end = past_name(p, at, noted)?;
+    if p.len() < end || p.len() - end < 4 {
+        return None;
     }
+    Some(end + 4)
 }
 
 // Past the record at an offset, where its rdata is as its type asks, for which the owner's span, the class and the TTL do not count.
-fn past_record(p: &[u8], at: usize, noted: &mut [u8; 8972]) -> Place
+fn past_record(p: &[u8], at: usize, noted: &mut [u8; 8972]) -> Option<usize>
     requires p_len_bound { length p.now ≤ 8972 }
     requires noted { Noted p.now noted.old }
     ensures answer { result ≡ past_item (record_at p.now at) }
     ensures notes { Noted p.now noted.new }
 {
-    match past_name(p, at, noted) {
-        Place::At(end) => {
-            if p.len() < end {
-                return Place::Malformed;
-            }
-            if p.len() - end < 10 {
-                return Place::Malformed;
-            }
-            let rdlength = crate::octets::be16(p, end + 8) as usize;
-            let rdata = end + 10;
-            if p.len() - rdata < rdlength {
-                return Place::Malformed;
-            }
-            let f = RecordAt {
-                owner: at,
-                span: Span {
-                    end,
-                    len: 0,
-                    labels: 0,
-                    first: 0,
-                },
-                rtype: crate::octets::be16(p, end),
-                class: 0,
-                ttl: 0,
-                rdata,
-                rdlength,
-                next: rdata + rdlength,
-            };
-            if fits_noted(p, f, noted) {
-                return Place::At(rdata + rdlength);
-            }
-            Place::Malformed
-        }
-        Place::Malformed => Place::Malformed,
+    let end = past_name(p, at, noted)?;
+    if p.len() < end || p.len() - end < 10 {
+        return None;
+    }
+    let rdlength = be16(p, end + 8) as usize;
+    let rdata = end + 10;
+    if p.len() - rdata < rdlength {
+        return None;
+    }
+    let f = RecordAt {
+        owner: at,
+        span: Span {
+            end,
+            len: 0,
+            labels: 0,
+            first: 0,
+        },
+        rtype: be16(p, end),
+        class: 0,
+        ttl: 0,
+        rdata,
+        rdlength,
+        next: rdata + rdlength,
+    };
+    if fits_noted(p, f, noted) {
+        Some(f.next)
+    } else {
+        None
     }
 }
 
 // Past so many questions.
-fn questions_end(p: &[u8], at: usize, count: u16, noted: &mut [u8; 8972]) -> Place
+fn questions_end(p: &[u8], at: usize, count: u16, noted: &mut [u8; 8972]) -> Option<usize>
     requires p_len_bound { length p.now ≤ 8972 }
     requires noted { Noted p.now noted.old }
     ensures answer { result ≡ past_list (list_from (question_at p.now) count at) }
     ensures notes { Noted p.now noted.new }
 {
     let mut here = at;
-    let mut left = count;
-    while 0 < left {
-        match past_question(p, here, noted) {
-            Place::At(next) => {
-                here = next;
-            }
-            Place::Malformed => {
-                return Place::Malformed;
-            }
-        }
-        left -= 1;
+    for _read in 0..count {
+        here = past_question(p, here, noted)?;
     }
-    Place::At(here)
+    Some(here)
 }
 
 // Past so many records.
-fn records_end(p: &[u8], at: usize, count: u16, noted: &mut [u8; 8972]) -> Place
+fn records_end(p: &[u8], at: usize, count: u16, noted: &mut [u8; 8972]) -> Option<usize>
     requires p_len_bound { length p.now ≤ 8972 }
     requires noted { Noted p.now noted.old }
     ensures answer { result ≡ past_list (list_from (record_at p.now) count at) }
     ensures notes { Noted p.now noted.new }
 {
     let mut here = at;
-    let mut left = count;
-    while 0 < left {
-        match past_record(p, here, noted) {
-            Place::At(next) => {
-                here = next;
-            }
-            Place::Malformed => {
-                return Place::Malformed;
-            }
-        }
-        left -= 1;
+    for _read in 0..count {
+        here = past_record(p, here, noted)?;
     }
-    Place::At(here)
+    Some(here)
 }
 
 // The sections of a packet that is long enough for a header.
-fn read_sections(p: &[u8]) -> MessageRead
+fn read_sections(p: &[u8]) -> Result<Layout, Refusal>
     requires { length p.now ≤ 8972 }
     ensures { result ≡ read_of (sections_of p.now) }
 {
-    let questions = crate::octets::be16(p, 4);
-    let answers = crate::octets::be16(p, 6);
-    let authorities = crate::octets::be16(p, 8);
-    let additionals = crate::octets::be16(p, 10);
+    let questions = be16(p, 4);
+    let answers = be16(p, 6);
+    let authorities = be16(p, 8);
+    let additionals = be16(p, 10);
     let mut noted = [0u8; 8972];
-    let Place::At(a) = questions_end(p, crate::message::LEAST_MESSAGE, questions, &mut noted) else {
-        return MessageRead::Refused(crate::refusals::MALFORMED);
+    let Some(a) = questions_end(p, LEAST_MESSAGE, questions, &mut noted) else {
+        return Err(Refusal::Malformed);
     };
-    let Place::At(b) = records_end(p, a, answers, &mut noted) else {
-        return MessageRead::Refused(crate::refusals::MALFORMED);
+    let Some(b) = records_end(p, a, answers, &mut noted) else {
+        return Err(Refusal::Malformed);
     };
-    let Place::At(c) = records_end(p, b, authorities, &mut noted) else {
-        return MessageRead::Refused(crate::refusals::MALFORMED);
+    let Some(c) = records_end(p, b, authorities, &mut noted) else {
+        return Err(Refusal::Malformed);
     };
-    let Place::At(end) = records_end(p, c, additionals, &mut noted) else {
-        return MessageRead::Refused(crate::refusals::MALFORMED);
+    let Some(end) = records_end(p, c, additionals, &mut noted) else {
+        return Err(Refusal::Malformed);
     };
-    MessageRead::Read(Layout {
-        id: crate::octets::be16(p, 0),
-        flags: crate::octets::be16(p, 2),
+    Ok(Layout {
+        id: be16(p, 0),
+        flags: be16(p, 2),
         questions: Section {
-            at: crate::message::LEAST_MESSAGE,
+            at: LEAST_MESSAGE,
             count: questions,
         },
         answers: Section {
@@ -323,17 +292,14 @@ fn read_sections(p: &[u8]) -> MessageRead
 }
 
 // The whole message, as `message::read_message` answers it; for a long one, since the notes are cleared first.
-pub fn read_long(p: &[u8]) -> MessageRead
+pub fn read_long(p: &[u8]) -> Result<Layout, Refusal>
     ensures { result ≡ read_of (message_at p.now) }
 {
-    if p.len() < crate::message::LEAST_MESSAGE {
-        return MessageRead::Refused(crate::refusals::LENGTH);
+    if p.len() < LEAST_MESSAGE || MOST_MESSAGE < p.len() {
+        return Err(Refusal::Length);
     }
-    if crate::message::MOST_MESSAGE < p.len() {
-        return MessageRead::Refused(crate::refusals::LENGTH);
-    }
-    if !crate::message::plain_header(crate::octets::be16(p, 2)) {
-        return MessageRead::Refused(crate::refusals::HEADER);
+    if !plain_header(be16(p, 2)) {
+        return Err(Refusal::Header);
     }
     read_sections(p)
 }

@@ -6,7 +6,8 @@ ghost use Rattle.wire.specs.name_pieces.Pieces.{piece_at};
 // The most bytes that a name has uncompressed, its zero byte with them.
 pub const MOST_NAME: usize = 255;
 
-// What stands at one place of a name: the zero byte, a label of so many bytes, a pointer to an offset, or what no name has there.
+// What stands at one place of a name: the zero byte, a label of so many bytes, a pointer to an offset, or what no name has there. Four kinds, and no Result
+// round three of them: the walkers answer each in one match.
 #[derive(Clone, Copy)]
 pub enum Piece {
     Root,

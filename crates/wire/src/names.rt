@@ -5,7 +5,7 @@ ghost use Rattle.wire.specs.name_pieces.Pieces.{piece_at};
 ghost use Rattle.wire.specs.names.Names.{name_at, from_run, ending, is_name};
 ghost use Rattle.wire.specs.names.Answers.{Wrote, is_pointer, Chased, or_later, seen_of, expanded, found_of, name_is, span_of};
 
-use crate::name_pieces::Piece;
+use crate::name_pieces::{MOST_NAME, Piece, piece_at};
 
 // Where a name ends in place, its uncompressed length, how many labels it has, and the length of the first: 0 and 0 of the root.
 #[derive(Clone, Copy)]
@@ -16,17 +16,10 @@ pub struct Span {
     pub first: usize,
 }
 
-// What reading a name finds.
-#[derive(Clone, Copy)]
-pub enum Name {
-    Found(Span),
-    Malformed,
-}
-
-// A name with its uncompressed bytes, zeros after them.
+// The span of a name, none where it is malformed, with its uncompressed bytes, zeros after them.
 #[derive(Clone, Copy)]
 pub struct Expanded {
-    pub name: Name,
+    pub name: Option<Span>,
     pub bytes: [u8; 255],
 }
 
@@ -37,13 +30,6 @@ struct Reach {
     len: usize,
 }
 
-// What copying a name finds.
-#[derive(Clone, Copy)]
-enum Copied {
-    Found(Reach),
-    Malformed,
-}
-
 // The end of a chain of pointers: the first place, from `target` on, at which no pointer stands. A loop, so that a long chain takes no stack.
 fn chase(p: &[u8], target: usize, used: usize) -> usize
     requires { used < 255 }
@@ -52,17 +38,11 @@ fn chase(p: &[u8], target: usize, used: usize) -> usize
 {
     let mut run = target;
     loop {
-        match crate::name_pieces::piece_at(p, run, run, used) {
+        match piece_at(p, run, run, used) {
             Piece::Pointer(t) => {
                 run = t;
             }
-            Piece::Root => {
-                return run;
-            }
-            Piece::Label(_) => {
-                return run;
-            }
-            Piece::Bad => {
+            _ => {
                 return run;
             }
         }
@@ -71,14 +51,14 @@ fn chase(p: &[u8], target: usize, used: usize) -> usize
 
 // The label walker: the rest of a name of which `used` bytes stand in `out`, in the run of labels that begins at `start`.
 #[cycle(follow_walk)]
-fn walk(p: &[u8], start: usize, at: usize, out: &mut [u8; 255], used: usize) -> Copied
+fn walk(p: &[u8], start: usize, at: usize, out: &mut [u8; 255], used: usize) -> Option<Reach>
     requires { used < 255 }
     ensures { Wrote (from_run p.now start at used) used out.old result out.new }
 {
-    match crate::name_pieces::piece_at(p, start, at, used) {
+    match piece_at(p, start, at, used) {
         Piece::Root => {
             out[used] = 0;
-            Copied::Found(Reach {
+            Some(Reach {
                 end: at + 1,
                 len: used + 1,
             })
@@ -89,25 +69,23 @@ fn walk(p: &[u8], start: usize, at: usize, out: &mut [u8; 255], used: usize) -> 
             walk(p, start, next, out, used + 1 + n)
         }
         Piece::Pointer(target) => follow(p, at, target, out, used),
-        Piece::Bad => Copied::Malformed,
+        Piece::Bad => None,
     }
 }
 
 // The pointer follower: the same for a pointer at `at`, whose target has been found good.
 #[cycle(follow_walk)]
-fn follow(p: &[u8], at: usize, target: usize, out: &mut [u8; 255], used: usize) -> Copied
+fn follow(p: &[u8], at: usize, target: usize, out: &mut [u8; 255], used: usize) -> Option<Reach>
     requires used_bound { used < 255 }
     requires at_in_bounds { at + 1 < length p.now }
     ensures { Wrote (ending (at + 2) (from_run p.now target target used)) used out.old result out.new }
 {
     let run = chase(p, target, used);
-    match walk(p, run, run, out, used) {
-        Copied::Found(reach) => Copied::Found(Reach {
-            end: at + 2,
-            len: reach.len,
-        }),
-        Copied::Malformed => Copied::Malformed,
-    }
+    let reach = walk(p, run, run, out, used)?;
+    Some(Reach {
+        end: at + 2,
+        len: reach.len,
+    })
 }
 
 // The name at an offset of a packet, expanded from a buffer of zeros; where it is malformed the bytes are all zero.
@@ -116,11 +94,11 @@ pub fn expand(p: &[u8], at: usize) -> Expanded
 {
     let mut bytes = [0u8; 255];
     match walk(p, at, at, &mut bytes, 0) {
-        Copied::Found(reach) => {
+        Some(reach) => {
             let len = reach.len;
             let plain = plain_span(&bytes[..len]);
             Expanded {
-                name: Name::Found(Span {
+                name: Some(Span {
                     end: reach.end,
                     len,
                     labels: plain.labels,
@@ -129,21 +107,18 @@ pub fn expand(p: &[u8], at: usize) -> Expanded
                 bytes,
             }
         }
-        Copied::Malformed => Expanded {
-            name: Name::Malformed,
+        None => Expanded {
+            name: None,
             bytes: [0u8; 255],
         },
     }
 }
 
-// What is known, or where that is 0, as it is until something is known, what comes later.
+// What is known, or where that is 0, as it is until something is known, what comes later. A number, and no Option: the walkers hand it on in one register.
 pub(crate) fn or_later(known: usize, later: usize) -> usize
     ensures { result ≡ or_later known later }
 {
-    if known == 0 {
-        return later;
-    }
-    known
+    if known == 0 { later } else { known }
 }
 
 // The label walker that copies nothing: the rest of a name of which `used` bytes and `labels` labels were read, in the run of labels that begins at `start`.
@@ -157,23 +132,15 @@ fn pass(
     end: usize,
     labels: usize,
     first: usize,
-) -> Name
+) -> Option<Span>
     requires used_bound { used < 255 }
     requires labels_le_used { labels ≤ used }
     ensures { result ≡ seen_of used end labels first (from_run p.now start at used) }
 {
-    match crate::name_pieces::piece_at(p, start, at, used) {
+    match piece_at(p, start, at, used) {
         Piece::Root => {
-            if end == 0 {
-                return Name::Found(Span {
-                    end: at + 1,
-                    len: used + 1,
-                    labels,
-                    first,
-                });
-            }
-            Name::Found(Span {
-                end,
+            Some(Span {
+                end: or_later(end, at + 1),
                 len: used + 1,
                 labels,
                 first,
@@ -184,7 +151,7 @@ fn pass(
             pass(p, start, at + 1 + n, used + 1 + n, end, labels + 1, one)
         }
         Piece::Pointer(target) => jump(p, at, target, used, end, labels, first),
-        Piece::Bad => Name::Malformed,
+        Piece::Bad => None,
     }
 }
 
@@ -198,28 +165,25 @@ fn jump(
     end: usize,
     labels: usize,
     first: usize,
-) -> Name
+) -> Option<Span>
     requires used_bound { used < 255 }
     requires labels_le_used { labels ≤ used }
     requires at_in_bounds { at + 1 < length p.now }
     ensures { result ≡ seen_of used end labels first (ending (at + 2) (from_run p.now target target used)) }
 {
     let run = chase(p, target, used);
-    if end == 0 {
-        return pass(p, run, run, used, at + 2, labels, first);
-    }
-    pass(p, run, run, used, end, labels, first)
+    pass(p, run, run, used, or_later(end, at + 2), labels, first)
 }
 
 // The name at an offset of a packet, without its bytes: nothing is copied.
-pub fn read_name(p: &[u8], at: usize) -> Name
+pub fn read_name(p: &[u8], at: usize) -> Option<Span>
     ensures { result ≡ found_of (name_at p.now at) }
 {
     pass(p, at, at, 0, 0, 0, 0)
 }
 
 // The same by a loop, which is faster: for the reading of a whole message.
-pub fn name_at(p: &[u8], at: usize) -> Name
+pub fn name_at(p: &[u8], at: usize) -> Option<Span>
     ensures { result ≡ found_of (name_at p.now at) }
 {
     let mut start = at;
@@ -231,18 +195,10 @@ pub fn name_at(p: &[u8], at: usize) -> Name
     // the length of the first label, and 0 until one has been read
     let mut first = 0;
     loop {
-        match crate::name_pieces::piece_at(p, start, here, used) {
+        match piece_at(p, start, here, used) {
             Piece::Root => {
-                if end == 0 {
-                    return Name::Found(Span {
-                        end: here + 1,
-                        len: used + 1,
-                        labels,
-                        first,
-                    });
-                }
-                return Name::Found(Span {
-                    end,
+                return Some(Span {
+                    end: or_later(end, here + 1),
                     len: used + 1,
                     labels,
                     first,
@@ -262,7 +218,7 @@ pub fn name_at(p: &[u8], at: usize) -> Name
                 here = target;
             }
             Piece::Bad => {
-                return Name::Malformed;
+                return None;
             }
         }
     }
@@ -277,7 +233,7 @@ pub fn name_is(p: &[u8], at: usize, other: &[u8]) -> bool
     let mut here = at;
     let mut used = 0;
     loop {
-        match crate::name_pieces::piece_at(p, start, here, used) {
+        match piece_at(p, start, here, used) {
             Piece::Root => {
                 let end = here + 1;
                 return crate::case_folding::same_name(&p[here..end], &other[used..]);
@@ -309,9 +265,10 @@ pub fn name_is(p: &[u8], at: usize, other: &[u8]) -> bool
 pub fn is_name(s: &[u8]) -> bool
     ensures { result ≡ is_name s.now }
 {
-    if crate::name_pieces::MOST_NAME < s.len() {
+    if MOST_NAME < s.len() {
         return false;
     }
+    // by strides of a label each, so that no `for` fits
     let mut at = 0;
     while at < s.len() {
         let n = s[at] as usize;

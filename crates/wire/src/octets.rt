@@ -6,10 +6,7 @@ ghost use Rattle.wire.specs.octets.Octets.{byte_at, word16, word32};
 pub fn byte(p: &[u8], at: usize) -> u8
     ensures { result ≡ byte_at p.now at }
 {
-    if p.len() <= at {
-        return 0;
-    }
-    p[at]
+    p.get(at).copied().unwrap_or(0)
 }
 
 // The 16-bit number at an offset.
@@ -19,9 +16,7 @@ pub fn be16(p: &[u8], at: usize) -> u16
     if p.len() <= at {
         return 0;
     }
-    let high = byte(p, at) as u16;
-    let low = byte(p, at + 1) as u16;
-    high * 256 + low
+    u16::from_be_bytes([byte(p, at), byte(p, at + 1)])
 }
 
 // The 32-bit number at an offset.

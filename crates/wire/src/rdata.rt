@@ -7,9 +7,10 @@ ghost use Rattle.wire.specs.rdata.Readers.{address_bytes, address_in, string_at,
 ghost use Rattle.wire.specs.rdata.Answers.{fits, start_in};
 
 use crate::message::RecordAt;
-use crate::names::{Name, Span};
+use crate::names::{Span, name_at};
+use crate::octets::be16;
 
-// The six types (RFC 1035, RFC 2782, RFC 3596, RFC 4034).
+// The six types (RFC 1035, RFC 2782, RFC 3596, RFC 4034). Numbers, and no enum: a record may have any of 65,536 types, and each is handed on.
 pub const A: u16 = 1;
 
 pub const PTR: u16 = 12;
@@ -22,7 +23,8 @@ pub const SRV: u16 = 33;
 
 pub const NSEC: u16 = 47;
 
-// The form of rdata: whether it holds a name, and how many bytes stand before it and behind it.
+// The form of rdata: whether it holds a name, and how many bytes stand before it and behind it, which are added without a test: no Option, they are 0 where no
+// name is.
 #[derive(Clone, Copy)]
 pub struct Form {
     pub named: bool,
@@ -38,7 +40,8 @@ pub struct StringAt {
     pub next: usize,
 }
 
-// What stands at a place of a TXT: a string, the end of the TXT, or a string that runs past it.
+// What stands at a place of a TXT: a string, the end of the TXT, or a string that runs past it. Each caller tells the three apart: an Option in a Result
+// would be two matches.
 #[derive(Clone, Copy)]
 pub enum StringRead {
     Found(StringAt),
@@ -56,23 +59,15 @@ pub struct SrvAt {
     pub span: Span,
 }
 
-#[derive(Clone, Copy)]
-pub enum SrvRead {
-    Found(SrvAt),
-    Malformed,
-}
-
 // How many bytes the address of a type has: 4 of an A, 16 of an AAAA, and 0 where it has none.
 fn address_bytes(rtype: u16) -> usize
     ensures { result ≡ address_bytes rtype }
 {
-    if rtype == A {
-        return 4;
+    match rtype {
+        A => 4,
+        AAAA => 16,
+        _ => 0,
     }
-    if rtype == AAAA {
-        return 16;
-    }
-    0
 }
 
 // The address in `d`, the rdata of a type: the part itself, and the empty part at its start where it is no address.
@@ -81,9 +76,10 @@ pub fn address_in<'a>(d: &'a [u8], rtype: u16) -> &'a [u8]
     ensures start { result.ref_ptr ≡ d.entry.ref_ptr }
 {
     if d.len() == address_bytes(rtype) {
-        return d;
+        d
+    } else {
+        &d[..0]
     }
-    &d[..0]
 }
 
 // The string at a place of `d`, the rdata of a TXT.
@@ -109,6 +105,7 @@ pub fn string_at(d: &[u8], at: usize) -> StringRead
 pub fn strings_fill(d: &[u8]) -> bool
     ensures { result ≡ strings_fill 0 d.now }
 {
+    // by strides of a string each, so that no `for` fits
     let mut at = 0;
     loop {
         match string_at(d, at) {
@@ -126,69 +123,50 @@ pub fn strings_fill(d: &[u8]) -> bool
 }
 
 // The name between the first `before` and the last `behind` bytes of `d`, the part of `p` that starts at `at`, if it ends exactly there.
-pub fn name_in(p: &[u8], at: usize, d: &[u8], before: usize, behind: usize) -> Name
+pub fn name_in(p: &[u8], at: usize, d: &[u8], before: usize, behind: usize) -> Option<Span>
     ensures { result ≡ name_in p.now at d.now before behind }
 {
     if p.len() < at {
-        return Name::Malformed;
+        return None;
     }
     if p.len() - at < d.len() {
-        return Name::Malformed;
+        return None;
     }
     if d.len() < behind {
-        return Name::Malformed;
+        return None;
     }
     if d.len() - behind < before {
-        return Name::Malformed;
+        return None;
     }
-    match crate::names::name_at(p, at + before) {
-        Name::Found(span) => {
-            if span.end == at + (d.len() - behind) {
-                return Name::Found(span);
-            }
-            Name::Malformed
-        }
-        Name::Malformed => Name::Malformed,
+    let span = name_at(p, at + before)?;
+    if span.end == at + (d.len() - behind) {
+        Some(span)
+    } else {
+        None
     }
 }
 
 // The SRV in `d`, the part of `p` that starts at `at`: priority, weight, port and target.
-pub fn srv_in(p: &[u8], at: usize, d: &[u8]) -> SrvRead
+pub fn srv_in(p: &[u8], at: usize, d: &[u8]) -> Option<SrvAt>
     ensures { result ≡ srv_in p.now at d.now }
 {
-    match name_in(p, at, d, 6, 0) {
-        Name::Found(span) => SrvRead::Found(SrvAt {
-            priority: crate::octets::be16(d, 0),
-            weight: crate::octets::be16(d, 2),
-            port: crate::octets::be16(d, 4),
-            target: at + 6,
-            span,
-        }),
-        Name::Malformed => SrvRead::Malformed,
-    }
+    let span = name_in(p, at, d, 6, 0)?;
+    Some(SrvAt {
+        priority: be16(d, 0),
+        weight: be16(d, 2),
+        port: be16(d, 4),
+        target: at + 6,
+        span,
+    })
 }
 
 // The form of rdata by its type alone: that of PTR and SRV holds a name.
 pub fn form_of(rtype: u16) -> Form
     ensures { result ≡ form_of rtype }
 {
-    if rtype == PTR {
-        return Form {
-            named: true,
-            before: 0,
-            behind: 0,
-        };
-    }
-    if rtype == SRV {
-        return Form {
-            named: true,
-            before: 6,
-            behind: 0,
-        };
-    }
     Form {
-        named: false,
-        before: 0,
+        named: rtype == PTR || rtype == SRV,
+        before: if rtype == SRV { 6 } else { 0 },
         behind: 0,
     }
 }
@@ -202,7 +180,7 @@ pub fn next_form(p: &[u8], owner: usize, at: usize, d: &[u8]) -> Form
     let name = e.name;
     let b = e.bytes;
     match name {
-        Name::Found(span) => {
+        Some(span) => {
             let len = span.len;
             if !crate::names::name_is(p, owner, &b[..len]) {
                 return form_of(NSEC);
@@ -220,7 +198,7 @@ pub fn next_form(p: &[u8], owner: usize, at: usize, d: &[u8]) -> Form
                 behind: d.len() - own,
             }
         }
-        Name::Malformed => form_of(NSEC),
+        None => form_of(NSEC),
     }
 }
 
@@ -258,19 +236,13 @@ fn part_fits(p: &[u8], d: &[u8], f: RecordAt) -> bool
         return address_in(d, AAAA).len() == 16;
     }
     if f.rtype == SRV {
-        return match srv_in(p, f.rdata, d) {
-            SrvRead::Found(_) => true,
-            SrvRead::Malformed => false,
-        };
+        return srv_in(p, f.rdata, d).is_some();
     }
     let held = form_of(f.rtype);
     if !held.named {
         return true;
     }
-    match name_in(p, f.rdata, d, held.before, held.behind) {
-        Name::Found(_) => true,
-        Name::Malformed => false,
-    }
+    name_in(p, f.rdata, d, held.before, held.behind).is_some()
 }
 
 // Whether the rdata of a record as it lies is as its type asks; of an NSEC nothing is asked.

@@ -6,8 +6,10 @@ ghost use Rattle.wire.specs.names.Answers.{found_of};
 ghost use Rattle.wire.specs.runs.Runs.{from_of, span_in, Lies};
 ghost use Rattle.wire.specs.runs.Written.{with_name};
 
-use crate::name_pieces::Piece;
-use crate::names::{Name, Span};
+use crate::buffer::put;
+use crate::name_pieces::{Piece, piece_at};
+use crate::names::{Span, or_later};
+use crate::rdata::part;
 
 // A name that was read: its span, and two runs of labels in the message. The first that is not empty has `front` bytes from `from` on, the last one has
 // `rest` bytes from `start` on, the zero byte with them. Whether the two are the whole name is told: whether no other is between them.
@@ -21,24 +23,15 @@ struct Runs {
     whole: bool,
 }
 
-#[derive(Clone, Copy)]
-enum RunsRead {
-    Found(Runs),
-    Malformed,
-}
-
 // Where the first run of labels begins that is not empty: `start` where none was before, else `from`.
 fn first_run(front: usize, from: usize, start: usize) -> usize
     ensures { result ≡ from_of front from start }
 {
-    if front == 0 {
-        return start;
-    }
-    from
+    if front == 0 { start } else { from }
 }
 
 // The name at an offset, and two of its runs. It is read by a loop, and nothing is copied.
-fn runs_at(p: &[u8], at: usize) -> RunsRead
+fn runs_at(p: &[u8], at: usize) -> Option<Runs>
     ensures span { span_in result ≡ found_of (name_at p.now at) }
     ensures bytes { Lies p.now (name_at p.now at) result }
 {
@@ -55,11 +48,11 @@ fn runs_at(p: &[u8], at: usize) -> RunsRead
     // the length of the first label, and 0 until one has been read
     let mut first = 0;
     loop {
-        match crate::name_pieces::piece_at(p, start, here, used) {
+        match piece_at(p, start, here, used) {
             Piece::Root => {
-                let past = crate::names::or_later(end, here + 1);
+                let past = or_later(end, here + 1);
                 let len = used + 1;
-                return RunsRead::Found(Runs {
+                return Some(Runs {
                     span: Span {
                         end: past,
                         len,
@@ -77,46 +70,42 @@ fn runs_at(p: &[u8], at: usize) -> RunsRead
                 here = here + 1 + n;
                 used = used + 1 + n;
                 labels = labels + 1;
-                first = crate::names::or_later(first, n);
+                first = or_later(first, n);
             }
             Piece::Pointer(target) => {
-                end = crate::names::or_later(end, here + 2);
+                end = or_later(end, here + 2);
                 from = first_run(front, from, start);
-                front = crate::names::or_later(front, used);
+                front = or_later(front, used);
                 last = used;
                 start = target;
                 here = target;
             }
             Piece::Bad => {
-                return RunsRead::Malformed;
+                return None;
             }
         }
     }
 }
 
 // Writes the name at an offset, uncompressed, over the first bytes of a buffer; the others stay. Nothing is written where it is malformed or longer.
-pub fn name_into(p: &[u8], at: usize, out: &mut [u8]) -> Name
+pub fn name_into(p: &[u8], at: usize, out: &mut [u8]) -> Option<Span>
     ensures answer { result ≡ found_of (name_at p.now at) }
     ensures bytes { out.new ≡ with_name out.old (name_at p.now at) }
 {
-    match runs_at(p, at) {
-        RunsRead::Found(runs) => {
-            let span = runs.span;
-            let len = span.len;
-            if out.len() < len {
-                return Name::Found(span);
-            }
-            if runs.whole {
-                crate::buffer::put(out, 0, crate::rdata::part(p, runs.from, runs.front));
-                let rest = crate::rdata::part(p, runs.start, runs.rest);
-                crate::buffer::put(out, runs.front, rest);
-            } else {
-                let expanded = crate::names::expand(p, at);
-                let bytes = expanded.bytes;
-                crate::buffer::put(out, 0, crate::rdata::part(&bytes, 0, len));
-            }
-            Name::Found(span)
-        }
-        RunsRead::Malformed => Name::Malformed,
+    let runs = runs_at(p, at)?;
+    let span = runs.span;
+    let len = span.len;
+    if out.len() < len {
+        return Some(span);
     }
+    if runs.whole {
+        put(out, 0, part(p, runs.from, runs.front));
+        let rest = part(p, runs.start, runs.rest);
+        put(out, runs.front, rest);
+    } else {
+        let expanded = crate::names::expand(p, at);
+        let bytes = expanded.bytes;
+        put(out, 0, part(&bytes, 0, len));
+    }
+    Some(span)
 }

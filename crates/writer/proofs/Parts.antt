@@ -1,10 +1,10 @@
 -- Records and questions written part by part: a name, ten or four bytes, and rdata. Assumes nothing.
 use mathlib.Core.Path.{◌≡◌, refl, sym, ap, ap₂, ◌∙◌}
 use mathlib.Core.List.{List, [], ◌++◌, append_assoc}
-use mathlib.Core.Bool.{Bool, true, false, cond, ◌&&◌, and-false}
+use mathlib.Core.Bool.{Bool, true, false, cond, ◌&&◌}
 use Prim.Native.Nat.{ℕ, ◌+◌, ◌-◌, ◌<◌, ◌≤◌}
 use native.Mathlib.Omega.{arith}
-use borrow.Author.Tests.{leb-true, eq-eqb, ne_eqb}
+use borrow.Author.Tests.{leb-true}
 use lib.ListN.{length, take, drop, length-append}
 use lib.Seq.{sets, length-sets, length-take-le}
 use lib.Dec.{leb, eqb}
@@ -43,15 +43,6 @@ tried_searched whole rtype count t e pl = ap (λ (k : ℕ). take k pl) e ∙ go 
     go : (b : Bool) → take (cond b 0 count) pl ≡ cond b [] (take count pl)
     go true = refl
     go false = refl
-
-pub tried_all : (whole : Bool) (rtype count : ℕ) → whole ≡ false → count ≡ tried_for whole rtype count
-tried_all whole rtype count t = sym (simp t)
-
-pub tried_none : (whole : Bool) (rtype count : ℕ) → whole ≡ true → rtype ≡ 33 → 0 ≡ tried_for whole rtype count
-tried_none whole rtype count t e = sym (simp (t, eq-eqb _ _ e))
-
-pub tried_other : (whole : Bool) (rtype count : ℕ) → (rtype ≡ 33 → ⊥) → count ≡ tried_for whole rtype count
-tried_other whole rtype count n = sym (ap (λ (b : Bool). cond (whole && b) 0 count) (ne_eqb _ _ n) ∙ ap (λ (b : Bool). cond b 0 count) (and-false whole))
 
 tried_few : (whole : Bool) (rtype count t : ℕ) → t ≡ tried_for whole rtype count → t ≤ count
 tried_few whole rtype count t e = go (whole && eqb rtype 33) e

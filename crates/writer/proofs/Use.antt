@@ -13,17 +13,17 @@ use Rattle.wire.specs.labels.Counted.{labels_in}
 use Rattle.writer.proofs.compression.Written.{name-short, places-few}
 use Rattle.wire.specs.message.Message.{Question, Record}
 use Rattle.writer.specs.declared.Spot.{Spot}
-use Rattle.writer.specs.declared.Placed.{Placed}
-use Rattle.writer.specs.declared.Placed.TheVariants.{Done}
 use Rattle.writer.specs.Items.{Writing, u16, fields, data_bytes, data_places, searched, put_name, put_fields, put_record, put_question}
 use Rattle.writer.specs.Fit.{form_for, is_shaped}
 use Rattle.writer.specs.Writer.{held_in, spot_of, labels_for, placed_of, bytes_after, places_after, Placing, Grown}
 use Rattle.writer.proofs.Rdata.{shaped_holds, data_short, data_few}
+use Rattle.std.specs.Prelude.{Result, Ok}
+use Rattle.writer.specs.declared.Misfit.{Misfit}
 
 -- what is fit and has room is written
-module _ (fit fits : Bool) (v : Writing) (o pl : List ℕ) (r : Placed) (o' pl' : List ℕ) (p : Placing fit fits v o pl r o' pl')
+module _ (fit fits : Bool) (v : Writing) (o pl : List ℕ) (r : Result Spot Misfit) (o' pl' : List ℕ) (p : Placing fit fits v o pl r o' pl')
     (u : fit ≡ true) (t : fits ≡ true) where
-  pub is-done : r ≡ Done (spot_of (length v.bytes) (length v.places))
+  pub is-done : r ≡ Ok (spot_of (length v.bytes) (length v.places))
   is-done = p.answer ∙ ap₂ (λ (a b : Bool). placed_of a b v) u t
 
   pub is-grown : Grown v o pl (spot_of (length v.bytes) (length v.places)) o' pl'

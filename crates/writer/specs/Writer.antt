@@ -1,6 +1,6 @@
 -- The general writer (specification, 'Writing a packet', for any names): a question or a record, put into a lent buffer behind what was written before, or
 -- the answer that there is no room for it or that no reader takes it. Assumes nothing: these are definitions.
-use Rattle.std.specs.Prelude.{ℕ, ◌+◌, ◌≤◌, ◌≡◌, List, ◌++◌, Bool, true, cond, ◌&&◌, length, take, drop, leb}
+use Rattle.std.specs.Prelude.{ℕ, ◌+◌, ◌≤◌, ◌≡◌, List, ◌++◌, Bool, true, cond, ◌&&◌, length, take, drop, leb, Result, Ok, Err}
 use Rattle.std.proofs.lemmas.List.Edits.{sets}
 use Rattle.wire.specs.names.Names.{is_name}
 use Rattle.wire.specs.declared.rdata.Form.{Form}
@@ -10,8 +10,8 @@ use Rattle.writer.specs.Items.{Writing}
 use Rattle.writer.specs.Fit.{form_for, held_name, holds_name, fit_record}
 use Rattle.writer.specs.declared.Spot.{Spot}
 use Rattle.writer.specs.declared.Room.{Room}
-use Rattle.writer.specs.declared.Placed.{Placed}
-use Rattle.writer.specs.declared.Placed.TheVariants.{Done, Full, Unfit}
+use Rattle.writer.specs.declared.Misfit.{Misfit}
+use Rattle.writer.specs.declared.Misfit.TheVariants.{Full, Unfit}
 
 -- the packet in the first `at` bytes of a buffer, with `count` places noted
 abbrev pub held_in : List ℕ → List ℕ → ℕ → ℕ → Writing
@@ -48,8 +48,8 @@ unfoldable pub record_fits : Room → List ℕ → ℕ → List ℕ → Bool
 record_fits room owner rtype d = name_fits room owner (10 + length d) (labels_for (form_for owner rtype d) d)
 
 -- the answer, and the two lent buffers then: the packet `v` in front and the rest as it was; or all as it was
-abbrev pub placed_of : Bool → Bool → Writing → Placed
-placed_of fit fits v = cond fit (cond fits (Done (spot_of (length v.bytes) (length v.places))) Full) Unfit
+abbrev pub placed_of : Bool → Bool → Writing → Result Spot Misfit
+placed_of fit fits v = cond fit (cond fits (Ok (spot_of (length v.bytes) (length v.places))) (Err Full)) (Err Unfit)
 
 abbrev pub bytes_after : Bool → Writing → List ℕ → List ℕ
 bytes_after put v out = cond put (v.bytes ++ drop (length v.bytes) out) out
@@ -58,7 +58,7 @@ abbrev pub places_after : Bool → Writing → List ℕ → List ℕ
 places_after put v places = cond put (v.places ++ drop (length v.places) places) places
 
 -- all three together: what is `fit` for a message and `fits` into the room is put
-pub record Placing (fit fits : Bool) (v : Writing) (o pl : List ℕ) (r : Placed) (o' pl' : List ℕ) : Type 0 where
+pub record Placing (fit fits : Bool) (v : Writing) (o pl : List ℕ) (r : Result Spot Misfit) (o' pl' : List ℕ) : Type 0 where
   pub answer : r ≡ placed_of fit fits v
   pub bytes : o' ≡ bytes_after (fit && fits) v o
   pub places : pl' ≡ places_after (fit && fits) v pl

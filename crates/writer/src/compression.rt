@@ -3,18 +3,12 @@
 ghost use Rattle.std.specs.Prelude.{◌≡◌};
 ghost use Rattle.writer.specs.compression.Compression.{stands_at, place_of, cut_of};
 
-// Where a name stands earlier in the packet.
-#[derive(Clone, Copy)]
-pub enum Place {
-    At(usize),
-    Nowhere,
-}
-
-// How a name is cut: how many of its bytes are written as they are, and where the rest of it stands; the zero byte follows where it stands nowhere.
+// How a name is cut: how many of its bytes are written as they are, and where the rest of it stands earlier in the packet; the zero byte follows where it
+// stands nowhere.
 #[derive(Clone, Copy)]
 pub struct Cut {
     pub kept: usize,
-    pub place: Place,
+    pub place: Option<usize>,
 }
 
 // Whether the uncompressed name `s` stands at an offset of the packet, byte for byte, pointers there followed.
@@ -22,30 +16,22 @@ pub fn stands_at(p: &[u8], s: &[u8], at: usize) -> bool
     ensures { result ≡ stands_at p.now s.now at }
 {
     let e = wire::names::expand(p, at);
-    let name = e.name;
-    let bytes = e.bytes;
-    match name {
-        wire::names::Name::Found(span) => {
-            let len = span.len;
-            wire::expansion::same_bytes(&bytes[..len], s)
-        }
-        wire::names::Name::Malformed => false,
-    }
+    let Some(span) = e.name else {
+        return false;
+    };
+    wire::expansion::same_bytes(&e.bytes[..span.len], s)
 }
 
 // The first of some offsets at which the name `s` stands.
-pub fn place_of(p: &[u8], s: &[u8], places: &[usize]) -> Place
+pub fn place_of(p: &[u8], s: &[u8], places: &[usize]) -> Option<usize>
     ensures { result ≡ place_of p.now s.now places.now }
 {
-    let mut i = 0;
-    while i < places.len() {
-        let o = places[i];
+    for &o in places {
         if stands_at(p, s, o) {
-            return Place::At(o);
+            return Some(o);
         }
-        i += 1;
     }
-    Place::Nowhere
+    None
 }
 
 // Where a name is cut, in a packet whose names have labels at the offsets `places`: its suffixes are looked for from the longest on.
@@ -58,29 +44,25 @@ pub fn cut_of(p: &[u8], places: &[usize], name: &[u8]) -> Cut
         if n == 0 {
             return Cut {
                 kept: i,
-                place: Place::Nowhere,
+                place: None,
             };
         }
-        match place_of(p, &name[i..], places) {
-            Place::At(o) => {
-                return Cut {
-                    kept: i,
-                    place: Place::At(o),
-                };
-            }
-            Place::Nowhere => {
-                if name.len() - i <= n {
-                    return Cut {
-                        kept: name.len(),
-                        place: Place::Nowhere,
-                    };
-                }
-                i = i + 1 + n;
-            }
+        if let Some(o) = place_of(p, &name[i..], places) {
+            return Cut {
+                kept: i,
+                place: Some(o),
+            };
         }
+        if name.len() - i <= n {
+            return Cut {
+                kept: name.len(),
+                place: None,
+            };
+        }
+        i += 1 + n;
     }
     Cut {
         kept: i,
-        place: Place::Nowhere,
+        place: None,
     }
 }

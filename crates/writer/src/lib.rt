@@ -16,7 +16,6 @@ ghost use Rattle.writer.specs.Fit.{form_for, is_shaped, fit_record};
 ghost use Rattle.writer.specs.Writer.{held_in, room_in, question_of, labels_for, name_fits, question_fits, record_fits};
 ghost use Rattle.writer.specs.Writer.{Placing, Wrote, Grown, NameReady, DataReady, RecordReady, QuestionReady};
 
-use crate::compression::Place;
 use wire::rdata::Form;
 
 // A pointer has 14 bits: no name is written that would end behind this offset.
@@ -38,10 +37,9 @@ pub struct Room {
     pub slots: usize,
 }
 
-// Whether a question or a record was put into the packet: there is no room for it, or it is none that a reader takes.
+// Why a question or a record was not put into the packet: there is no room for it, or it is none that a reader takes.
 #[derive(Clone, Copy)]
-pub enum Placed {
-    Done(Spot),
+pub enum Misfit {
     Full,
     Unfit,
 }
@@ -103,14 +101,14 @@ fn put_name(
     let noted = note_starts(places, count, at, &name[..kept]);
     let end = at + kept;
     match place {
-        Place::At(o) => {
+        Some(o) => {
             put_u16(out, end, 49152 + o);
             Spot {
                 end: end + 2,
                 count: noted,
             }
         }
-        Place::Nowhere => {
+        None => {
             out[end] = 0;
             Spot {
                 end: end + 1,
@@ -121,14 +119,12 @@ fn put_name(
 }
 
 // The form of rdata that is given with its name expanded, for the owner of the record.
+#[tactic(auto, using(wire::proofs::nsec::Blocks::nsec_long), unfolding(crate::specs::Fit::form_for))]
 fn form_for(owner: &[u8], rtype: u16, d: &[u8]) -> Form
     ensures { result ≡ form_for owner.now rtype d.now }
 {
-    if rtype != wire::rdata::NSEC {
+    if rtype != wire::rdata::NSEC || !wire::nsec::is_nsec(owner, d) {
         return wire::rdata::form_of(rtype);
-    }
-    if !wire::nsec::is_nsec(owner, d) {
-        return wire::rdata::form_of(wire::rdata::NSEC);
     }
     Form {
         named: true,
@@ -188,13 +184,11 @@ fn put_fields(out: &mut [u8], at: usize, rtype: u16, class: u16, ttl: u32, len: 
 fn tried_for(whole: bool, rtype: u16, count: usize) -> usize
     ensures { result ≡ tried_for whole rtype count }
 {
-    if !whole {
-        return count;
+    if whole && rtype == wire::rdata::SRV {
+        0
+    } else {
+        count
     }
-    if rtype == wire::rdata::SRV {
-        return 0;
-    }
-    count
 }
 
 // Writes a record behind the packet `out[..at]`: the owner, the rdata ten bytes further, and then the ten bytes, when the length is known.
@@ -253,57 +247,39 @@ fn write_question(
 }
 
 // Whether there is room for a name, with `more` bytes behind it and `also` places besides those of its labels.
+#[tactic(auto, unfolding(crate::specs::Writer::name_fits))]
 fn name_fits(room: Room, name: &[u8], more: usize, also: usize) -> bool
     ensures { result ≡ name_fits room name.now more also }
 {
-    let at = room.at;
-    let len = room.len;
-    let count = room.count;
-    let slots = room.slots;
-    if len < at {
+    let Room {
+        at,
+        len,
+        count,
+        slots,
+    } = room;
+    if len < at || len - at < name.len() || len - at - name.len() < more {
         return false;
     }
-    if len - at < name.len() {
-        return false;
-    }
-    if len - at - name.len() < more {
-        return false;
-    }
-    if MOST_POINTED < at {
-        return false;
-    }
-    if MOST_POINTED - at < name.len() {
+    if MOST_POINTED < at || MOST_POINTED - at < name.len() {
         return false;
     }
     let labels = wire::labels::labels_in(name);
-    if slots < count {
-        return false;
-    }
-    if slots - count < labels {
-        return false;
-    }
-    also <= slots - count - labels
+    count <= slots && labels <= slots - count && also <= slots - count - labels
 }
 
 // How many labels the name in rdata of a form has.
+#[tactic(auto, using(crate::proofs::Fitting::none_there), unfolding(crate::specs::Writer::labels_for))]
 fn labels_for(held: Form, d: &[u8]) -> usize
     ensures { result ≡ labels_for held d.now }
 {
-    if !held.named {
+    if !held.named || d.len() < held.behind || d.len() - held.behind < held.before {
         return 0;
     }
-    let head = held.before;
-    if d.len() < held.behind {
-        return 0;
-    }
-    let tail = d.len() - held.behind;
-    if tail < head {
-        return 0;
-    }
-    wire::labels::labels_in(&d[head..tail])
+    wire::labels::labels_in(&d[held.before..d.len() - held.behind])
 }
 
 // Whether there is room for a record.
+#[tactic(auto, unfolding(crate::specs::Writer::record_fits))]
 fn record_fits(room: Room, owner: &[u8], rtype: u16, d: &[u8]) -> bool
     requires { length d.now ≤ 65535 }
     ensures { result ≡ record_fits room owner.now rtype d.now }
@@ -314,54 +290,35 @@ fn record_fits(room: Room, owner: &[u8], rtype: u16, d: &[u8]) -> bool
 }
 
 // Whether rdata is as its type asks, the name in it expanded.
+#[tactic(auto, unfolding(crate::specs::Fit::is_shaped))]
 fn is_shaped(owner: &[u8], rtype: u16, d: &[u8]) -> bool
     ensures { result ≡ is_shaped owner.now rtype d.now }
 {
     let n = d.len();
     let held = form_for(owner, rtype, d);
     if held.named {
-        let head = held.before;
-        if n < held.behind {
-            return false;
-        }
-        let tail = n - held.behind;
-        if tail < head {
-            return false;
-        }
-        return wire::names::is_name(&d[head..tail]);
+        return held.behind <= n
+            && held.before <= n - held.behind
+            && wire::names::is_name(&d[held.before..n - held.behind]);
     }
-    if rtype == wire::rdata::A {
-        return n == 4;
+    match rtype {
+        wire::rdata::A => n == 4,
+        wire::rdata::TXT => wire::rdata::strings_fill(d),
+        wire::rdata::AAAA => n == 16,
+        wire::rdata::NSEC => wire::names::name_at(d, 0).is_some(),
+        _ => true,
     }
-    if rtype == wire::rdata::TXT {
-        return wire::rdata::strings_fill(d);
-    }
-    if rtype == wire::rdata::AAAA {
-        return n == 16;
-    }
-    if rtype == wire::rdata::NSEC {
-        return match wire::names::name_at(d, 0) {
-            wire::names::Name::Found(_) => true,
-            wire::names::Name::Malformed => false,
-        };
-    }
-    true
 }
 
 // Whether a record is one that a reader takes as it is written.
+#[tactic(auto, unfolding(crate::specs::Fit::fit_record))]
 fn fit_record(owner: &[u8], rtype: u16, ttl: u32, d: &[u8]) -> bool
     ensures { result ≡ fit_record owner.now rtype ttl d.now }
 {
-    if !wire::names::is_name(owner) {
-        return false;
-    }
-    if !is_shaped(owner, rtype, d) {
-        return false;
-    }
-    if MOST_RDATA < d.len() {
-        return false;
-    }
-    ttl < TOP_TTL
+    wire::names::is_name(owner)
+        && is_shaped(owner, rtype, d)
+        && d.len() <= MOST_RDATA
+        && ttl < TOP_TTL
 }
 
 // Puts a question behind the packet `out[..at]`, whose names have labels at the offsets `places[..count]`. Where it is not put every byte is kept.
@@ -373,14 +330,14 @@ pub fn put_question(
     name: &[u8],
     rtype: u16,
     class: u16,
-) -> Placed
+) -> Result<Spot, Misfit>
     ensures { Placing (is_name name.now)
         (question_fits (room_in out.old places.old at count) name.now)
         (put_question (held_in out.old places.old at count) (question_of name.now rtype class))
         out.old places.old result out.new places.new }
 {
     if !wire::names::is_name(name) {
-        return Placed::Unfit;
+        return Err(Misfit::Unfit);
     }
     let room = Room {
         at,
@@ -389,13 +346,14 @@ pub fn put_question(
         slots: places.len(),
     };
     if !name_fits(room, name, 4, 0) {
-        return Placed::Full;
+        return Err(Misfit::Full);
     }
-    Placed::Done(write_question(out, at, places, count, name, rtype, class))
+    Ok(write_question(out, at, places, count, name, rtype, class))
 }
 
 // Puts a record, its rdata given with names expanded, behind the packet `out[..at]`; every name in it is cut, or with `whole` every name but the target
 // of an SRV. Where it is not put every byte is kept.
+#[tactic(auto, using(crate::proofs::Fitting::fit_short))]
 pub fn put_record(
     out: &mut [u8],
     at: usize,
@@ -407,14 +365,14 @@ pub fn put_record(
     class: u16,
     ttl: u32,
     d: &[u8],
-) -> Placed
+) -> Result<Spot, Misfit>
     ensures { Placing (fit_record owner.now rtype ttl d.now)
         (record_fits (room_in out.old places.old at count) owner.now rtype d.now)
         (put_record whole (held_in out.old places.old at count) (record_of owner.now rtype class ttl d.now))
         out.old places.old result out.new places.new }
 {
     if !fit_record(owner, rtype, ttl, d) {
-        return Placed::Unfit;
+        return Err(Misfit::Unfit);
     }
     let room = Room {
         at,
@@ -423,7 +381,7 @@ pub fn put_record(
         slots: places.len(),
     };
     if !record_fits(room, owner, rtype, d) {
-        return Placed::Full;
+        return Err(Misfit::Full);
     }
-    Placed::Done(write_record(out, at, places, count, whole, owner, rtype, class, ttl, d))
+    Ok(write_record(out, at, places, count, whole, owner, rtype, class, ttl, d))
 }

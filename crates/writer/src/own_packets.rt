@@ -14,7 +14,7 @@ ghost use Rattle.writer.specs.own_packets.Own.{refusal_of, length_of, response_r
 ghost use Rattle.writer.specs.own_packets.Own.{refusal, unless_refused, written_of, laid_over};
 ghost use Rattle.writer.specs.own_packets.Goodbye.{goodbye_style, goodbye_packet};
 
-use crate::{Placed, Spot};
+use crate::{Misfit, Spot};
 use claims::records::{Claim, Own, RECORDS, Set};
 use own::records::Setup;
 
@@ -34,15 +34,9 @@ const PROBE_CLASS: u16 = 0x8001;
 // The TTL of records in a reply to a plain resolver.
 const PLAIN_TTL: u32 = 10;
 
-// Which TTL records are written with: each its own, or one for all.
-#[derive(Clone, Copy)]
-pub enum TtlRule {
-    Each,
-    Fixed(u32),
-}
-
 // How a packet of own records is written: its header, whether a question stands in front and of which type and class, the section of the records
-// (Authority, else Answers), their TTLs, whether those that are not shared have the class's top bit, and whether the target of the SRV is written whole.
+// (Authority, else Answers), the TTL of all of them (none: each has its own), whether those that are not shared have the class's top bit, and whether the
+// target of the SRV is written whole.
 #[derive(Clone, Copy)]
 pub struct Style {
     pub id: u16,
@@ -51,7 +45,7 @@ pub struct Style {
     pub qtype: u16,
     pub qclass: u16,
     pub authority: bool,
-    pub ttl: TtlRule,
+    pub ttl: Option<u32>,
     pub flush: bool,
     pub whole: bool,
 }
@@ -82,7 +76,7 @@ fn response_style(id: u16) -> Style
         qtype: 0,
         qclass: 0,
         authority: false,
-        ttl: TtlRule::Each,
+        ttl: None,
         flush: true,
         whole: false,
     }
@@ -99,7 +93,7 @@ fn probe_style() -> Style
         qtype: 255,
         qclass: PROBE_CLASS,
         authority: true,
-        ttl: TtlRule::Each,
+        ttl: None,
         flush: false,
         whole: false,
     }
@@ -116,7 +110,7 @@ fn plain_style(id: u16, qtype: u16, qclass: u16) -> Style
         qtype,
         qclass,
         authority: false,
-        ttl: TtlRule::Fixed(PLAIN_TTL),
+        ttl: Some(PLAIN_TTL),
         flush: false,
         whole: true,
     }
@@ -126,10 +120,7 @@ fn plain_style(id: u16, qtype: u16, qclass: u16) -> Style
 fn either(first: bool, a: usize, b: usize) -> usize
     ensures { result ≡ cond first a b }
 {
-    if first {
-        return a;
-    }
-    b
+    if first { a } else { b }
 }
 
 // Writes a header; there are no additional records.
@@ -152,15 +143,11 @@ fn put_header(
     crate::put_u16(out, 10, 0);
 }
 
-// Where the packet ends after `writer` was to put something behind it. What is own is fit and has room, so that only `Done` is ever answered here.
-fn spot_after(placed: Placed, at: usize, count: usize) -> Spot
+// Where the packet ends after `writer` was to put something behind it. What is own is fit and has room, so that only `Ok` is ever answered here.
+fn spot_after(placed: Result<Spot, Misfit>, at: usize, count: usize) -> Spot
     ensures { result ≡ spot_after placed at count }
 {
-    match placed {
-        Placed::Done(spot) => spot,
-        Placed::Full => Spot { end: at, count },
-        Placed::Unfit => Spot { end: at, count },
-    }
+    placed.unwrap_or(Spot { end: at, count })
 }
 
 // The class of an own record.
@@ -168,19 +155,17 @@ fn class_in(style: Style, o: Own) -> u16
     ensures { result ≡ class_in style o }
 {
     if style.flush {
-        return claims::records::own_class(o);
+        claims::records::own_class(o)
+    } else {
+        1
     }
-    1
 }
 
 // The TTL of an own record.
-fn ttl_in(rule: TtlRule, o: Own) -> u32
+fn ttl_in(rule: Option<u32>, o: Own) -> u32
     ensures { result ≡ ttl_in rule o }
 {
-    match rule {
-        TtlRule::Each => claims::records::own_ttl(o),
-        TtlRule::Fixed(ttl) => ttl,
-    }
+    rule.unwrap_or(claims::records::own_ttl(o))
 }
 
 // Writes an own record behind the packet `out[..at]`.
@@ -198,25 +183,18 @@ fn write_own(
         out.old places.old result out.new places.new }
 {
     let owner = own::records::own_name(s, o);
-    let name = owner.bytes;
-    let len = owner.len;
     let own = own::records::own_rdata(s, o);
-    let d = own.bytes;
-    let n = own.len;
-    let class = class_in(style, o);
-    let rule = style.ttl;
-    let ttl = ttl_in(rule, o);
     let placed = crate::put_record(
         out,
         at,
         places,
         count,
         style.whole,
-        &name[..len],
+        &owner.bytes[..owner.len],
         claims::records::own_type(o),
-        class,
-        ttl,
-        &d[..n],
+        class_in(style, o),
+        ttl_in(style.ttl, o),
+        &own.bytes[..own.len],
     );
     spot_after(placed, at, count)
 }
@@ -227,20 +205,12 @@ fn pick(s: Setup, chosen: Set) -> Picked
 {
     let mut order = [0usize; RECORDS];
     let mut n = 0;
-    let mut i = 0;
-    while i < RECORDS {
+    for i in 0..RECORDS {
         let o = claims::records::record_at(i);
-        if !claims::records::is_in(o, chosen) {
-            i += 1;
-            continue;
+        if claims::records::is_in(o, chosen) && own::records::has_record(s, o) {
+            order[n] = i;
+            n += 1;
         }
-        if !own::records::has_record(s, o) {
-            i += 1;
-            continue;
-        }
-        order[n] = i;
-        n += 1;
-        i += 1;
     }
     Picked { order, n }
 }
@@ -249,17 +219,14 @@ fn pick(s: Setup, chosen: Set) -> Picked
 fn pick_claim(s: Setup, claim: Claim) -> Picked
     ensures { Picks (probe_records s claim) result }
 {
-    let first = claims::records::first_of(claim);
     let second = claims::records::second_of(claim);
-    let i = claims::records::index_of(first);
-    let j = claims::records::index_of(second);
     let mut order = [0usize; RECORDS];
-    order[0] = i;
-    if own::records::has_record(s, second) {
-        order[1] = j;
-        return Picked { order, n: 2 };
+    order[0] = claims::records::index_of(claims::records::first_of(claim));
+    if !own::records::has_record(s, second) {
+        return Picked { order, n: 1 };
     }
-    Picked { order, n: 1 }
+    order[1] = claims::records::index_of(second);
+    Picked { order, n: 2 }
 }
 
 // Writes own records one after the other behind the packet `out[..at]`.
@@ -278,17 +245,13 @@ fn write_list(
         (put_all (put_record style.whole) (held_in out.old places.old at count) (map (own_record s style) (listed list)))
         out.old places.old result out.new places.new }
 {
-    let order = list.order;
-    let n = list.n;
     let mut end = at;
     let mut noted = count;
-    let mut j = 0;
-    while j < n {
-        let o = claims::records::record_at(order[j]);
+    for &i in &list.order[..list.n] {
+        let o = claims::records::record_at(i);
         let r = write_own(s, o, style, out, end, places, noted);
         end = r.end;
         noted = r.count;
-        j += 1;
     }
     Spot { end, count: noted }
 }
@@ -366,9 +329,7 @@ pub fn probe(s: Setup, claim: Claim, out: &mut [u8]) -> Written
     }
     let list = pick_claim(s, claim);
     let owner = own::records::own_name(s, claims::records::first_of(claim));
-    let name = owner.bytes;
-    let len = owner.len;
-    Written::Sent(write_packet(s, probe_style(), &name[..len], list, out))
+    Written::Sent(write_packet(s, probe_style(), &owner.bytes[..owner.len], list, out))
 }
 
 // Writes a reply to the question of a plain resolver, with the ID of its query: the chosen ones of the own records that carry data and that the set-up has.
@@ -417,7 +378,7 @@ fn goodbye_style() -> Style
         qtype: 0,
         qclass: 0,
         authority: false,
-        ttl: TtlRule::Fixed(0),
+        ttl: Some(0),
         flush: true,
         whole: false,
     }

@@ -1,4 +1,5 @@
 -- A table an entry at a time, for the loops over it: `lowest`, `each` and `some` from slot i on. Assumes nothing.
+use Rattle.std.proofs.Common.{None, Some}
 use mathlib.Core.Path.{◌≡◌, refl, sym, ap, ◌∙◌}
 use mathlib.Core.List.{List, [], ◌∷◌, ◌++◌, append_assoc, append-nil}
 use mathlib.Core.Bool.{Bool, true, false, cond}
@@ -13,7 +14,6 @@ use Rattle.cache.proofs.entries.Single.{match_before}
 use Rattle.wire.specs.Lists.{some}
 use Rattle.cache.specs.entries.Tables.{lowest, each}
 use Rattle.cache.specs.declared.entries.Entry.{Entry}
-use Rattle.cache.specs.declared.entries.Slot.TheVariants.{At, Nowhere}
 
 -- the first of the entries from slot i on
 pub at_slot : (es : List Entry) (i : ℕ) → i < length es → drop i es ≡ get_or es i blank ∷ drop (i + 1) es
@@ -21,7 +21,7 @@ at_slot es i h = drop-cons es i blank h ∙ ap (λ (k : ℕ). get_or es i blank 
 
 -- a search, of which the slots below i are done
 module _ (test : ℕ → Entry → Bool) (es : List Entry) (i : ℕ) (inv : lowest test 0 es ≡ lowest test i (drop i es)) where
-  pub lowest-here : i < length es → test i (get_or es i blank) ≡ true → At i ≡ lowest test 0 es
+  pub lowest-here : i < length es → test i (get_or es i blank) ≡ true → Some i ≡ lowest test 0 es
   unfolding lowest
   lowest-here h t = sym (inv ∙ rw (at_slot es i h) (simp t))
 
@@ -29,7 +29,7 @@ module _ (test : ℕ → Entry → Bool) (es : List Entry) (i : ℕ) (inv : lowe
   unfolding lowest
   lowest-on h t = inv ∙ rw (at_slot es i h) (simp t (ap (λ (k : ℕ). lowest test k (drop (i + 1) es)) (sym (add-one i))))
 
-  pub lowest-end : length es ≤ i → Nowhere ≡ lowest test 0 es
+  pub lowest-end : length es ≤ i → None ≡ lowest test 0 es
   unfolding lowest
   lowest-end h = sym (inv ∙ rw (drop_of_length-le es h))
 
@@ -65,13 +65,13 @@ module _ (rule : ℕ → Entry → Entry) (es t : List Entry) (i : ℕ) (inv : e
   each-end h = sym (inv ∙ rw (drop_of_length-le t h, take_all i t h) (append-nil t))
 
 -- what a search that found a slot says: the slot is one of the table, and its entry passes the test
-found_from : (test : ℕ → Entry → Bool) (k : ℕ) (es : List Entry) (i : ℕ) → lowest test k es ≡ At i → (j : ℕ) × ((i ≡ k + j) × ((j < length es) × (test i (get_or es j blank) ≡ true)))
+found_from : (test : ℕ → Entry → Bool) (k : ℕ) (es : List Entry) (i : ℕ) → lowest test k es ≡ Some i → (j : ℕ) × ((i ≡ k + j) × ((j < length es) × (test i (get_or es j blank) ≡ true)))
 unfolding lowest
 found_from test k [] i h = let z : ◌≡◌ {A = ℕ} 0 1 = cc in absurd (omega arith)
 found_from test k (e ∷ es) i h = go (test k e) refl h (found_from test (suc k) es i)
   where
-    go : (b : Bool) → test k e ≡ b → cond b (At k) (lowest test (suc k) es) ≡ At i
-        → (lowest test (suc k) es ≡ At i → (j : ℕ) × ((i ≡ suc k + j) × ((j < length es) × (test i (get_or es j blank) ≡ true))))
+    go : (b : Bool) → test k e ≡ b → cond b (Some k) (lowest test (suc k) es) ≡ Some i
+        → (lowest test (suc k) es ≡ Some i → (j : ℕ) × ((i ≡ suc k + j) × ((j < length es) × (test i (get_or es j blank) ≡ true))))
         → (j : ℕ) × ((i ≡ k + j) × ((j < suc (length es)) × (test i (get_or (e ∷ es) j blank) ≡ true)))
     go true t g ih =
         let same : k ≡ i = cc in
@@ -80,7 +80,7 @@ found_from test k (e ∷ es) i h = go (test k e) refl h (found_from test (suc k)
         let d = ih g in
         (suc d.0, (omega (arith, d.1.0), (omega (arith, d.1.1.0), d.1.1.1)))
 
-pub found_at : (test : ℕ → Entry → Bool) (es : List Entry) (i : ℕ) → lowest test 0 es ≡ At i → (i < length es) × (test i (get_or es i blank) ≡ true)
+pub found_at : (test : ℕ → Entry → Bool) (es : List Entry) (i : ℕ) → lowest test 0 es ≡ Some i → (i < length es) × (test i (get_or es i blank) ≡ true)
 found_at test es i h =
     let d = found_from test 0 es i h in
     let same : d.0 ≡ i = omega (arith, d.1.0) in

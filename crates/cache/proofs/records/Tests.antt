@@ -13,7 +13,8 @@ use Rattle.cache.specs.entries.Entries.{slot_of, owner_held, rdata_held, is_live
 use Rattle.cache.specs.entries.Cache.{cached_as}
 use Rattle.cache.specs.declared.entries.Entry.{Entry}
 use Rattle.cache.specs.declared.records.Heard.{Heard}
-use Rattle.cache.specs.records.Heard.{is_taken, is_flushing, is_sought, owner_in, rdata_in, is_alike, may_hold, has_bytes, is_of_heard, live_heard, holds_heard, flushed_heard, first_slot, is_filling, change, chosen_of}
+use Rattle.cache.specs.declared.records.Choice.TheVariants.{Leave, Expire, Refresh, Fill, TurnAway, PassOver}
+use Rattle.cache.specs.records.Heard.{is_taken, is_flushing, is_sought, owner_in, rdata_in, is_alike, may_hold, has_bytes, is_of_heard, live_heard, holds_heard, flushed_heard, first_slot, is_filling, chosen_of}
 
 module _ (h : Heard) where
   pub taken_not : h.whole ≡ false → false ≡ is_taken h
@@ -46,34 +47,34 @@ module _ (h : Heard) where
   sought_is l b is = is ∙ sym (simp (le-leb _ _ l))
 
   module _ (n equal free : ℕ) where
-    pub chosen_none : is_taken h ≡ false → change 0 0 ≡ chosen_of h n equal free
+    pub chosen_none : is_taken h ≡ false → Leave ≡ chosen_of h n equal free
     unfolding chosen_of
     chosen_none k = sym (simp k)
 
     module _ (t : is_taken h ≡ true) where
-      pub chosen_over : 768 < h.len → change 5 0 ≡ chosen_of h n equal free
+      pub chosen_over : 768 < h.len → PassOver ≡ chosen_of h n equal free
       unfolding chosen_of
       chosen_over l = sym (simp (t, lt-ltb _ _ l))
 
       module _ (l : h.len ≤ 768) where
-        pub chosen_end : equal < n → h.at.ttl ≡ 0 → change 1 equal ≡ chosen_of h n equal free
+        pub chosen_end : equal < n → h.at.ttl ≡ 0 → Expire equal ≡ chosen_of h n equal free
         unfolding chosen_of
         chosen_end k z = sym (simp (t, le-ltb _ _ l, lt-ltb _ _ k, eq-eqb _ _ z))
 
-        pub chosen_more : equal < n → (h.at.ttl ≡ 0 → ⊥) → change 2 equal ≡ chosen_of h n equal free
+        pub chosen_more : equal < n → (h.at.ttl ≡ 0 → ⊥) → Refresh equal ≡ chosen_of h n equal free
         unfolding chosen_of
         chosen_more k z = sym (simp (t, le-ltb _ _ l, lt-ltb _ _ k, ne_eqb _ _ z))
 
         module _ (k : n ≤ equal) where
-          pub chosen_gone : h.at.ttl ≡ 0 → change 0 0 ≡ chosen_of h n equal free
+          pub chosen_gone : h.at.ttl ≡ 0 → Leave ≡ chosen_of h n equal free
           unfolding chosen_of
           chosen_gone z = sym (simp (t, le-ltb _ _ l, le-ltb _ _ k, eq-eqb _ _ z))
 
-          pub chosen_fill : (h.at.ttl ≡ 0 → ⊥) → free < n → change 3 free ≡ chosen_of h n equal free
+          pub chosen_fill : (h.at.ttl ≡ 0 → ⊥) → free < n → Fill free ≡ chosen_of h n equal free
           unfolding chosen_of
           chosen_fill z m = sym (simp (t, le-ltb _ _ l, le-ltb _ _ k, ne_eqb _ _ z, lt-ltb _ _ m))
 
-          pub chosen_away : (h.at.ttl ≡ 0 → ⊥) → n ≤ free → change 4 0 ≡ chosen_of h n equal free
+          pub chosen_away : (h.at.ttl ≡ 0 → ⊥) → n ≤ free → TurnAway ≡ chosen_of h n equal free
           unfolding chosen_of
           chosen_away z m = sym (simp (t, le-ltb _ _ l, le-ltb _ _ k, ne_eqb _ _ z, le-ltb _ _ m))
 

@@ -1,4 +1,5 @@
 -- Of a record that is whole, what the code finds of an entry is what the rules say of the record that it shows. Assumes nothing.
+use Rattle.std.proofs.Common.{None, Some}
 use mathlib.Core.Path.{◌≡◌, ap, ap₂}
 use mathlib.Core.List.{List}
 use mathlib.Core.Bool.{Bool, true, ◌&&◌}
@@ -10,7 +11,6 @@ use Rattle.wire.specs.expansion.Equal.{same_bytes}
 use Rattle.wire.specs.message.Message.{Record}
 use Rattle.wire.specs.message.Readable.{record_shown}
 use Rattle.wire.specs.declared.message.RecordAt.{RecordAt}
-use Rattle.wire.specs.declared.message.RecordRead.TheVariants as r
 use Rattle.wire.proofs.message.Walk.{RecordMet}
 use Rattle.cache.specs.entries.Entries.{owner_held, rdata_held, is_live, is_of, live_of, holds}
 use Rattle.cache.specs.declared.entries.Entry.{Entry}
@@ -25,7 +25,7 @@ module _ (p : List ℕ) (at : ℕ) (f : RecordAt) (met : RecordMet p at f) where
   shown = record_shown p f
 
   abbrev h : Heard
-  h = heard_of p (r.Found f)
+  h = heard_of p (Some f)
 
   module _ (slot : List ℕ) (shows : Shows p h slot) (taken : is_taken h ≡ true) where
     pub slot-fits : h.len ≤ 768 → slot_with (owner_in slot h) (rdata_in slot h) ≡ slot_for shown

@@ -1,4 +1,5 @@
 -- A slot that a record was heard into shows it. Assumes nothing.
+use Rattle.std.proofs.Common.{None, Option, Some}
 use mathlib.Core.Path.{◌≡◌, refl, sym, ap, ap₂, ◌∙◌}
 use mathlib.Core.List.{List, ◌++◌, append_assoc}
 use mathlib.Core.Bool.{Bool, true, false, cond}
@@ -21,8 +22,6 @@ use Rattle.wire.specs.declared.rdata.Form.{Form}
 use Rattle.wire.specs.message.Layout.{record_read}
 use Rattle.wire.specs.message.Readable.{whole_from, whole_read, record_shown}
 use Rattle.wire.specs.declared.message.RecordAt.{RecordAt}
-use Rattle.wire.specs.declared.message.RecordRead.{RecordRead}
-use Rattle.wire.specs.declared.message.RecordRead.TheVariants as r
 use Rattle.wire.proofs.message.Walk.{RecordMet, record_found}
 use Rattle.cache.specs.declared.records.Heard.{Heard}
 use Rattle.cache.specs.records.Heard.{heard_of, heard_at, is_taken}
@@ -165,9 +164,9 @@ module _ (p : List ℕ) (at : ℕ) (slot : List ℕ) where
   unfolding heard_in
   heard-length = go (record_read p at)
     where
-      go : (y : RecordRead) → length (record_over p y (owner_over (name_at p at) slot)) ≡ length slot
-      go (r.Found f) = rdata-length p f (owner_over (name_at p at) slot) ∙ owner_length (name_at p at) slot
-      go r.Malformed = owner_length (name_at p at) slot
+      go : (y : Option RecordAt) → length (record_over p y (owner_over (name_at p at) slot)) ≡ length slot
+      go (Some f) = rdata-length p f (owner_over (name_at p at) slot) ∙ owner_length (name_at p at) slot
+      go None = owner_length (name_at p at) slot
 
   -- what is not taken need not be shown
   not-shown : (h : Heard) (s : List ℕ) → is_taken h ≡ false → Shows p h s
@@ -180,10 +179,10 @@ module _ (p : List ℕ) (at : ℕ) (slot : List ℕ) where
   unfolding heard_at heard_in whole_read
   heard-shows size = go (record_read p at) refl
     where
-      found : (f : RecordAt) → record_read p at ≡ r.Found f → fits (rdata_at p f) ≡ true → Shows p (heard_of p (r.Found f)) (rdata_over p f (owner_over (name_at p at) slot))
+      found : (f : RecordAt) → record_read p at ≡ Some f → fits (rdata_at p f) ≡ true → Shows p (heard_of p (Some f)) (rdata_over p f (owner_over (name_at p at) slot))
       found f e fit =
-          let whole : ◌≡◌ {A = RecordRead} (r.Found f) (whole_from p (record_read p at)) = sym (ap (λ (b : Bool). cond b (r.Found f) r.Malformed) fit) ∙ ap (whole_from p) (sym e) in
-          let met : RecordMet p at f = record_found p at (r.Found f) whole f refl in
+          let whole : ◌≡◌ {A = Option RecordAt} (Some f) (whole_from p (record_read p at)) = sym (ap (λ (b : Bool). cond b (Some f) None) fit) ∙ ap (whole_from p) (sym e) in
+          let met : RecordMet p at f = record_found p at (Some f) whole f refl in
           let there : name_at p at ≡ name (record_shown p f).owner met.end = ap (name_at p) (sym met.place) ∙ met.owner in
           let short = at_most-255 p f.owner (record_shown p f).owner met.end met.owner in
           let laid : owner_over (name_at p at) slot ≡ sets slot 0 (record_shown p f).owner = ap (λ (x : Reading). owner_over x slot) there in
@@ -195,10 +194,10 @@ module _ (p : List ℕ) (at : ℕ) (slot : List ℕ) where
                 ∙ read_back (owner_over (name_at p at) slot) 256 (data_of (rdata_at p f)) (omega (arith, l, long));
           }
 
-      by-fit : (f : RecordAt) → record_read p at ≡ r.Found f → (b : Bool) → fits (rdata_at p f) ≡ b → Shows p (heard_of p (cond b (r.Found f) r.Malformed)) (rdata_over p f (owner_over (name_at p at) slot))
+      by-fit : (f : RecordAt) → record_read p at ≡ Some f → (b : Bool) → fits (rdata_at p f) ≡ b → Shows p (heard_of p (cond b (Some f) None)) (rdata_over p f (owner_over (name_at p at) slot))
       by-fit f e true k = found f e k
-      by-fit f e false k = not-shown (heard_of p r.Malformed) _ (not-whole (heard_of p r.Malformed) refl)
+      by-fit f e false k = not-shown (heard_of p None) _ (not-whole (heard_of p None) refl)
 
-      go : (y : RecordRead) → record_read p at ≡ y → Shows p (heard_of p (whole_from p y)) (record_over p y (owner_over (name_at p at) slot))
-      go (r.Found f) e = by-fit f e (fits (rdata_at p f)) refl
-      go r.Malformed e = not-shown (heard_of p r.Malformed) _ (not-whole (heard_of p r.Malformed) refl)
+      go : (y : Option RecordAt) → record_read p at ≡ y → Shows p (heard_of p (whole_from p y)) (record_over p y (owner_over (name_at p at) slot))
+      go (Some f) e = by-fit f e (fits (rdata_at p f)) refl
+      go None e = not-shown (heard_of p None) _ (not-whole (heard_of p None) refl)

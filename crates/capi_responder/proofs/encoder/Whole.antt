@@ -48,11 +48,3 @@ module _ (b setup : List ℕ) where
       let u : eqb (length setup) setup_size ≡ true = eq-eqb _ setup_size f in
       let k : setup_size ≤ length b = omega arith in
       simp (t, u) (laid-front setup_size b setup out f k l)
-
-  pub setup_kept : eqb (length b) state_size ≡ false → b ≡ with_setup b setup
-  unfolding with_setup
-  setup_kept t = simp t
-
-  pub setup_kept' : eqb (length b) state_size ≡ true → eqb (length setup) setup_size ≡ false → b ≡ with_setup b setup
-  unfolding with_setup
-  setup_kept' t u = simp (t, u)

@@ -7,7 +7,7 @@ use Prim.Native.Nat.{ℕ, zero, suc, ◌+◌, ◌*◌, ◌-◌, ◌<◌, ◌≤�
 use native.Mathlib.Omega.{arith}
 use borrow.Author.Tests.{eqb-true, eqb-false, eq-eqb, ne_eqb}
 use lib.Dec.{eqb}
-use lib.ListN.{length, drop, get_or}
+use lib.ListN.{length, take, drop, get_or}
 use lib.Seq.{drop_at, drop-drop}
 use Rattle.claims.specs.Time.{last_kept}
 use Rattle.claims.proofs.records.Searched.{rest}
@@ -64,26 +64,40 @@ numbers-clear b (suc n) at h =
     ∙ zero-bytes (d 0) (d 1) (d 2) (d 3) (d 4) (d 5) (d 6) (d 7) (eightfold n) (drop (at + 8) b)
     ∙ ap (clear (eightfold (suc n))) (sym (spelled b at k))
 
--- the loop over the bytes of the places
+-- only so many bytes count
+clear_front : (n : ℕ) (l : List ℕ) → clear n l ≡ clear n (take n l)
+unfolding clear
+clear_front zero l = refl
+clear_front (suc n) [] = refl
+clear_front (suc n) (x ∷ l) = ap (λ (v : Bool). eqb x 0 && v) (clear_front n l)
+
+-- the loop over the bytes of the places, and the four of the draw
 module _ (b : List ℕ) where
-  pub clear_begin : length b ≡ layout.state_size → none_held b ≡ clear 160 (drop layout.holds b)
+  abbrev pub places : List ℕ
+  places = take 160 (drop layout.holds b)
+
+  -- nothing before `i` decides but what `p` says
+  abbrev pub Clear : ℕ → Bool → Type 0
+  Clear i p = none_held b ≡ (p && clear (160 - i) (drop i places))
+
+  pub clear_begin : length b ≡ layout.state_size → Clear 0 true
   unfolding none_held eightfold
-  clear_begin h = numbers-clear b 20 layout.holds (omega arith)
+  clear_begin h = numbers-clear b 20 layout.holds (omega arith) ∙ clear_front 160 (drop layout.holds b)
 
-  module _ (i : ℕ) (h : i < 838) (k : i < length b) (p : Bool) (inv : none_held b ≡ (p && clear (838 - i) (drop i b))) where
-    clear_turn : none_held b ≡ (p && (eqb (get_or b i 0) 0 && clear (838 - (i + 1)) (drop (i + 1) b)))
+  module _ (i : ℕ) (h : i < 160) (k : i < length places) (p : Bool) (inv : Clear i p) where
+    clear_turn : none_held b ≡ (p && (eqb (get_or places i 0) 0 && clear (160 - (i + 1)) (drop (i + 1) places)))
     unfolding clear
-    clear_turn = let e : 838 - i ≡ suc (838 - (i + 1)) = omega arith in inv ∙ rw (rest b i 0 k, e)
+    clear_turn = let e : 160 - i ≡ suc (160 - (i + 1)) = omega arith in inv ∙ rw (rest places i 0 k, e)
 
-    pub clear_on : get_or b i 0 ≡ 0 → (w : Bool) → w ≡ p → none_held b ≡ (w && clear (838 - (i + 1)) (drop (i + 1) b))
+    pub clear_on : get_or places i 0 ≡ 0 → (w : Bool) → w ≡ p → Clear (i + 1) w
     clear_on z w e = clear_turn ∙ simp (eq-eqb _ 0 z, e)
 
-    pub clear_lost : (get_or b i 0 ≡ 0 → ⊥) → (w : Bool) → w ≡ false → none_held b ≡ (w && clear (838 - (i + 1)) (drop (i + 1) b))
+    pub clear_lost : (get_or places i 0 ≡ 0 → ⊥) → (w : Bool) → w ≡ false → Clear (i + 1) w
     clear_lost z w e = clear_turn ∙ simp (ne_eqb _ 0 z, e, and-false)
 
-  pub clear_end : (i : ℕ) (p : Bool) → 838 ≤ i → none_held b ≡ (p && clear (838 - i) (drop i b)) → p ≡ none_held b
+  pub clear_end : (i : ℕ) (p : Bool) → 160 ≤ i → Clear i p → p ≡ none_held b
   unfolding clear
-  clear_end i p h inv = let e : 838 - i ≡ 0 = omega arith in sym (inv ∙ rw e (and-true p))
+  clear_end i p h inv = let e : 160 - i ≡ 0 = omega arith in sym (inv ∙ rw e (and-true p))
 
 -- the bytes of so many zeros
 eights : ℕ → List ℕ

@@ -9,6 +9,6 @@ pub returns-then-room-eq-STATE_SIZE : goal.returns-then-room-eq-STATE_SIZE
 unfolding setup_for
 returns-then-room-eq-STATE_SIZE c = let e : _ = eq-eqb _ state_size c.if-room-eq-STATE_SIZE.true in simp e c.read_setup.ensures
 
-pub returns : goal.returns
+pub returns-else-room-eq-STATE_SIZE : goal.returns-else-room-eq-STATE_SIZE
 unfolding setup_for
-returns c = let e : _ = ne_eqb _ state_size c.if-room-eq-STATE_SIZE.false in simp e (ap (λ (s : State). s.setup) c.blank_state-blank.ensures)
+returns-else-room-eq-STATE_SIZE c = let e : _ = ne_eqb _ state_size c.if-room-eq-STATE_SIZE.false in simp e (ap (λ (s : State). s.setup) c.blank_state.ensures)

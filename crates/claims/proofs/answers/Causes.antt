@@ -1,5 +1,6 @@
 -- A record that is due to a query goes out, or is left out for a cause of the specification, and never both; a record that is not due never goes out. A query may
 -- be judged at once or when it was held. Of PTR the same decides whether a reply is set. Assumes nothing.
+use Rattle.std.specs.Prelude.{Some, None}
 use Prim.Native.Nat.{ℕ}
 use mathlib.Core.Path.{◌≡◌, refl, ◌∙◌}
 use mathlib.Core.Logic.{◌⊎◌, inl, inr}
@@ -11,7 +12,6 @@ use Rattle.claims.specs.Time.{after_ms, recently, sent_of, marked, marked_all}
 use Rattle.claims.specs.Claims.{held_now, claim_of}
 use Rattle.claims.specs.declared.records.Own.{Own}
 use Rattle.claims.specs.declared.records.Own.TheVariants.{Ptr}
-use Rattle.claims.specs.declared.When.TheVariants.{Never, At}
 use Rattle.claims.specs.declared.Progress.{Progress}
 use Rattle.claims.specs.answers.Answers.{gap_for, is_due, is_omitted, is_wanted, wanted_of, multicast_asks, judged_of}
 use Rattle.claims.specs.answers.Held.{to_hold, held_back, receive_of}
@@ -130,21 +130,21 @@ module _ (progress : Progress) (c : Coming) (f : Facts) (aaaa : Bool) where
   sent_then r = sent_each (λ o. marked (has o (judged_of progress c f aaaa).answers) (sent_of o progress.sent) c.now) r
 
   -- A PTR reply that is set stays as it is.
-  pub reply-stays : (at : ℕ) → progress.reply ≡ At at → (judged_of progress c f aaaa).progress.reply ≡ At at
+  pub reply-stays : (at : ℕ) → progress.reply ≡ Some at → (judged_of progress c f aaaa).progress.reply ≡ Some at
   unfolding judged_of
   reply-stays at e = rw e
 
   -- Where none is set, one is set at now plus the draw for a PTR that is due and has no cause; else none.
   pub reply-set :
-      progress.reply ≡ Never
+      progress.reply ≡ None
       → IsDue progress c.now (multicast_asks progress f c.now) aaaa Ptr
       → (Cause progress c.now (multicast_asks progress f c.now) aaaa Ptr → ⊥)
-      → (judged_of progress c f aaaa).progress.reply ≡ At (after_ms c.now c.draw)
+      → (judged_of progress c f aaaa).progress.reply ≡ Some (after_ms c.now c.draw)
   unfolding judged_of
   reply-set e d n = simp (e, goes_out progress c.now (multicast_asks progress f c.now) aaaa Ptr d n)
 
   pub reply-unset :
-      progress.reply ≡ Never → has Ptr (wanted_of progress (multicast_asks progress f c.now) c.now aaaa) ≡ false → (judged_of progress c f aaaa).progress.reply ≡ Never
+      progress.reply ≡ None → has Ptr (wanted_of progress (multicast_asks progress f c.now) c.now aaaa) ≡ false → (judged_of progress c f aaaa).progress.reply ≡ None
   unfolding judged_of
   reply-unset e h = simp (e, h)
 

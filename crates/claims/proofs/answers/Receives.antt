@@ -1,5 +1,6 @@
 -- Of any packet received, and of a query from another port: the start draw stays, and the time is the call's; a lost claim stays lost; the times kept stay within bounds; and a claim that
 -- is clear to probe from a time on stays so. Assumes nothing.
+use Rattle.std.specs.Prelude.{Option, Some, None}
 use Prim.Native.Nat.{ℕ, ◌+◌, ◌≤◌}
 use mathlib.Core.Path.{◌≡◌, refl, sym, ap, ◌∙◌}
 use mathlib.Core.Bool.{Bool, true, false, cond, not, ◌&&◌}
@@ -22,8 +23,6 @@ use Rattle.claims.specs.declared.records.Own.{Own}
 use Rattle.claims.specs.declared.records.Own.TheVariants.{Ptr}
 use Rattle.claims.proofs.records.Sets.{has-each, sent_each}
 use Rattle.claims.specs.declared.holds.Holds.{Holds}
-use Rattle.claims.specs.declared.When.{When}
-use Rattle.claims.specs.declared.When.TheVariants.{Never, At}
 use Rattle.claims.specs.declared.Progress.{Progress}
 use Rattle.claims.specs.holds.Holds.{no_holds, held_of, some_from, some_free, knowing_all, once_per_address}
 use Rattle.claims.proofs.holds.Lists.{once_queued, once_known}
@@ -193,10 +192,10 @@ module _ (c : Coming) (f : Facts) (aaaa : Bool) where
         (conflict_kept most x (after_ms c.now start) e (soon start (omega arith)))
         (probe-kept most x (after_ms c.now 1000) e (soon 1000 (omega arith)))
 
-    reply-kept : (asks : Bool) (r : When) → at_most most r ≡ true → at_most most (set_reply asks r (after_ms c.now c.draw)) ≡ true
-    reply-kept true Never e = soon c.draw (omega arith)
-    reply-kept false Never e = refl
-    reply-kept asks (At due) e = e
+    reply-kept : (asks : Bool) (r : Option ℕ) → at_most most r ≡ true → at_most most (set_reply asks r (after_ms c.now c.draw)) ≡ true
+    reply-kept true None e = soon c.draw (omega arith)
+    reply-kept false None e = refl
+    reply-kept asks (Some due) e = e
 
     joined-kept : (holds : Holds) → holds_kept most holds ≡ true → holds_kept most (joined holds c f) ≡ true
     unfolding joined

@@ -1,4 +1,5 @@
 -- Less than a gap ago is before a time plus the gap; a time ahead is 0 ms ago. Assumes nothing.
+use Rattle.std.specs.Prelude.{Option, Some, None}
 use Prim.Native.Nat.{ℕ, ◌+◌, ◌-◌, ◌<◌, ◌≤◌}
 use mathlib.Core.Path.{◌≡◌, refl, ◌∙◌}
 use mathlib.Core.Bool.{Bool, true, false}
@@ -8,12 +9,10 @@ use borrow.Author.Tests.{lt-ltb, le-ltb, ltb-true, ltb-false}
 use Rattle.claims.specs.Time.{recently}
 use Rattle.claims.specs.changes.Changes.{within, update_gap, too_soon}
 use Rattle.claims.specs.declared.Progress.{Progress}
-use Rattle.claims.specs.declared.When.{When}
-use Rattle.claims.specs.declared.When.TheVariants.{Never, At}
 
-pub recent_soon : (gap : ℕ) (w : When) (now : ℕ) → 0 < gap → recently w now gap ≡ within gap w now
-recent_soon gap Never now g = refl
-recent_soon gap (At time) now g = go (ltb now (time + gap)) refl
+pub recent_soon : (gap : ℕ) (w : Option ℕ) (now : ℕ) → 0 < gap → recently w now gap ≡ within gap w now
+recent_soon gap None now g = refl
+recent_soon gap (Some time) now g = go (ltb now (time + gap)) refl
   where
     go : (b : Bool) → ltb now (time + gap) ≡ b → ltb (now - time) gap ≡ b
     go true e = let l : now < time + gap = ltb-true now (time + gap) e in lt-ltb (now - time) gap (omega arith)

@@ -1,5 +1,6 @@
 -- What an update does: a claim that is held announces the record and its second step falls due anew, any other that is not lost starts anew; the held queries
 -- forget the record; and the times kept stay within bounds. And no call but an update changes the time of the last one. Assumes nothing.
+use Rattle.std.specs.Prelude.{Some}
 use Prim.Native.Nat.{ℕ, ◌≤◌}
 use mathlib.Core.Path.{◌≡◌, refl, sym, ap, ◌∙◌}
 use mathlib.Core.Bool.{Bool, true, false, cond, not, ◌&&◌}
@@ -15,7 +16,6 @@ use Rattle.claims.specs.Refusals.{claim_kept, holds_kept, kept}
 use Rattle.claims.specs.holds.Holds.{is_taken, hold_at, slots, held_of, once_per_address}
 use Rattle.claims.specs.declared.ClaimState.{ClaimState}
 use Rattle.claims.specs.declared.ClaimState.TheVariants.{Waiting, Probing1, Probing2, Probing3, Deferred, Announced, Held, Lost}
-use Rattle.claims.specs.declared.When.TheVariants.{At}
 use Rattle.claims.specs.declared.records.Claim.{Claim}
 use Rattle.claims.specs.declared.records.Claim.TheVariants.{Instance, Host}
 use Rattle.claims.specs.declared.records.Own.{Own}
@@ -173,7 +173,7 @@ module _ (progress : Progress) (now : ℕ) (change : Change) where
   unfolding update_of
   update-last = refl
 
-  pub update-time : after.updated ≡ At now
+  pub update-time : after.updated ≡ Some now
   unfolding update_of
   update-time = refl
 

@@ -1,5 +1,6 @@
 -- What the next due time promises a caller that waits for it: a step is due at a time exactly where that is not before the next due time, and a tick
 -- with none due sends nothing and changes nothing but the time of the last call. Assumes nothing.
+use Rattle.std.specs.Prelude.{Option, Some, None}
 use mathlib.Core.Path.{◌≡◌, refl, sym, ap, ◌∙◌}
 use mathlib.Core.Bool.{Bool, true, false, cond, ◌||◌, or_assoc, or-false}
 use mathlib.Core.List.{List, [], ◌∷◌}
@@ -10,8 +11,6 @@ use borrow.Author.Tests.{le-leb, lt-leb, leb-true, leb-false}
 use mathlib.Mathlib.Data.Bool.Basic.{or-eq-false-eq-eq-false-and-eq-false as neither}
 use Rattle.claims.specs.records.Sets.{some_of}
 use Rattle.claims.specs.Time.{due_by}
-use Rattle.claims.specs.declared.When.{When}
-use Rattle.claims.specs.declared.When.TheVariants.{Never, At}
 use Rattle.claims.specs.declared.Progress.{Progress}
 use Rattle.claims.specs.steps.Steps.{steps, step_due, more_due}
 use Rattle.claims.specs.steps.Tick.{with_last, or_else, walked, ended_of, tick_of}
@@ -23,16 +22,16 @@ use Rattle.claims.specs.due.Due.{earliest, earliest_of, next_due}
 use Rattle.claims.proofs.steps.Walk.{quiet, passed}
 
 -- the earlier of two has come exactly where one of them has
-either : (a b : When) (now : ℕ) → due_by (earliest a b) now ≡ (due_by a now || due_by b now)
-either Never b now = refl
-either (At a) Never now = alone (leb a now)
+either : (a b : Option ℕ) (now : ℕ) → due_by (earliest a b) now ≡ (due_by a now || due_by b now)
+either None b now = refl
+either (Some a) None now = alone (leb a now)
   where
     alone : (x : Bool) → x ≡ (x || false)
     alone true = refl
     alone false = refl
-either (At a) (At b) now = go (leb a b) refl (leb a now) refl
+either (Some a) (Some b) now = go (leb a b) refl (leb a now) refl
   where
-    go : (x : Bool) → leb a b ≡ x → (y : Bool) → leb a now ≡ y → due_by (cond x (At a) (At b)) now ≡ (leb a now || leb b now)
+    go : (x : Bool) → leb a b ≡ x → (y : Bool) → leb a now ≡ y → due_by (cond x (Some a) (Some b)) now ≡ (leb a now || leb b now)
     go true e true f = rw f refl
     go true e false f =
         let l : a ≤ b = leb-true a b e in
@@ -48,7 +47,7 @@ either (At a) (At b) now = go (leb a b) refl (leb a now) refl
 
 -- the earliest of some steps has come exactly where one of them has
 some-come :
-    (progress : Progress) (now : ℕ) (first : When) (ss : List Step)
+    (progress : Progress) (now : ℕ) (first : Option ℕ) (ss : List Step)
     → due_by (earliest_of progress first ss) now ≡ (due_by first now || some_of (λ s. due_by (step_due s progress) now) ss)
 unfolding earliest_of some_of
 some-come progress now first [] = sym (or-false (due_by first now))
@@ -59,7 +58,7 @@ some-come progress now first (s ∷ ss) =
 
 pub due-exactly : (progress : Progress) (now : ℕ) → more_due progress now ≡ due_by (next_due progress) now
 unfolding more_due next_due
-due-exactly progress now = sym (some-come progress now Never steps)
+due-exactly progress now = sym (some-come progress now None steps)
 
 -- steps of which none is due are all passed
 all-passed :

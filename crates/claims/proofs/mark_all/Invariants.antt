@@ -1,13 +1,9 @@
-use Rattle.claims.specs.records.Own.{records, has}
+use Rattle.std.specs.Prelude.{None}
+use Rattle.claims.specs.records.Own.{has}
 use Rattle.claims.specs.Time.{last_of, sent_of, marked}
-use Rattle.claims.specs.declared.When.TheVariants.{Never}
 use Rattle.claims.proofs.records.Filled.{filled}
-use Prim.Native.Nat.{◌≤◌, ◌-◌}
 use mathlib.Core.Path.{◌≡◌}
 use Rattle.claims.proofs.mark_all.Given as goal
 
 abbrev pub invariant-loop-i : goal.invariant-loop-i
-invariant-loop-i l = (l.i ≤ records) × (l.of ≡ filled (last_of Never) (λ o. last_of (marked (has o l.set) (sent_of o l.sent) l.now)) l.i)
-
-abbrev pub decreases-loop-i : goal.decreases-loop-i
-decreases-loop-i l = records - l.i
+invariant-loop-i l = l.of ≡ filled (last_of None) (λ o. last_of (marked (has o l.set) (sent_of o l.sent) l.now)) l.i

@@ -1,4 +1,5 @@
 -- What a set has; and a test of every record, record by record. Assumes nothing.
+use Rattle.std.specs.Prelude.{Option}
 use Prim.Native.Nat.{ℕ, zero, suc, ◌<◌}
 use mathlib.Core.Path.{◌≡◌, refl, subst, ap, ◌∙◌}
 use mathlib.Core.List.{List, [], ◌∷◌}
@@ -10,7 +11,6 @@ use lib.Dec.{eqb}
 use Rattle.claims.specs.records.Own.{all, records, index_of, record_at, has, each}
 use Rattle.claims.specs.records.Sets.{every_of, only}
 use Rattle.claims.specs.Time.{each_last, sent_of}
-use Rattle.claims.specs.declared.When.{When}
 use Rattle.claims.specs.declared.records.Own.{Own}
 use Rattle.claims.specs.declared.records.Set.{Set}
 use Rattle.claims.specs.declared.records.Own.TheVariants.{Ptr, Srv, Txt, A, Aaaa, InstanceNsec, HostNsec}
@@ -28,11 +28,15 @@ by-record P ptr srv txt a aaaa instance host HostNsec = host
 pub has-each : (test : Own → Bool) (o : Own) → has o (each test) ≡ test o
 has-each test = by-record (λ o. has o (each test) ≡ test o) refl refl refl refl refl refl refl
 
+-- a set of which each record is in it where a test holds
+pub same-each : (test : Own → Bool) (set : Set) → ((o : Own) → has o set ≡ test o) → set ≡ each test
+same-each test set h = rw (← h Ptr, ← h Srv, ← h Txt, ← h A, ← h Aaaa, ← h InstanceNsec, ← h HostNsec) refl
+
 pub index_low : (o : Own) → index_of o < records
 index_low =
     by-record (λ o. index_of o < records) (omega arith) (omega arith) (omega arith) (omega arith) (omega arith) (omega arith) (omega arith)
 
-pub sent_each : (last : Own → When) (o : Own) → sent_of o (each_last last) ≡ last o
+pub sent_each : (last : Own → Option ℕ) (o : Own) → sent_of o (each_last last) ≡ last o
 sent_each last = by-record (λ o. sent_of o (each_last last) ≡ last o) refl refl refl refl refl refl refl
 
 -- the record of the index of a record

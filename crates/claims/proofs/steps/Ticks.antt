@@ -1,5 +1,6 @@
 -- Of any tick: the start draw stays, and the time is the call's; the records of a response are multicast then, and no others; a lost claim stays lost; the
 -- times kept stay within bounds; and what becomes of a due PTR reply. Assumes nothing.
+use Rattle.std.specs.Prelude.{Option, Some, None}
 use Prim.Native.Nat.{ℕ, ◌≤◌}
 use mathlib.Core.Path.{◌≡◌, refl, subst}
 use mathlib.Core.Bool.{Bool, true, false, cond, not, ◌&&◌}
@@ -25,8 +26,6 @@ use Rattle.claims.specs.declared.records.Claim.TheVariants.{Instance, Host}
 use Rattle.claims.specs.declared.Multicasts.{Multicasts}
 use Rattle.claims.specs.declared.records.Set.{Set}
 use Rattle.claims.specs.declared.records.Own.TheVariants.{Ptr}
-use Rattle.claims.specs.declared.When.{When}
-use Rattle.claims.specs.declared.When.TheVariants.{Never, At}
 use Rattle.claims.specs.declared.Progress.{Progress}
 use Rattle.claims.specs.steps.Steps.{taken_action, unsent_of}
 use Rattle.claims.specs.steps.Tick.{with_claim, with_sent, without_reply, sends, ptr_reply, reply_turn, without_hold, hold_answers, hold_turn, claim_turn, with_last, ended_of, tick_of}
@@ -209,9 +208,9 @@ module _ (now : ℕ) (aaaa : Bool) (P : Holds → Type 0)
 pub due-taken : (h : Hold) (now : ℕ) → due_by h.due now ≡ true → is_taken h ≡ true
 due-taken h now = go h.due
   where
-    go : (w : When) → due_by w now ≡ true → is_due_time w ≡ true
-    go Never e = e
-    go (At due) e = refl
+    go : (w : Option ℕ) → due_by w now ≡ true → is_due_time w ≡ true
+    go None e = e
+    go (Some due) e = refl
 
 -- no two held queries are of one address
 pub tick-once :
@@ -319,7 +318,7 @@ module _ (now : ℕ) (aaaa : Bool) (most : ℕ) (h : now ≤ last_time) (l : las
 
 -- "at its step it is dropped if the claim is not held or it was multicast less than 1,000 ms ago": in those cases nothing is sent, in all others PTR alone;
 -- and the reply is no longer set.
-module _ (now : ℕ) (progress : Progress) (due : ℕ) (set : progress.reply ≡ At due) (come : due ≤ now) where
+module _ (now : ℕ) (progress : Progress) (due : ℕ) (set : progress.reply ≡ Some due) (come : due ≤ now) where
   abbrev By : Bool → Bool → Turn → Type 0
   By held recent t =
       t ≡ cond (held && not recent) (responds (only Ptr) now (without_reply progress)) (quiet (without_reply progress))

@@ -1,6 +1,7 @@
 -- How a property goes through a tick: from one turn to the next, up to the first that sends. Assumes nothing.
 use Prim.Native.Nat.{ℕ, ◌+◌, ◌<◌, ◌≤◌}
 use mathlib.Core.Path.{◌≡◌, refl, sym, subst, ap, ◌∙◌}
+use mathlib.Core.Logic.{◌⊎◌, inl, inr}
 use mathlib.Core.Bool.{Bool, true, false, cond}
 use mathlib.Core.List.{List, [], ◌∷◌}
 use lib.ListN.{length, get_or, drop, drop_of_length-le}
@@ -141,6 +142,12 @@ module _ (ss : List Step) (aaaa : Bool) (now : ℕ) (l : Progress) (i : ℕ) (d 
 
   pub walk_responds : (set : Set) → t.output ≡ Response set → t ≡ walked (drop i ss) aaaa now l
   walk_responds set e = sym (here ∙ rw e)
+
+  pub walk_sends :
+      ((k : Claim) × (t.output ≡ Probe k)) ⊎ ((set : Set) × (t.output ≡ Response set))
+      → t ≡ walked (drop i ss) aaaa now l
+  walk_sends (inl (k, e)) = walk_probes k e
+  walk_sends (inr (set, e)) = walk_responds set e
 
   pub walk_passes : t.output ≡ Nothing → walked (drop i ss) aaaa now l ≡ walked (drop (i + 1) ss) aaaa now t.progress
   walk_passes e = here ∙ rw e

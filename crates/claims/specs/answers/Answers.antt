@@ -1,6 +1,6 @@
 -- A packet received (specification, 'A claim's life' and 'Which answers go out'), on what the message says. Claims and answers are both judged on the state
 -- that the call is given. Assumes nothing: these are definitions.
-use Rattle.std.specs.Prelude.{ℕ, ◌*◌, Bool, true, false, cond, not, ◌&&◌, ◌||◌}
+use Rattle.std.specs.Prelude.{ℕ, ◌*◌, Bool, true, false, cond, not, ◌&&◌, ◌||◌, Option, Some, None}
 use Rattle.claims.specs.records.Own.{own_ttl, claim_for, present, has, each}
 use Rattle.claims.specs.records.Sets.{no_record, at_once}
 use Rattle.claims.specs.Time.{deferral, multicast_gap, defence_gap, after_ms, recently, sent_of, marked_all}
@@ -14,8 +14,6 @@ use Rattle.claims.specs.declared.records.Own.{Own}
 use Rattle.claims.specs.declared.records.Own.TheVariants.{Ptr}
 use Rattle.claims.specs.declared.records.Set.{Set}
 use Rattle.claims.specs.declared.ClaimState.{ClaimState}
-use Rattle.claims.specs.declared.When.{When}
-use Rattle.claims.specs.declared.When.TheVariants.{Never, At}
 use Rattle.claims.specs.declared.Progress.{Progress}
 use Rattle.claims.specs.declared.answers.Heard.{Heard}
 use Rattle.claims.specs.declared.answers.Facts.{Facts}
@@ -99,9 +97,9 @@ unfoldable pub unicast_asks : Progress → Facts → ℕ → Asks
 unicast_asks progress f now = record { asked = asked_by true progress f now; known = f.known; instancegap = 0; hostgap = 0 }
 
 -- "PTR is set for a reply at now plus the draw, unless one is already set"
-abbrev pub set_reply : Bool → When → ℕ → When
-set_reply asks Never due = cond asks (At due) Never
-set_reply asks (At was) due = At was
+abbrev pub set_reply : Bool → Option ℕ → ℕ → Option ℕ
+set_reply asks None due = cond asks (Some due) None
+set_reply asks (Some was) due = Some was
 
 -- The held queries after a message that is judged at once: a query, "with TC or without, a probe too, adds the known answers that it carries" to a held one of
 -- its address.

@@ -1,10 +1,9 @@
 -- Which queries are held, and what is kept of them (specification, 'Held queries'; RFC 6762, section 7.2). Assumes nothing: these are definitions.
-use Rattle.std.specs.Prelude.{Bool, cond, not, ◌&&◌}
+use Rattle.std.specs.Prelude.{Bool, cond, not, ◌&&◌, Some}
 use Rattle.claims.specs.records.Sets.{no_record}
 use Rattle.claims.specs.Time.{after_ms}
 use Rattle.claims.specs.holds.Holds.{some_from, some_free, queued}
 use Rattle.claims.specs.answers.Answers.{judged_of}
-use Rattle.claims.specs.declared.When.TheVariants.{At}
 use Rattle.claims.specs.declared.Progress.{Progress}
 use Rattle.claims.specs.declared.holds.Hold.{Hold}
 use Rattle.claims.specs.declared.holds.Holds.{Holds}
@@ -22,7 +21,7 @@ to_hold holds c f = not f.response && (f.truncated && (no_probe f && (not (some_
 
 -- "It is due at now plus the second draw. What is kept is what it asked for and knows, for each own record": of a claim that is not held then too.
 abbrev pub hold_of : Coming → Facts → Hold
-hold_of c f = record { from = c.from; due = At (after_ms c.now c.hold); asked = f.asked; known = f.known }
+hold_of c f = record { from = c.from; due = Some (after_ms c.now c.hold); asked = f.asked; known = f.known }
 
 -- a query that is held is not answered at once and sets no reply
 unfoldable pub held_back : Progress → Coming → Facts → Received

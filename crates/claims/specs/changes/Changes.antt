@@ -1,14 +1,12 @@
 -- Goodbyes and changed data (specification, 'Stops and updates'; RFC 6762, sections 8.4 and 10.1): what a stop and an update of SRV port or TXT do to the claims
 -- and to the held queries, which records go out, and the two refusals of an update. Assumes nothing: these are definitions.
-use Rattle.std.specs.Prelude.{ℕ, ◌+◌, Bool, true, false, cond, not, ◌&&◌, ltb}
+use Rattle.std.specs.Prelude.{ℕ, ◌+◌, Bool, true, false, cond, not, ◌&&◌, ltb, Option, Some, None}
 use Rattle.claims.specs.records.Own.{claim_for, present, carries_data, has, each}
 use Rattle.claims.specs.records.Sets.{no_record, only}
 use Rattle.claims.specs.Time.{announcement_gap, after_ms, marked_all}
 use Rattle.claims.specs.Claims.{held_now, claim_of}
 use Rattle.claims.specs.declared.ClaimState.{ClaimState}
 use Rattle.claims.specs.declared.ClaimState.TheVariants.{Waiting, Probing1, Probing2, Probing3, Deferred, Announced, Held, Lost}
-use Rattle.claims.specs.declared.When.{When}
-use Rattle.claims.specs.declared.When.TheVariants.{Never, At}
 use Rattle.claims.specs.declared.records.Own.{Own}
 use Rattle.claims.specs.declared.records.Own.TheVariants as own
 use Rattle.claims.specs.declared.records.Set.{Set}
@@ -95,7 +93,7 @@ update_of progress now change =
             sent = marked_all (announced_of progress change) progress.sent now;
             reply = progress.reply;
             holds = forgetting_all (changed_record change) progress.holds;
-            updated = At now;
+            updated = Some now;
             draw = progress.draw;
             last = now;
           };
@@ -122,9 +120,9 @@ lost_to_update progress = is_lost progress.instance
 abbrev pub update_gap : ℕ
 update_gap = 6000
 
-abbrev pub within : ℕ → When → ℕ → Bool
-within gap Never now = false
-within gap (At time) now = ltb now (time + gap)
+abbrev pub within : ℕ → Option ℕ → ℕ → Bool
+within gap None now = false
+within gap (Some time) now = ltb now (time + gap)
 
 abbrev pub too_soon : Progress → ℕ → Bool
 too_soon progress now = within update_gap progress.updated now

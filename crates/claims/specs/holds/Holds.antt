@@ -1,10 +1,8 @@
 -- Held queries (specification, 'Held queries'): "Hold up to four such queries, by source address". Assumes nothing: these are definitions.
-use Rattle.std.specs.Prelude.{Bool, true, false, cond, not, ◌&&◌, ◌||◌, List, [], ◌∷◌, map, eqb}
+use Rattle.std.specs.Prelude.{ℕ, Bool, true, false, cond, not, ◌&&◌, ◌||◌, List, [], ◌∷◌, map, eqb, Option, Some, None}
 use Rattle.claims.specs.records.Own.{has, each}
 use Rattle.claims.specs.records.Sets.{some_of, picked, no_record}
 use Rattle.claims.specs.declared.records.Set.{Set}
-use Rattle.claims.specs.declared.When.{When}
-use Rattle.claims.specs.declared.When.TheVariants.{Never, At}
 use Rattle.claims.specs.declared.holds.Address.{Address}
 use Rattle.claims.specs.declared.holds.Hold.{Hold}
 use Rattle.claims.specs.declared.holds.Place.{Place}
@@ -12,15 +10,15 @@ use Rattle.claims.specs.declared.holds.Place.TheVariants.{First, Second, Third, 
 use Rattle.claims.specs.declared.holds.Holds.{Holds}
 
 -- a place with a due time is taken, one without is free
-abbrev pub is_due_time : When → Bool
-is_due_time Never = false
-is_due_time (At due) = true
+abbrev pub is_due_time : Option ℕ → Bool
+is_due_time None = false
+is_due_time (Some due) = true
 
 abbrev pub is_taken : Hold → Bool
 is_taken h = is_due_time h.due
 
 abbrev pub no_hold : Hold
-no_hold = record { from = record { high = 0; low = 0 }; due = Never; asked = no_record; known = no_record }
+no_hold = record { from = record { high = 0; low = 0 }; due = None; asked = no_record; known = no_record }
 
 abbrev pub no_holds : Holds
 no_holds = record { first = no_hold; second = no_hold; third = no_hold; fourth = no_hold }

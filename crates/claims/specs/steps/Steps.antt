@@ -1,6 +1,6 @@
 -- The steps of a claim, of the PTR reply and of the held queries (specification, 'A claim's life'): which is due, what it sends, and the claim after it. Assumes nothing: these
 -- are definitions.
-use Rattle.std.specs.Prelude.{ℕ, Bool, cond, not, ◌&&◌, List, ◌∷◌, map, get_or}
+use Rattle.std.specs.Prelude.{ℕ, Bool, cond, not, ◌&&◌, List, ◌∷◌, map, get_or, Option}
 use Rattle.claims.specs.records.Own.{has, each}
 use Rattle.claims.specs.records.Sets.{some_of}
 use Rattle.claims.specs.Time.{probe_gap, announcement_gap, multicast_gap, after_ms, due_by, recently, sent_of}
@@ -11,7 +11,6 @@ use Rattle.claims.specs.declared.ClaimState.{ClaimState}
 use Rattle.claims.specs.declared.ClaimState.TheVariants.{Waiting, Probing1, Probing2, Probing3, Deferred, Announced, Held, Lost}
 use Rattle.claims.specs.declared.records.Claim.TheVariants.{Instance, Host}
 use Rattle.claims.specs.declared.records.Set.{Set}
-use Rattle.claims.specs.declared.When.{When}
 use Rattle.claims.specs.declared.Multicasts.{Multicasts}
 use Rattle.claims.specs.declared.Progress.{Progress}
 use Rattle.claims.specs.declared.steps.Step.{Step}
@@ -27,11 +26,11 @@ unfoldable pub step_at : ℕ → Step
 step_at i = get_or steps i (OfClaim Instance)
 
 -- when the query that is held at a place is answered
-abbrev pub hold_due : Place → Progress → When
+abbrev pub hold_due : Place → Progress → Option ℕ
 hold_due place progress = (hold_at place progress.holds).due
 
 -- when a step is due
-abbrev pub step_due : Step → Progress → When
+abbrev pub step_due : Step → Progress → Option ℕ
 step_due (OfClaim claim) progress = due_of (claim_of claim progress)
 step_due PtrReply progress = progress.reply
 step_due (OfHold place) progress = hold_due place progress
@@ -59,7 +58,7 @@ unfoldable pub action_of : ClaimState → ℕ → Action
 action_of c now = cond (claim_due c now) (taken_action c now) Idle
 
 -- a record that is wanted is sent unless it was multicast less than 1,000 ms ago
-abbrev pub unsent : Bool → When → ℕ → Bool
+abbrev pub unsent : Bool → Option ℕ → ℕ → Bool
 unsent wanted last now = wanted && not (recently last now multicast_gap)
 
 -- of a set of records, "those not multicast less than 1,000 ms ago"

@@ -1,5 +1,5 @@
 -- A tick (specification, 'A claim's life', "A tick walks the due steps, .."). Assumes nothing: these are definitions.
-use Rattle.std.specs.Prelude.{ℕ, Bool, false, cond, List, [], ◌∷◌}
+use Rattle.std.specs.Prelude.{ℕ, Bool, false, cond, List, [], ◌∷◌, None}
 use Rattle.claims.specs.Time.{due_by, marked_all}
 use Rattle.claims.specs.Claims.{held_now, claim_of}
 use Rattle.claims.specs.declared.ClaimState.{ClaimState}
@@ -8,7 +8,6 @@ use Rattle.claims.specs.declared.records.Claim.TheVariants.{Instance, Host}
 use Rattle.claims.specs.declared.Multicasts.{Multicasts}
 use Rattle.claims.specs.declared.records.Set.{Set}
 use Rattle.claims.specs.declared.records.Own.TheVariants.{Ptr}
-use Rattle.claims.specs.declared.When.TheVariants.{Never}
 use Rattle.claims.specs.declared.Progress.{Progress}
 use Rattle.claims.specs.records.Own.{same_claim}
 use Rattle.claims.specs.records.Sets.{no_record, only, any_of, records_of, under}
@@ -69,7 +68,7 @@ without_reply progress =
       instance = progress.instance;
       host = progress.host;
       sent = progress.sent;
-      reply = Never;
+      reply = None;
       holds = progress.holds;
       updated = progress.updated;
       draw = progress.draw;

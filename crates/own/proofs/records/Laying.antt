@@ -1,13 +1,16 @@
 -- OwnBytes names and rdata written part by part. Assumes nothing.
 use mathlib.Core.Path.{◌≡◌, refl, sym, ap, ap₂, ◌∙◌}
-use mathlib.Core.List.{List, [], ◌∷◌, ◌++◌, append_assoc, append-nil}
+use mathlib.Core.List.{List, [], ◌∷◌, ◌++◌, append_assoc}
 use mathlib.Core.Bool.{Bool, true, false}
-use Prim.Native.Nat.{ℕ, ◌+◌, ◌-◌, ◌/◌, ◌%◌, ◌≤◌}
+use Prim.Native.Nat.{ℕ, ◌+◌, ◌-◌, ◌/◌, ◌%◌, ◌<◌, ◌≤◌, min}
 use native.Mathlib.Nat.{zero-add}
 use native.Mathlib.Numerals.{add-one}
 use native.Mathlib.Omega.{arith}
 use lib.ListN.{length, take, drop, set, replicate, length-append, length-take, length-replicate}
-use lib.Seq.{sets, sets-eq, take_all}
+use lib.Seq.{sets, sets-eq}
+use Rattle.std.specs.Int.{to_be_bytes}
+use Rattle.std.proofs.Common.{w16}
+use Rattle.std.proofs.lemmas.List.{take_min}
 use Rattle.wire.proofs.octets.Sets.{sets-append, drop-replicate}
 use Rattle.wire.specs.labels.Labels.{encode}
 use Rattle.wire.specs.expansion.Equal.{same_bytes}
@@ -41,15 +44,11 @@ laid_as at r xs ys o o₁ m n f e h = record {
 }
 
 -- a label that an array holds
-pub held-short : (at r len : ℕ) (bytes o o₁ : List ℕ) → Laid at (label_bytes (take len bytes)) (1 + length (take len bytes)) o r o₁
+pub held_least : (at r n len : ℕ) (bytes o o₁ : List ℕ) → n ≡ min len (length bytes) → Laid at (label_bytes (take n bytes)) (1 + length (take n bytes)) o r o₁
     → Laid at (label_bytes (take len bytes)) (1 + length bytes) o r o₁
-held-short at r len bytes o o₁ f = laid_as at r _ _ o o₁ (1 + length (take len bytes)) (1 + length bytes) f refl (omega (arith, length-take len bytes))
-
-pub held-full : (at r len : ℕ) (bytes o o₁ : List ℕ) → length bytes ≤ len → Laid at (label_bytes bytes) (1 + length bytes) o r o₁
-    → Laid at (label_bytes (take len bytes)) (1 + length bytes) o r o₁
-held-full at r len bytes o o₁ h f =
-    let all : take len bytes ≡ bytes = take_all len bytes h in
-    laid_as at r (label_bytes bytes) (label_bytes (take len bytes)) o o₁ (1 + length bytes) (1 + length bytes) f (ap label_bytes (sym all)) (omega (arith, ap length all))
+held_least at r n len bytes o o₁ e f =
+    let same : take n bytes ≡ take len bytes = ap (λ (k : ℕ). take k bytes) e ∙ take_min len bytes in
+    laid_as at r _ _ o o₁ (1 + length (take n bytes)) (1 + length bytes) f (ap label_bytes same) (omega (arith, length-take len bytes))
 
 -- the same in an array of a known size
 pub held_in_lem : (at r len : ℕ) (bytes o o₁ : List ℕ) (n : ℕ) → length bytes ≡ n → Laid at (label_bytes (take len bytes)) (1 + length bytes) o r o₁
@@ -103,14 +102,18 @@ own_of_lem bs o n w e h = let f : o ≡ bs ++ replicate (400 - length bs) 0 = w 
 pub own_laid : (bs o : List ℕ) (n m : ℕ) → Laid 0 bs m (replicate 400 0) n o → m ≤ 400 → ◌≡◌ {A = OwnBytes} (record { bytes = o; len = n }) (own_of bs)
 own_laid bs o n m f h = own_of_lem bs o n f.bytes (f.ended ∙ zero-add (length bs)) (omega (arith, f.few))
 
+-- a port in two bytes
+port_bytes : (port : ℕ) → port < 65536 → to_be_bytes w16 port ≡ (port / 256) ∷ (port % 256) ∷ []
+port_bytes port h = let e : port / 256 % 256 ≡ port / 256 = omega arith in λ i. e i ∷ (port % 256) ∷ []
+
 -- the six bytes in front of the target: a buffer of zeros has four of them
-pub own_srv : (s : Setup) (o : List ℕ) (n : ℕ) → Laid 6 (encode (host_labels s)) 71 (set (set (replicate 400 0) 4 (s.port / 256)) 5 (s.port % 256)) n o
+pub own_srv : (s : Setup) (o o₁ : List ℕ) (n : ℕ) → s.port < 65536 → o₁ ≡ sets (replicate 400 0) 4 (to_be_bytes w16 s.port) → Laid 6 (encode (host_labels s)) 71 o₁ n o
     → ◌≡◌ {A = OwnBytes} (record { bytes = o; len = n }) (own_of (srv_rdata s))
 unfolding srv_rdata
-own_srv s o n f =
+own_srv s o o₁ n small w f =
     own_laid _ o n 77
-    (then 0 6 n (0 ∷ 0 ∷ 0 ∷ 0 ∷ (s.port / 256) ∷ (s.port % 256) ∷ []) (encode (host_labels s)) (replicate 400 0) (set (set (replicate 400 0) 4 (s.port / 256)) 5 (s.port % 256)) o 6 71
-    (record { ended = refl; bytes = refl; few = omega arith }) f) (omega arith)
+    (then 0 6 n (0 ∷ 0 ∷ 0 ∷ 0 ∷ (s.port / 256) ∷ (s.port % 256) ∷ []) (encode (host_labels s)) (replicate 400 0) o₁ o 6 71
+    (record { ended = refl; bytes = w ∙ ap (sets (replicate 400 0) 4) (port_bytes s.port small); few = omega arith }) f) (omega arith)
 
 -- types behind a name
 pub laid-types : (at : ℕ) (types o o₁ : List ℕ) → o₁ ≡ sets o at types → Laid at types (length types) o (at + length types) o₁
@@ -124,10 +127,9 @@ pub own_nsec : (name types o o₁ : List ℕ) (end n m k : ℕ) → m + k ≤ 40
     → ◌≡◌ {A = OwnBytes} (record { bytes = o₁; len = n }) (own_of (name ++ types))
 own_nsec name types o o₁ end n m k h f g = own_laid _ o₁ n (m + k) (then 0 end n name types (replicate 400 0) o o₁ m k f g) h
 
--- TXT strings that fill their array
-pub own_full : (bytes : List ℕ) (len : ℕ) → length bytes ≡ 400 → 400 ≤ len → ◌≡◌ {A = OwnBytes} (record { bytes = bytes; len = 400 }) (own_of (take len bytes))
-own_full bytes len e h =
-    let all : take len bytes ≡ bytes = take_all len bytes (omega arith) in
-    let none : 400 - length bytes ≡ 0 = omega arith in
-    let b : bytes ≡ bytes ++ replicate (400 - length bytes) 0 = sym (append-nil bytes) ∙ ap (λ (k : ℕ). bytes ++ replicate k 0) (sym none) in
-    rw all (λ i. record { bytes = b i; len = sym e i })
+-- TXT strings in their array
+pub own_held : (bytes : List ℕ) (n len : ℕ) (o : List ℕ) → length bytes ≡ 400 → n ≡ min len 400 → o ≡ sets (replicate 400 0) 0 (take n bytes)
+    → ◌≡◌ {A = OwnBytes} (record { bytes = o; len = n }) (own_of (take len bytes))
+own_held bytes n len o e k w =
+    let same : take n bytes ≡ take len bytes = ap (λ (k : ℕ). take k bytes) (k ∙ ap (min len) (sym e)) ∙ take_min len bytes in
+    own_of_lem (take len bytes) o n (w ∙ ap (sets (replicate 400 0) 0) same) (omega (arith, length-take len bytes)) (omega (arith, length-take len bytes))

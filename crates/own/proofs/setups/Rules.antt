@@ -1,7 +1,8 @@
 -- The rules for a set-up, test by test. Assumes nothing.
 use mathlib.Core.Path.{◌≡◌, refl, sym, ap, ◌∙◌}
 use mathlib.Core.List.{List, [], ◌∷◌}
-use mathlib.Core.Bool.{Bool, true, false, not, cond, ◌&&◌, ◌||◌, and-true}
+use mathlib.Core.Bool.{Bool, true, false, not, cond, ◌&&◌, and-true}
+use mathlib.Core.Logic.{◌⊎◌, inl, inr}
 use Prim.Native.Nat.{ℕ, ◌+◌, ◌-◌, ◌<◌, ◌≤◌}
 use native.Mathlib.Numerals.{add-one}
 use native.Mathlib.Omega.{arith}
@@ -16,56 +17,10 @@ use Rattle.own.specs.declared.records.Service.{Service}
 use Rattle.own.specs.declared.records.Strings.{Strings}
 use Rattle.own.specs.declared.records.Setup.{Setup}
 use Rattle.own.specs.utf8.Utf8.{is_shown}
-use Rattle.own.specs.records.Setups.{tcp, udp, held, label_fits, instance_fits, is_letter, is_name_byte, all_name_bytes, some_letter, hyphens_apart, service_rule, service_fits, protocol_fits, domain_fits, txt_fits, valid_setup}
-
--- a letter
-module _ (b : ℕ) where
-  pub below-letters : b < 65 → false ≡ is_letter b
-  unfolding is_letter
-  below-letters h = let k : b < 97 = omega arith in simp (lt-leb _ _ h, lt-leb _ _ k)
-
-  pub capital : 65 ≤ b → b ≤ 90 → true ≡ is_letter b
-  unfolding is_letter
-  capital h k = simp (le-leb _ _ h, le-leb _ _ k)
-
-  pub between-letters : 90 < b → b < 97 → false ≡ is_letter b
-  unfolding is_letter
-  between-letters h k = let g : 65 ≤ b = omega arith in simp (le-leb _ _ g, lt-leb _ _ h, lt-leb _ _ k)
-
-  pub small : 97 ≤ b → leb b 122 ≡ is_letter b
-  unfolding is_letter
-  small h = let g : 65 ≤ b = omega arith in let k : 90 < b = omega arith in simp (le-leb _ _ g, lt-leb _ _ k, le-leb _ _ h)
-
-  -- a byte of a service name
-  module _ (l : Bool) (is : l ≡ is_letter b) where
-    pub byte_letter : l ≡ true → true ≡ is_name_byte b
-    unfolding is_name_byte
-    byte_letter t = ap (λ (x : Bool). x || (eqb b 45 || (leb 48 b && leb b 57))) (sym t ∙ is)
-
-    module _ (t : l ≡ false) where
-      no_letter : is_name_byte b ≡ (eqb b 45 || (leb 48 b && leb b 57))
-      unfolding is_name_byte
-      no_letter = ap (λ (x : Bool). x || (eqb b 45 || (leb 48 b && leb b 57))) (sym is ∙ t)
-
-      pub byte_hyphen : b ≡ 45 → true ≡ is_name_byte b
-      byte_hyphen e = sym (no_letter ∙ simp (eq-eqb _ _ e))
-
-      pub byte_low : (b ≡ 45 → ⊥) → b < 48 → false ≡ is_name_byte b
-      byte_low e h = sym (no_letter ∙ simp (ne_eqb _ _ e, lt-leb _ _ h))
-
-      pub byte_digit : (b ≡ 45 → ⊥) → 48 ≤ b → leb b 57 ≡ is_name_byte b
-      byte_digit e h = sym (no_letter ∙ simp (ne_eqb _ _ e, le-leb _ _ h))
+use Rattle.own.specs.records.Setups.{tcp, udp, held, label_fits, instance_fits, all_name_bytes, some_letter, hyphens_apart, service_rule, service_fits, protocol_fits, domain_fits, txt_fits, valid_setup}
 
 -- a turn of the loops over the bytes
 module _ (s : List ℕ) (i : ℕ) where
-  pub bytes_end : length s ≤ i → all_name_bytes s ≡ all_name_bytes (drop i s) → true ≡ all_name_bytes s
-  unfolding all_name_bytes
-  bytes_end h inv = sym (inv ∙ rw (drop_of_length-le s h))
-
-  pub letters_end : length s ≤ i → some_letter s ≡ some_letter (drop i s) → false ≡ some_letter s
-  unfolding some_letter
-  letters_end h inv = sym (inv ∙ rw (drop_of_length-le s h))
-
   pub hyphens_end : (v : Bool) → length s ≤ i → hyphens_apart true s ≡ hyphens_apart v (drop i s) → not v ≡ hyphens_apart true s
   unfolding hyphens_apart
   hyphens_end v h inv = sym (inv ∙ rw (drop_of_length-le s h))
@@ -73,28 +28,6 @@ module _ (s : List ℕ) (i : ℕ) where
   module _ (h : i < length s) where
     front : drop i s ≡ get_or s i 0 ∷ drop (i + 1) s
     front = drop-cons s i 0 h ∙ ap (λ (k : ℕ). get_or s i 0 ∷ drop k s) (sym (add-one i))
-
-    module _ (inv : all_name_bytes s ≡ all_name_bytes (drop i s)) (v : Bool) (is : v ≡ is_name_byte (get_or s i 0)) where
-      bytes_turn : all_name_bytes s ≡ (v && all_name_bytes (drop (i + 1) s))
-      unfolding all_name_bytes
-      bytes_turn = inv ∙ rw (front, is)
-
-      pub bytes_stop : v ≡ false → false ≡ all_name_bytes s
-      bytes_stop t = sym (bytes_turn ∙ simp t)
-
-      pub bytes_on : v ≡ true → all_name_bytes s ≡ all_name_bytes (drop (i + 1) s)
-      bytes_on t = bytes_turn ∙ simp t
-
-    module _ (inv : some_letter s ≡ some_letter (drop i s)) (v : Bool) (is : v ≡ is_letter (get_or s i 0)) where
-      letters_turn : some_letter s ≡ (v || some_letter (drop (i + 1) s))
-      unfolding some_letter
-      letters_turn = inv ∙ rw (front, is)
-
-      pub letters_stop : v ≡ true → true ≡ some_letter s
-      letters_stop t = sym (letters_turn ∙ simp t)
-
-      pub letters_on : v ≡ false → some_letter s ≡ some_letter (drop (i + 1) s)
-      letters_on t = letters_turn ∙ simp t
 
     module _ (v : Bool) (inv : hyphens_apart true s ≡ hyphens_apart v (drop i s)) where
       hyphens_turn : hyphens_apart true s ≡ cond (eqb (get_or s i 0) 45) (not v && hyphens_apart true (drop (i + 1) s)) (hyphens_apart false (drop (i + 1) s))
@@ -104,11 +37,16 @@ module _ (s : List ℕ) (i : ℕ) where
       pub hyphen_barred : get_or s i 0 ≡ 45 → v ≡ true → false ≡ hyphens_apart true s
       hyphen_barred e t = sym (hyphens_turn ∙ simp (eq-eqb _ _ e, t))
 
-      pub hyphen_on : get_or s i 0 ≡ 45 → v ≡ false → (w : Bool) → w ≡ true → hyphens_apart true s ≡ hyphens_apart w (drop (i + 1) s)
-      hyphen_on e t w k = rw k (hyphens_turn ∙ simp (eq-eqb _ _ e, t))
+      pub hyphens_on : ((v ≡ true) × (get_or s i 0 ≡ 45 → ⊥)) ⊎ (v ≡ false) → hyphens_apart true s ≡ hyphens_apart (eqb (get_or s i 0) 45) (drop (i + 1) s)
+      hyphens_on (inl x) = hyphens_turn ∙ simp (ne_eqb _ _ x.1)
+      hyphens_on (inr e) = hyphens_turn ∙ simp e (go (eqb (get_or s i 0) 45))
+        where
+          rest : List ℕ
+          rest = drop (i + 1) s
 
-      pub other-on : (get_or s i 0 ≡ 45 → ⊥) → (w : Bool) → w ≡ false → hyphens_apart true s ≡ hyphens_apart w (drop (i + 1) s)
-      other-on e w k = rw k (hyphens_turn ∙ simp (ne_eqb _ _ e))
+          go : (k : Bool) → cond k (hyphens_apart true rest) (hyphens_apart false rest) ≡ hyphens_apart k rest
+          go true = refl
+          go false = refl
 
 -- the rule for a service label
 pub rule_empty : (s : List ℕ) → length s ≡ 0 → false ≡ service_rule s
@@ -116,28 +54,12 @@ unfolding service_rule
 rule_empty [] h = refl
 rule_empty (b ∷ bs) h = absurd (omega arith)
 
-pub rule_first : (s : List ℕ) → (get_or s 0 0 ≡ 95 → ⊥) → false ≡ service_rule s
+-- its first byte and what follows it, as the code takes it
+pub rule_rest : (s : List ℕ) → 0 < length s
+    → service_rule s ≡ (eqb (get_or s 0 0) 95 && (all_name_bytes (take (length s - 1) (drop 1 s)) && (some_letter (take (length s - 1) (drop 1 s)) && hyphens_apart true (take (length s - 1) (drop 1 s)))))
 unfolding service_rule
-rule_first [] h = refl
-rule_first (b ∷ bs) h = sym (simp (ne_eqb _ _ h))
-
--- what follows its first byte, as the code takes it
-pub rule_rest : (s : List ℕ) → (length s ≡ 0 → ⊥) → get_or s 0 0 ≡ 95
-    → service_rule s ≡ (all_name_bytes (take (length s - 1) (drop 1 s)) && (some_letter (take (length s - 1) (drop 1 s)) && hyphens_apart true (take (length s - 1) (drop 1 s))))
-unfolding service_rule
-rule_rest [] z h = absurd (z refl)
-rule_rest (b ∷ bs) z h = simp (eq-eqb _ _ h, take_all (length (b ∷ bs) - 1) bs (omega arith))
-
-module _ (s : List ℕ) (z : length s ≡ 0 → ⊥) (h : get_or s 0 0 ≡ 95) (a : Bool) (ea : a ≡ all_name_bytes (take (length s - 1) (drop 1 s))) where
-  pub rule_bytes : a ≡ false → false ≡ service_rule s
-  rule_bytes t = sym (rule_rest s z h ∙ simp (sym ea ∙ t))
-
-  module _ (ta : a ≡ true) (l : Bool) (el : l ≡ some_letter (take (length s - 1) (drop 1 s))) where
-    pub rule_letter : l ≡ false → false ≡ service_rule s
-    rule_letter t = sym (rule_rest s z h ∙ simp (sym ea ∙ ta, sym el ∙ t))
-
-    pub rule_hyphens : l ≡ true → (y : Bool) → y ≡ hyphens_apart true (take (length s - 1) (drop 1 s)) → y ≡ service_rule s
-    rule_hyphens t y ey = sym (rule_rest s z h ∙ simp (sym ea ∙ ta, sym el ∙ t) (sym ey))
+rule_rest [] h = absurd (omega arith)
+rule_rest (b ∷ bs) h = simp (take_all (length (b ∷ bs) - 1) bs (omega arith))
 
 -- bytes held in an array
 module _ (least most len : ℕ) (bytes : List ℕ) where

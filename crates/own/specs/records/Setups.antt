@@ -1,5 +1,6 @@
 -- The rules for a set-up (specification, 'Own records'; RFC 6335, 5.1), in the specification's order. Assumes nothing: these are definitions.
 use Rattle.std.specs.Prelude.{ℕ, List, [], ◌∷◌, Bool, true, false, not, cond, ◌&&◌, ◌||◌, length, take, leb, eqb}
+use Rattle.std.specs.List.{list_all, list_any}
 use Rattle.wire.specs.rdata.Rdata.{strings_fill}
 use Rattle.wire.specs.expansion.Equal.{same_bytes}
 use Rattle.own.specs.utf8.Utf8.{is_shown}
@@ -40,13 +41,11 @@ is_name_byte b = is_letter b || (eqb b 45 || (leb 48 b && leb b 57))
 
 -- "letters, digits or hyphens"
 unfoldable pub all_name_bytes : List ℕ → Bool
-all_name_bytes [] = true
-all_name_bytes (b ∷ bs) = is_name_byte b && all_name_bytes bs
+all_name_bytes bs = list_all is_name_byte bs
 
 -- "with a letter"
 unfoldable pub some_letter : List ℕ → Bool
-some_letter [] = false
-some_letter (b ∷ bs) = is_letter b || some_letter bs
+some_letter bs = list_any is_letter bs
 
 -- "no hyphen first, last or doubled": none stands where it is barred, at the start and behind a hyphen, and nothing ends there
 unfoldable pub hyphens_apart : Bool → List ℕ → Bool

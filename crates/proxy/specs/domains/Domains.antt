@@ -3,7 +3,8 @@
 use Rattle.std.specs.Prelude.{ℕ, List, [], ◌∷◌, Bool, not, ◌&&◌}
 use Rattle.wire.specs.case_folding.Fold.{same_name}
 use Rattle.wire.specs.names.Names.{is_name}
-use Rattle.wire.specs.refusals.Numbers.{SETUP, first_refusal}
+use Rattle.wire.specs.refusals.Numbers.{first_refusal}
+use Rattle.wire.specs.declared.refusals.Refusal.TheVariants.{Setup}
 use Rattle.proxy.specs.domains.Under.{is_under}
 
 pub record Domains : Type 0 where
@@ -24,4 +25,4 @@ are_domains d =
 
 -- "A setup where a domain is malformed, or the two are equal or one lies under the other, gets refusal 7."
 unfoldable pub setup_refusal : Domains → ℕ
-setup_refusal d = first_refusal ((SETUP, not (are_domains d)) ∷ [])
+setup_refusal d = first_refusal ((Setup, not (are_domains d)) ∷ [])

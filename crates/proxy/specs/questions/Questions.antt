@@ -1,7 +1,8 @@
 -- A unicast question at the proxy (specification, 'The proxy'; RFC 8766, 5.5.1 and 5.4). Assumes nothing: these are definitions.
 use Rattle.std.specs.Prelude.{ℕ, List, [], ◌∷◌, Bool, cond, not, ◌&&◌, ◌||◌, length, replicate, eqb}
 use Rattle.wire.specs.names.Names.{is_name}
-use Rattle.wire.specs.refusals.Numbers.{MALFORMED, SETUP, TOO-LONG, first_refusal}
+use Rattle.wire.specs.refusals.Numbers.{first_refusal}
+use Rattle.wire.specs.declared.refusals.Refusal.TheVariants.{Malformed, Setup, TooLong}
 use Rattle.proxy.specs.domains.Under.{is_under, moved, is_overlong, laid}
 use Rattle.proxy.specs.domains.Domains.{Domains, are_domains, local}
 use Rattle.proxy.specs.declared.questions.Question.{Question}
@@ -27,7 +28,7 @@ is_negative d name rtype = is_apex_type rtype && is_below d name
 unfoldable pub question_refusal : Domains → List ℕ → ℕ → ℕ
 question_refusal d name rtype =
     first_refusal
-    ((MALFORMED, not (is_name name)) ∷ ((SETUP, not (are_domains d)) ∷ ((TOO-LONG, not (is_negative d name rtype) && is_overlong (inward d name)) ∷ [])))
+    ((Malformed, not (is_name name)) ∷ ((Setup, not (are_domains d)) ∷ ((TooLong, not (is_negative d name rtype) && is_overlong (inward d name)) ∷ [])))
 
 abbrev pub refused_question : ℕ → Question
 refused_question number = record { asked = Refused number; name = replicate 255 0 }

@@ -2,7 +2,8 @@
 -- Assumes nothing: these are definitions.
 use Rattle.std.specs.Prelude.{ℕ, ◌-◌, ◌/◌, ◌^◌, List, [], ◌∷◌, cond, not, ◌||◌, length, take, drop, ltb, eqb}
 use Rattle.wire.specs.message.Message.{Record, record_of}
-use Rattle.wire.specs.refusals.Numbers.{TIME, TABLE, first_refusal}
+use Rattle.wire.specs.refusals.Numbers.{first_refusal}
+use Rattle.wire.specs.declared.refusals.Refusal.TheVariants.{Table, Time}
 use Rattle.cache.specs.entries.Entries.{is_live, heard_ahead, too_long}
 use Rattle.cache.specs.declared.entries.Entry.{Entry}
 use Rattle.proxy.specs.domains.Domains.{Domains}
@@ -21,7 +22,7 @@ held_record now e slot = record_of (take e.owner slot) e.rtype 1 (left_of now e.
 -- 768", and a slot of another size
 unfoldable pub held_refusal : ℕ → Entry → List ℕ → ℕ
 held_refusal now e slot =
-    first_refusal ((TIME, ltb (2 ^ 62) now || heard_ahead now e) ∷ ((TABLE, too_long e || not (eqb (length slot) 1024)) ∷ []))
+    first_refusal ((Time, ltb (2 ^ 62) now || heard_ahead now e) ∷ ((Table, too_long e || not (eqb (length slot) 1024)) ∷ []))
 
 -- what becomes of the entry's record; one that is not live is none
 unfoldable pub held_out : Domains → ℕ → Entry → List ℕ → Passed

@@ -5,7 +5,8 @@ use Rattle.wire.specs.names.Names.{is_name}
 use Rattle.wire.specs.rdata.Rdata.{strings_fill, form_of}
 use Rattle.wire.specs.message.Message.{Record, record_of, class_of}
 use Rattle.wire.specs.message.Layout.{Item, item, broken}
-use Rattle.wire.specs.refusals.Numbers.{SETUP, TOO-LONG, first_refusal}
+use Rattle.wire.specs.refusals.Numbers.{first_refusal}
+use Rattle.wire.specs.declared.refusals.Refusal.TheVariants.{Setup, TooLong}
 use Rattle.proxy.specs.domains.Under.{moved, is_overlong, laid}
 use Rattle.proxy.specs.domains.Domains.{Domains, are_domains, setup_refusal, local}
 use Rattle.proxy.specs.declared.domains.Moved.{Moved}
@@ -61,7 +62,7 @@ is_too_long d r = is_overlong (owner_out d r.rtype r.owner) || ((form_of r.rtype
 -- the refusals of a record: 7, and 13 "tested last", of a record that is not left out
 unfoldable pub record_refusal : Domains → Record → ℕ
 record_refusal d r =
-    first_refusal ((SETUP, not (are_domains d)) ∷ ((TOO-LONG, is_whole r.owner r.rtype r.rdata && is_too_long d r) ∷ []))
+    first_refusal ((Setup, not (are_domains d)) ∷ ((TooLong, is_whole r.owner r.rtype r.rdata && is_too_long d r) ∷ []))
 
 abbrev pub refused_record : ℕ → Passed
 refused_record number = record { passing = p.Refused number; owner = replicate 255 0; rdata = replicate 261 0 }

@@ -1,7 +1,9 @@
 -- A stop and an update (specification, 'Stops and updates'): refusals, the answer, the state after the call and the packet that it sends. Assumes nothing: these
 -- are definitions.
 use Rattle.std.specs.Prelude.{ℕ, Bool, cond, not, ◌||◌, List, [], ◌∷◌, ◌≡◌, length, eqb}
-use Rattle.wire.specs.refusals.Numbers.{TIME, BUFFER, SETUP, LOST, TOO-SOON, first_refusal}
+use Rattle.wire.specs.refusals.Numbers.{first_refusal}
+use Rattle.wire.specs.declared.refusals.Refusal.{Refusal}
+use Rattle.wire.specs.declared.refusals.Refusal.TheVariants as cause
 use Rattle.own.specs.declared.records.Setup.{Setup}
 use Rattle.own.specs.records.Setups.{valid_setup}
 use Rattle.own.specs.changes.Changes.{NewData, revised, change_of}
@@ -51,11 +53,13 @@ pub record Update : Type 0 where
   pub new : NewData
 
 -- "Refusals in the order 1, 3, 7 (state, or new data), 10, 11": new data that break the rules break them in the set-up that would have them
+abbrev pub update_tests : State → ℕ → ℕ → Setup → List (Refusal × Bool)
+update_tests s time room new =
+    (cause.Time, wrong_time s.progress time) ∷ ((cause.Buffer, small_buffer room) ∷ ((cause.Setup, wrong_state s || not (valid_setup new)) ∷
+    ((cause.Lost, changes.lost_to_update s.progress) ∷ ((cause.TooSoon, changes.too_soon s.progress time) ∷ []))))
+
 unfoldable pub refusal_to : State → ℕ → ℕ → Setup → ℕ
-refusal_to s time room new =
-    first_refusal
-    ((TIME, wrong_time s.progress time) ∷ ((BUFFER, small_buffer room) ∷ ((SETUP, wrong_state s || not (valid_setup new)) ∷
-    ((LOST, changes.lost_to_update s.progress) ∷ ((TOO-SOON, changes.too_soon s.progress time) ∷ [])))))
+refusal_to s time room new = first_refusal (update_tests s time room new)
 
 -- what an update does to the claims, and which record it announces
 abbrev pub renewed_of : State → ℕ → Change → announcements.Updated

@@ -1,18 +1,15 @@
-use native.Mathlib.Omega.{arith}
-use Rattle.txt.proofs.Keys.{empty-bad, bad_start, turn_bad, turn_good, all-good}
+use Rattle.std.proofs.Common.{rules}
+use Rattle.std.proofs.lemmas.Iterator.{YieldsList-from_slice}
+use Rattle.std.proofs.lemmas.Iterator.Search.{any_from_yields_List}
+use borrow.Author.Tests.{tests}
+use Rattle.txt.specs.Lookup.{bad_byte}
+use Rattle.txt.proofs.Keys.{bad_key_is}
 use Rattle.txt.proofs.bad_key.Goals as goal
 
-pub returns-then-key-eq0 : goal.returns-then-key-eq0
-returns-then-key-eq0 c = empty-bad _ c.if-key-eq0.true
+pub returns-then-is_empty : goal.returns-then-is_empty
+returns-then-is_empty c = rw (← bad_key_is) (search rules)
 
-pub loop-i-init : goal.loop-i-init
-loop-i-init c = (omega arith, bad_start _ c.if-key-eq0.false)
-
-pub returns-then-bad_byte : goal.returns-then-bad_byte
-returns-then-bad_byte c = turn_bad _ _ _ (omega arith) c.bad_byte.ensures c.loop-i.invariant.1 c.if-bad_byte.true
-
-pub loop-i-preserved : goal.loop-i-preserved
-loop-i-preserved c = (omega arith, turn_good _ _ _ (omega arith) c.bad_byte.ensures c.loop-i.invariant.1 c.if-bad_byte.false)
-
-pub returns : goal.returns
-returns c = all-good _ _ c.loop-i-test.false c.loop-i.invariant.1
+pub returns-else-is_empty : goal.returns-else-is_empty
+returns-else-is_empty c =
+    let e = any_from_yields_List bad_byte _ _ c.any.result c.any.ensures.ran (YieldsList-from_slice _ c.iter.ensures.rest) (λ x b q k. search (rules, tests)) in
+    rw (← bad_key_is) (search rules)

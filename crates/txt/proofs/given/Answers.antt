@@ -17,5 +17,5 @@ overflow_sub-len c = let h = key_in _ _ _ _ c.requires.0 c.requires.1 c.key_len-
 pub returns-then-len-eq0 : goal.returns-then-len-eq0
 returns-then-len-eq0 c = is-empty _ _ _ _ (omega arith) (omega arith) c.key_len-n.ensures _ c.if-end-start.false c.if-len-eq0.true
 
-pub returns : goal.returns
-returns c = is-value _ _ _ _ (omega arith) (omega arith) c.key_len-n.ensures _ c.if-end-start.false c.if-len-eq0.false
+pub returns-else-len-eq0 : goal.returns-else-len-eq0
+returns-else-len-eq0 c = is-value _ _ _ _ (omega arith) (omega arith) c.key_len-n.ensures _ c.if-end-start.false c.if-len-eq0.false

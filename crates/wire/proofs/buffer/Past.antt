@@ -1,13 +1,15 @@
 -- Stores past the end of a list change nothing. Assumes nothing.
 use mathlib.Core.Path.{◌≡◌, refl, sym, ap, ◌∙◌}
-use mathlib.Core.List.{List, [], ◌∷◌}
-use mathlib.Core.Bool.{Bool, true, false, cond}
-use Prim.Native.Nat.{ℕ, zero, suc, ◌+◌, ◌-◌, ◌≤◌, ◌<◌}
+use mathlib.Core.List.{List, [], ◌∷◌, ◌++◌}
+use mathlib.Core.Bool.{Bool, true, false}
+use Prim.Native.Nat.{ℕ, zero, suc, ◌+◌, ◌-◌, ◌≤◌, ◌<◌, min}
 use native.Mathlib.Omega.{arith}
 use lib.ListN.{length, take, drop, set, take-append-drop}
-use lib.Seq.{sets, length-sets, take_all, length-take-le}
-use lib.Dec.{ltb}
-use borrow.Author.Tests.{ltb-true, ltb-false}
+use lib.Seq.{sets, sets-eq, length-sets, take_all, length-take-le}
+use lib.Dec.{leb}
+use borrow.Author.Tests.{leb-true, leb-false}
+use borrow.Rule.Slice.PartMut.{put_mid}
+use Rattle.std.proofs.lemmas.List.{append_assoc, drop-drop}
 use Rattle.wire.proofs.octets.Sets.{sets-append}
 
 set_past : (l : List ℕ) (i v : ℕ) → length l ≤ i → set l i v ≡ l
@@ -27,21 +29,23 @@ sets-room l at n s h k =
     let f : length (sets l at (take n s)) ≤ at + length (take n s) = let g = length-sets l at (take n s) in omega (arith, g, e, k) in
     sym (sets-past (sets l at (take n s)) (at + length (take n s)) (drop n s) f) ∙ sets-append l at (take n s) (drop n s) ∙ ap (sets l at) (take-append-drop n s)
 
--- the lesser of two is at most each, and is one of them
-pub lesser-most : (a b n : ℕ) → n ≡ cond (ltb a b) a b → (n ≤ a) × (n ≤ b)
-lesser-most a b n e = go (ltb a b) refl e
-  where
-    go : (x : Bool) → ltb a b ≡ x → n ≡ cond x a b → (n ≤ a) × (n ≤ b)
-    go true t f = let l : a < b = ltb-true a b t in (omega (arith, f), omega (arith, f))
-    go false t f = let l : b ≤ a = ltb-false a b t in (omega (arith, f), omega (arith, f))
-
 -- so many of the bytes as there is room for, stored, are all of them stored
-pub sets-lesser : (l : List ℕ) (at : ℕ) (s : List ℕ) (n : ℕ) → at ≤ length l → n ≡ cond (ltb (length s) (length l - at)) (length s) (length l - at)
-    → sets l at (take n s) ≡ sets l at s
-sets-lesser l at s n h e = go (ltb (length s) (length l - at)) refl e
+pub sets-room_for : (l : List ℕ) (at : ℕ) (s : List ℕ) (n : ℕ) → at ≤ length l → n ≡ min (length s) (length l - at) → sets l at (take n s) ≡ sets l at s
+sets-room_for l at s n h e = go (leb (length s) (length l - at)) refl
   where
-    go : (x : Bool) → ltb (length s) (length l - at) ≡ x → n ≡ cond x (length s) (length l - at) → sets l at (take n s) ≡ sets l at s
-    go true t f = ap (sets l at) (take_all n s (omega (arith, f)))
-    go false t f =
-        let k : length l - at ≤ length s = ltb-false (length s) (length l - at) t in
-        sets-room l at n s (omega (arith, f)) (omega (arith, f))
+    go : (x : Bool) → leb (length s) (length l - at) ≡ x → sets l at (take n s) ≡ sets l at s
+    go true t = let k : length s ≤ length l - at = leb-true _ _ t in ap (sets l at) (take_all n s (omega (arith, e)))
+    go false t = let k : length l - at < length s = leb-false _ _ t in sets-room l at n s (omega (arith, e)) (omega (arith, e))
+
+-- bytes copied over a part of a buffer are stored there
+pub put-copied : (l s : List ℕ) (at n d : ℕ) (mid : List ℕ) → at < length l → n ≡ min (length s) (length l - at) → d ≡ n → mid ≡ take n s
+    → put_mid at d l mid ≡ sets l at s
+put-copied l s at n d mid h e z f =
+    let few : n ≤ length s = omega (arith, e) in
+    let room : at + n ≤ length l = omega (arith, e) in
+    let long : length (take n s) ≡ n = length-take-le n s few in
+    ap (λ (m : List ℕ). put_mid at d l m) f
+    ∙ ap (λ (r : List ℕ). take at l ++ (take n s ++ r)) (drop-drop d at l ∙ ap (λ (k : ℕ). drop (at + k) l) (z ∙ sym long))
+    ∙ sym (append_assoc (take at l) (take n s) (drop (at + length (take n s)) l))
+    ∙ sym (sets-eq (take n s) l at (omega (arith, long, room)))
+    ∙ sets-room_for l at s n (omega arith) e

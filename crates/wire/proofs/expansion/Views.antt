@@ -1,4 +1,5 @@
 -- The bytes of rdata: where it holds a name they have been opened, else they lie in the packet. Assumes nothing.
+use Rattle.std.specs.Prelude.{None, Some}
 use mathlib.Core.Path.{◌≡◌, refl, sym, ap, ap₂, ◌∙◌}
 use mathlib.Core.List.{List, [], ◌++◌, append_assoc}
 use mathlib.Core.Bool.{Bool, true, false, cond}
@@ -13,7 +14,6 @@ use Rattle.wire.proofs.octets.Sets.{sets-append, filled}
 use Rattle.wire.specs.names.Names.{Reading, name, malformed, name_at}
 use Rattle.wire.specs.names.Answers.{expanded}
 use Rattle.wire.specs.declared.names.Span.{Span}
-use Rattle.wire.specs.declared.names.Name.TheVariants as nam
 use Rattle.wire.specs.declared.names.Expanded.{Expanded}
 use Rattle.wire.proofs.names.Use.{as_expanded, as_unexpanded, at_most-255}
 use Rattle.wire.specs.rdata.Rdata.{Rdata, rdata, unfit, strings_fill, as_it_lies, ending_name, form_at, with_name, rdata_in, rdata_at}
@@ -44,10 +44,10 @@ module _ (p : List ℕ) (at len before behind : ℕ) (small : before + behind �
   back_long : length back ≡ behind
   back_long = length-take-le behind (drop to p) (omega (arith, length-drop to p))
 
-  pub opened-bad : e.name ≡ nam.Malformed → ◌≡◌ {A = Opened} (record { len = 0; bytes = replicate 289 0 }) (opened_name front back (name_at p (at + before)))
+  pub opened-bad : e.name ≡ None → ◌≡◌ {A = Opened} (record { len = 0; bytes = replicate 289 0 }) (opened_name front back (name_at p (at + before)))
   opened-bad k = simp (as_unexpanded (name_at p (at + before)) e e.name h refl k)
 
-  module _ (s : Span) (k : e.name ≡ nam.Found s) where
+  module _ (s : Span) (k : e.name ≡ Some s) where
     found : (bs : List ℕ) × (name_at p (at + before) ≡ name bs s.end) × (length bs ≡ s.len) × (take s.len e.bytes ≡ bs)
     found = as_expanded (name_at p (at + before)) e e.name s h refl k
 

@@ -1,4 +1,6 @@
 -- Whether rdata is as its type asks, by where the name in it ends; and what is past a question and a record. Assumes nothing.
+use Rattle.std.specs.Option.{option_eq}
+use Rattle.std.specs.Prelude.{None, Option, Some}
 use mathlib.Core.Path.{◌≡◌, refl, sym, ap, ◌∙◌}
 use mathlib.Core.List.{List, ◌++◌}
 use mathlib.Core.Bool.{Bool, true, false, cond}
@@ -18,27 +20,25 @@ use Rattle.wire.specs.message.Message.{ttl_of}
 use Rattle.wire.specs.message.Places.{past_item}
 use Rattle.wire.specs.long_message.Noted.{past_name, ends_at}
 use Rattle.wire.specs.declared.message.RecordAt.{RecordAt}
-use Rattle.wire.specs.declared.message.RecordRead.TheVariants as rec
-use Rattle.wire.specs.declared.message.Place.{Place}
-use Rattle.wire.specs.declared.message.Place.TheVariants.{At, Malformed}
 use Rattle.wire.proofs.rdata.Fits.{in_a, in_txt_lem, in_aaaa, in_other}
 use Rattle.wire.proofs.rdata.Restricted.{never_unfit}
 use Rattle.wire.proofs.message.Fields.{past_record_fits, past_record_unfit}
 
 -- a name that was passed
-pub as_past : (x : Reading) (r : Place) (e : ℕ) → r ≡ past_name x → r ≡ At e → (bs : List ℕ) × (x ≡ name bs e)
+pub as_past : (x : Reading) (r : (Option ℕ)) (e : ℕ) → r ≡ past_name x → r ≡ Some e → (bs : List ℕ) × (x ≡ name bs e)
 as_past (name bs d) r e h k = let g : d ≡ e = cc in (bs, ap (name bs) g)
 as_past malformed r e h k = let z : ◌≡◌ {A = ℕ} 0 1 = cc in absurd (omega arith)
 
-pub as_none : (x : Reading) (r : Place) → r ≡ past_name x → r ≡ Malformed → x ≡ malformed
+pub as_none : (x : Reading) (r : (Option ℕ)) → r ≡ past_name x → r ≡ None → x ≡ malformed
 as_none (name bs d) r h k = let z : ◌≡◌ {A = ℕ} 0 1 = cc in absurd (omega arith)
 as_none malformed r h k = refl
 
-pub ends_there : (p : List ℕ) (at : ℕ) (r : Place) (e end : ℕ) → r ≡ past_name (name_at p at) → r ≡ At e → eqb e end ≡ ends_at end (name_at p at)
-ends_there p at r e end h k = sym (ap (ends_at end) (as_past (name_at p at) r e h k).1)
-
-pub ends_nowhere : (p : List ℕ) (at : ℕ) (r : Place) (end : ℕ) → r ≡ past_name (name_at p at) → r ≡ Malformed → false ≡ ends_at end (name_at p at)
-ends_nowhere p at r end h k = sym (ap (ends_at end) (as_none (name_at p at) r h k))
+pub ends_as : (p : List ℕ) (at : ℕ) (r : Option ℕ) (end : ℕ) → r ≡ past_name (name_at p at) → option_eq eqb r (Some end) ≡ ends_at end (name_at p at)
+ends_as p at r end h = ap (λ (x : Option ℕ). option_eq eqb x (Some end)) h ∙ go (name_at p at)
+  where
+    go : (x : Reading) → option_eq eqb (past_name x) (Some end) ≡ ends_at end x
+    go (name bs e) = refl
+    go malformed = refl
 
 fits-cond : (b : Bool) (d : List ℕ) → fits (cond b (rdata d) unfit) ≡ b
 fits-cond true d = refl
@@ -125,36 +125,36 @@ same_rdata p f g owner type starts long = λ i.
     })
 
 -- past a question, and past a record whose rdata fits
-module _ (p : List ℕ) (at : ℕ) (r : Place) (h : r ≡ past_name (name_at p at)) where
-  module _ (k : r ≡ Malformed) where
+module _ (p : List ℕ) (at : ℕ) (r : (Option ℕ)) (h : r ≡ past_name (name_at p at)) where
+  module _ (k : r ≡ None) where
     none : name_at p at ≡ malformed
     none = as_none (name_at p at) r h k
 
-    pub no_question : Malformed ≡ past_item (question_at p at)
+    pub no_question : None ≡ past_item (question_at p at)
     unfolding question_at question_read
     no_question = simp none
 
-    pub no_record_lem : Malformed ≡ past_item (record_at p at)
+    pub no_record_lem : None ≡ past_item (record_at p at)
     unfolding record_at record_read
     no_record_lem = simp none
 
-  module _ (e : ℕ) (k : r ≡ At e) where
+  module _ (e : ℕ) (k : r ≡ Some e) where
     is : name_at p at ≡ name (as_past (name_at p at) r e h k).0 e
     is = (as_past (name_at p at) r e h k).1
 
-    pub question-short : length p < e + 4 → Malformed ≡ past_item (question_at p at)
+    pub question-short : length p < e + 4 → None ≡ past_item (question_at p at)
     unfolding question_at question_read
     question-short l = simp (is, lt-leb _ _ l)
 
-    pub question-past : e + 4 ≤ length p → At (e + 4) ≡ past_item (question_at p at)
+    pub question-past : e + 4 ≤ length p → Some (e + 4) ≡ past_item (question_at p at)
     unfolding question_at question_read
     question-past l = simp (is, le-leb _ _ l)
 
-    pub record_short : length p < e + 10 → Malformed ≡ past_item (record_at p at)
+    pub record_short : length p < e + 10 → None ≡ past_item (record_at p at)
     unfolding record_at record_read
     record_short l = simp (is, lt-leb _ _ l)
 
-    pub record_over_lem : e + 10 ≤ length p → length p < e + 10 + word16 p (e + 8) → Malformed ≡ past_item (record_at p at)
+    pub record_over_lem : e + 10 ≤ length p → length p < e + 10 + word16 p (e + 8) → None ≡ past_item (record_at p at)
     unfolding record_at record_read
     record_over_lem l o = simp (is, le-leb _ _ l, lt-leb _ _ o)
 
@@ -173,18 +173,18 @@ module _ (p : List ℕ) (at : ℕ) (r : Place) (h : r ≡ past_name (name_at p a
         next = e + 10 + word16 p (e + 8);
       }
 
-      read : record_read p at ≡ rec.Found lies
+      read : record_read p at ≡ Some lies
       unfolding record_read
       read = let o' : e + 10 + word16 p (e + 8) ≤ length p = omega arith in simp (is, le-leb _ _ l, le-leb _ _ o')
 
       same : v ≡ fits (rdata_at p lies)
       same = fit ∙ ap fits (same_rdata p f lies owner type starts long)
 
-      next_is : At (f.rdata + f.rdlength) ≡ At lies.next
-      next_is = let n : f.rdata + f.rdlength ≡ e + 10 + word16 p (e + 8) = omega arith in ap At n
+      next_is : Some (f.rdata + f.rdlength) ≡ Some lies.next
+      next_is = let n : f.rdata + f.rdlength ≡ e + 10 + word16 p (e + 8) = omega arith in ap Some n
 
-      pub record_fits_lem : v ≡ true → At (f.rdata + f.rdlength) ≡ past_item (record_at p at)
+      pub record_fits_lem : v ≡ true → Some (f.rdata + f.rdlength) ≡ past_item (record_at p at)
       record_fits_lem t = next_is ∙ past_record_fits p at (record_read p at) lies refl read v same t
 
-      pub record_unfit : v ≡ false → Malformed ≡ past_item (record_at p at)
+      pub record_unfit : v ≡ false → None ≡ past_item (record_at p at)
       record_unfit t = past_record_unfit p at (record_read p at) lies refl read v same t

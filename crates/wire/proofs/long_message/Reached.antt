@@ -1,4 +1,6 @@
 -- How far a name has been read while its length and its end are looked for. Assumes nothing.
+use Rattle.std.specs.Prelude.{None, Option, Some}
+use Rattle.wire.specs.declared.names.Span.{Span}
 use mathlib.Core.Path.{◌≡◌, refl, sym, ap, ◌∙◌}
 use mathlib.Core.Logic.{◌⊎◌, inl, inr}
 use mathlib.Core.List.{List}
@@ -13,22 +15,17 @@ use Rattle.wire.specs.long_message.Noted.{Noted, length_of, past_name}
 use Rattle.wire.specs.declared.name_pieces.Piece.{Piece}
 use Rattle.wire.specs.declared.name_pieces.Piece.TheVariants.{Root, Label, Pointer, Bad}
 use Rattle.wire.specs.declared.names.Reach.{Reach}
-use Rattle.wire.specs.declared.names.Copied.{Copied}
-use Rattle.wire.specs.declared.names.Copied.TheVariants as copied
-use Rattle.wire.specs.declared.names.Name.{Name}
-use Rattle.wire.specs.declared.names.Name.TheVariants as nam
-use Rattle.wire.specs.declared.message.Place.TheVariants.{At, Malformed}
 use Rattle.wire.proofs.names.Walked.{seen_root, seen_root_after, seen_label, seen_pointer, seen_bad, passed_first, passed_later}
 use Rattle.wire.proofs.long_message.Notes.{moved, fits-255}
 
 -- of a name of which `used` bytes were read before, its end in place and its length; `end` is past the first pointer, and 0 where none was followed
-unfoldable pub reached : ℕ → ℕ → Reading → Copied
-reached used end (name bs e) = copied.Found (reach_of (or_later end e) (used + length bs))
-reached used end malformed = copied.Malformed
+unfoldable pub reached : ℕ → ℕ → Reading → (Option Reach)
+reached used end (name bs e) = Some (reach_of (or_later end e) (used + length bs))
+reached used end malformed = None
 
-abbrev reached_by : Name → Copied
-reached_by (nam.Found s) = copied.Found (reach_of s.end s.len)
-reached_by nam.Malformed = copied.Malformed
+abbrev reached_by : (Option Span) → (Option Reach)
+reached_by (Some s) = Some (reach_of s.end s.len)
+reached_by None = None
 
 of_seen : (used end labels first : ℕ) (x : Reading) → reached_by (seen_of used end labels first x) ≡ reached used end x
 unfolding reached
@@ -40,36 +37,36 @@ unfolding name_at
 reached_start p at = refl
 
 -- the whole name, once it has been read
-module _ (x : Reading) (e n : ℕ) (h : reached 0 0 x ≡ copied.Found (reach_of e n)) where
-  pub past_found : At e ≡ past_name x
+module _ (x : Reading) (e n : ℕ) (h : reached 0 0 x ≡ Some (reach_of e n)) where
+  pub past_found : Some e ≡ past_name x
   unfolding reached
   past_found = go x h
     where
-      go : (y : Reading) → reached 0 0 y ≡ copied.Found (reach_of e n) → At e ≡ past_name y
-      go (name bs d) k = let s : reach_of (or_later 0 d) (0 + length bs) ≡ reach_of e n = cc in ap At (sym (ap (λ (y : Reach). y.end) s))
+      go : (y : Reading) → reached 0 0 y ≡ Some (reach_of e n) → Some e ≡ past_name y
+      go (name bs d) k = let s : reach_of (or_later 0 d) (0 + length bs) ≡ reach_of e n = cc in ap Some (sym (ap (λ (y : Reach). y.end) s))
       go malformed k = let z : ◌≡◌ {A = ℕ} 0 1 = cc in absurd (omega arith)
 
   pub long_found : n ≡ length_of x
   unfolding reached
   long_found = go x h
     where
-      go : (y : Reading) → reached 0 0 y ≡ copied.Found (reach_of e n) → n ≡ length_of y
+      go : (y : Reading) → reached 0 0 y ≡ Some (reach_of e n) → n ≡ length_of y
       go (name bs d) k = let s : reach_of (or_later 0 d) (0 + length bs) ≡ reach_of e n = cc in omega (arith, ap (λ (y : Reach). y.len) s)
       go malformed k = let z : ◌≡◌ {A = ℕ} 0 1 = cc in absurd (omega arith)
 
-pub past_malformed : (x : Reading) → reached 0 0 x ≡ copied.Malformed → Malformed ≡ past_name x
+pub past_malformed : (x : Reading) → reached 0 0 x ≡ None → None ≡ past_name x
 unfolding reached
 past_malformed (name bs d) k = let z : ◌≡◌ {A = ℕ} 0 1 = cc in absurd (omega arith)
 past_malformed malformed k = refl
 
 module _ (p : List ℕ) (start at used end : ℕ) (r : Piece) (is : r ≡ piece_at p start at used) where
-  pub reached_root : r ≡ Root → end ≡ 0 → reached used end (from_run p start at used) ≡ copied.Found (reach_of (at + 1) (used + 1))
+  pub reached_root : r ≡ Root → end ≡ 0 → reached used end (from_run p start at used) ≡ Some (reach_of (at + 1) (used + 1))
   reached_root e z = sym (of_seen used end 0 0 (from_run p start at used)) ∙ sym (ap reached_by (seen_root p start at used end 0 0 r is e z))
 
-  pub reached_root_after : r ≡ Root → (end ≡ 0 → ⊥) → reached used end (from_run p start at used) ≡ copied.Found (reach_of end (used + 1))
+  pub reached_root_after : r ≡ Root → (end ≡ 0 → ⊥) → reached used end (from_run p start at used) ≡ Some (reach_of end (used + 1))
   reached_root_after e z = sym (of_seen used end 0 0 (from_run p start at used)) ∙ sym (ap reached_by (seen_root_after p start at used end 0 0 r is e z))
 
-  pub reached_bad : r ≡ Bad → reached used end (from_run p start at used) ≡ copied.Malformed
+  pub reached_bad : r ≡ Bad → reached used end (from_run p start at used) ≡ None
   reached_bad e = sym (of_seen used end 0 0 (from_run p start at used)) ∙ sym (ap reached_by (seen_bad p start at used end 0 0 r is e))
 
   pub reached_label : (n : ℕ) → r ≡ Label n → reached used end (from_run p start at used) ≡ reached (used + 1 + n) end (from_run p start (at + 1 + n) (used + 1 + n))
@@ -105,20 +102,20 @@ module _ (p : List ℕ) (start at used end : ℕ) (r : Piece) (is : r ≡ piece_
           go malformed g l = absurd (omega arith)
 
       known : used + get_or noted t 0 ≤ 255
-          → reached used end (from_run p start at used) ≡ copied.Found (reach_of (or_later end (at + 2)) (used + get_or noted t 0))
+          → reached used end (from_run p start at used) ≡ Some (reach_of (or_later end (at + 2)) (used + get_or noted t 0))
       known fits =
           let k = known-name in
           let m : from_run p t t used ≡ name k.0 k.1 = moved p t 0 used k.0 k.1 k.2 (omega (arith, k.3)) in
           to_target ∙ ap (λ (x : Reading). reached_by (seen_of used end 0 0 (ending (at + 2) x))) m
-          ∙ ap (λ (n : ℕ). copied.Found (reach_of (or_later end (at + 2)) (used + n))) k.3
+          ∙ ap (λ (n : ℕ). Some (reach_of (or_later end (at + 2)) (used + n))) k.3
 
-      pub known-first : end ≡ 0 → used + get_or noted t 0 ≤ 255 → reached used end (from_run p start at used) ≡ copied.Found (reach_of (at + 2) (used + get_or noted t 0))
-      known-first z fits = known fits ∙ ap (λ (d : ℕ). copied.Found (reach_of d (used + get_or noted t 0))) (simp (eq-eqb _ _ z))
+      pub known-first : end ≡ 0 → used + get_or noted t 0 ≤ 255 → reached used end (from_run p start at used) ≡ Some (reach_of (at + 2) (used + get_or noted t 0))
+      known-first z fits = known fits ∙ ap (λ (d : ℕ). Some (reach_of d (used + get_or noted t 0))) (simp (eq-eqb _ _ z))
 
-      pub known-later : (end ≡ 0 → ⊥) → used + get_or noted t 0 ≤ 255 → reached used end (from_run p start at used) ≡ copied.Found (reach_of end (used + get_or noted t 0))
-      known-later z fits = known fits ∙ ap (λ (d : ℕ). copied.Found (reach_of d (used + get_or noted t 0))) (simp (ne_eqb _ _ z))
+      pub known-later : (end ≡ 0 → ⊥) → used + get_or noted t 0 ≤ 255 → reached used end (from_run p start at used) ≡ Some (reach_of end (used + get_or noted t 0))
+      known-later z fits = known fits ∙ ap (λ (d : ℕ). Some (reach_of d (used + get_or noted t 0))) (simp (ne_eqb _ _ z))
 
-      pub known_over : used < 255 → 255 < used + get_or noted t 0 → reached used end (from_run p start at used) ≡ copied.Malformed
+      pub known_over : used < 255 → 255 < used + get_or noted t 0 → reached used end (from_run p start at used) ≡ None
       known_over u over = to_target ∙ ap (λ (x : Reading). reached_by (seen_of used end 0 0 (ending (at + 2) x))) (go (from_run p t t used) refl)
         where
           go : (x : Reading) → from_run p t t used ≡ x → x ≡ malformed

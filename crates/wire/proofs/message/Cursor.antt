@@ -1,4 +1,7 @@
 -- For callers: walking a section with a cursor meets exactly the elements of its list, and never anything malformed. Assumes nothing.
+use Rattle.wire.specs.declared.refusals.Refusal.TheVariants.{Length, Header}
+use Rattle.std.specs.Prelude.{Err, None, Ok, Option, Result, Some}
+use Rattle.wire.specs.declared.refusals.Refusal.{Refusal}
 use mathlib.Core.Path.{◌≡◌, refl, sym, ap, ◌∙◌}
 use mathlib.Core.List.{List, [], ◌∷◌}
 use mathlib.Core.Bool.{Bool, true, false, cond, ◌&&◌}
@@ -16,14 +19,8 @@ use Rattle.wire.specs.rdata.Rdata.{Rdata, rdata, unfit, rdata_at}
 use Rattle.wire.specs.message.Message.{Question, Record, record_of, Message, ttl_of}
 use Rattle.wire.specs.message.Layout.{question_from, question_read, record_from, record_read, Item, item, broken, bytes_of, question_meant, question_at, with_rdata, record_meant, record_at, Listing, listing, cut, first, and_on, list_from, Reads, read, refused, and_then, sections_of, wrong_length, wrong_header, message_at, read_of}
 use Rattle.wire.specs.declared.message.QuestionAt.{QuestionAt}
-use Rattle.wire.specs.declared.message.QuestionRead.{QuestionRead}
-use Rattle.wire.specs.declared.message.QuestionRead.TheVariants as q
 use Rattle.wire.specs.declared.message.RecordAt.{RecordAt}
-use Rattle.wire.specs.declared.message.RecordRead.{RecordRead}
-use Rattle.wire.specs.declared.message.RecordRead.TheVariants as r
 use Rattle.wire.specs.declared.message.Layout.{Layout}
-use Rattle.wire.specs.declared.message.MessageRead.{MessageRead}
-use Rattle.wire.specs.declared.message.MessageRead.TheVariants as m
 use Rattle.wire.proofs.message.Ends.{list_one, list_none}
 
 -- One element of a section: what stands at the cursor is the list's first element, and the others follow it.
@@ -60,7 +57,7 @@ module _ {A : Type 0} (part : ℕ → Item A) (n at : ℕ) (xs : List A) (end : 
 -- A question at the cursor: its fields as they lie, and what they say.
 pub record QuestionHere (p : List ℕ) (at : ℕ) (x : Question) (next : ℕ) : Type 0 where
   pub fields : QuestionAt
-  pub found : question_read p at ≡ q.Found fields
+  pub found : question_read p at ≡ Some fields
   pub place : fields.name ≡ at
   pub span : fields.span.len ≡ length x.name
   pub labels : fields.span.labels ≡ labels_in x.name
@@ -74,7 +71,7 @@ pub record QuestionHere (p : List ℕ) (at : ℕ) (x : Question) (next : ℕ) : 
 -- A record at the cursor: its fields as they lie, and what they say.
 pub record RecordHere (p : List ℕ) (at : ℕ) (x : Record) (next : ℕ) : Type 0 where
   pub fields : RecordAt
-  pub found : record_read p at ≡ r.Found fields
+  pub found : record_read p at ≡ Some fields
   pub place : fields.owner ≡ at
   pub span : fields.span.len ≡ length x.owner
   pub labels : fields.span.labels ≡ labels_in x.owner
@@ -105,10 +102,10 @@ record_made p at bs e = record {
 }
 
 -- the fields of a question are its own: the name starts where it was read
-pub question-fields : (p : List ℕ) (at : ℕ) (y : Reading) (f : QuestionAt) → question_from p at y ≡ q.Found f → (f.name ≡ at) × ((d : ℕ) × (f.span ≡ span_of (bytes_of y) d)) × ((e : ℕ) × (y ≡ name (bytes_of y) e))
+pub question-fields : (p : List ℕ) (at : ℕ) (y : Reading) (f : QuestionAt) → question_from p at y ≡ Some f → (f.name ≡ at) × ((d : ℕ) × (f.span ≡ span_of (bytes_of y) d)) × ((e : ℕ) × (y ≡ name (bytes_of y) e))
 question-fields p at (name bs e) f h = go (leb (e + 4) (length p)) h
   where
-    go : (b : Bool) → cond b (q.Found (question_made p at bs e)) q.Malformed ≡ q.Found f → (f.name ≡ at) × ((d : ℕ) × (f.span ≡ span_of bs d)) × ((d : ℕ) × (name bs e ≡ name bs d))
+    go : (b : Bool) → cond b (Some (question_made p at bs e)) None ≡ Some f → (f.name ≡ at) × ((d : ℕ) × (f.span ≡ span_of bs d)) × ((d : ℕ) × (name bs e ≡ name bs d))
     go true g =
         let k : question_made p at bs e ≡ f = cc in
         (ap (λ (y : QuestionAt). y.name) (sym k), (e, ap (λ (y : QuestionAt). y.span) (sym k)), (e, refl))
@@ -119,8 +116,8 @@ pub question-here : (p : List ℕ) (at : ℕ) (x : Question) (next : ℕ) → qu
 unfolding question_at question_read
 question-here p at x next h = go (question_read p at) refl h
   where
-    go : (a : QuestionRead) → question_read p at ≡ a → question_meant (bytes_of (name_at p at)) a ≡ item x next → QuestionHere p at x next
-    go (q.Found f) e g =
+    go : (a : (Option QuestionAt)) → question_read p at ≡ a → question_meant (bytes_of (name_at p at)) a ≡ item x next → QuestionHere p at x next
+    go (Some f) e g =
         let k = question-fields p at (name_at p at) f e in
         let same : record { name = bytes_of (name_at p at); rtype = f.rtype; class = f.class } ≡ x = cc in
         let bytes : bytes_of (name_at p at) ≡ x.name = ap (λ (y : Question). y.name) same in
@@ -137,13 +134,13 @@ question-here p at x next h = go (question_read p at) refl h
           end = k.2.0;
           named = k.2.1 ∙ ap (λ (l : List ℕ). name l k.2.0) bytes;
         }
-    go q.Malformed e g = let z : ◌≡◌ {A = ℕ} 0 1 = cc in absurd (omega arith)
+    go None e g = let z : ◌≡◌ {A = ℕ} 0 1 = cc in absurd (omega arith)
 
-pub record_fields : (p : List ℕ) (at : ℕ) (y : Reading) (f : RecordAt) → record_from p at y ≡ r.Found f
+pub record_fields : (p : List ℕ) (at : ℕ) (y : Reading) (f : RecordAt) → record_from p at y ≡ Some f
     → (f.owner ≡ at) × ((d : ℕ) × (f.span ≡ span_of (bytes_of y) d)) × ((e : ℕ) × (y ≡ name (bytes_of y) e)) × (f.rdata + f.rdlength ≤ length p)
 record_fields p at (name bs e) f h = go (leb (e + 10) (length p)) (leb (e + 10 + word16 p (e + 8)) (length p)) refl h
   where
-    go : (a b : Bool) → leb (e + 10 + word16 p (e + 8)) (length p) ≡ b → cond (a && b) (r.Found (record_made p at bs e)) r.Malformed ≡ r.Found f
+    go : (a b : Bool) → leb (e + 10 + word16 p (e + 8)) (length p) ≡ b → cond (a && b) (Some (record_made p at bs e)) None ≡ Some f
         → (f.owner ≡ at) × ((d : ℕ) × (f.span ≡ span_of bs d)) × ((d : ℕ) × (name bs e ≡ name bs d)) × (f.rdata + f.rdlength ≤ length p)
     go true true l g =
         let k : record_made p at bs e ≡ f = cc in
@@ -162,7 +159,7 @@ pub record_here : (p : List ℕ) (at : ℕ) (x : Record) (next : ℕ) → record
 unfolding record_at record_read
 record_here p at x next h = go (record_read p at) refl h
   where
-    on : (f : RecordAt) (y : Rdata) → record_read p at ≡ r.Found f → rdata_at p f ≡ y → with_rdata (bytes_of (name_at p at)) f y ≡ item x next → RecordHere p at x next
+    on : (f : RecordAt) (y : Rdata) → record_read p at ≡ Some f → rdata_at p f ≡ y → with_rdata (bytes_of (name_at p at)) f y ≡ item x next → RecordHere p at x next
     on f (rdata d) e is g =
         let k = record_fields p at (name_at p at) f e in
         let same : record_of (bytes_of (name_at p at)) f.rtype f.class f.ttl d ≡ x = cc in
@@ -185,44 +182,44 @@ record_here p at x next h = go (record_read p at) refl h
         }
     on f unfit e is g = let z : ◌≡◌ {A = ℕ} 0 1 = cc in absurd (omega arith)
 
-    go : (a : RecordRead) → record_read p at ≡ a → record_meant p (bytes_of (name_at p at)) a ≡ item x next → RecordHere p at x next
-    go (r.Found f) e g = on f (rdata_at p f) e refl g
-    go r.Malformed e g = let z : ◌≡◌ {A = ℕ} 0 1 = cc in absurd (omega arith)
+    go : (a : (Option RecordAt)) → record_read p at ≡ a → record_meant p (bytes_of (name_at p at)) a ≡ item x next → RecordHere p at x next
+    go (Some f) e g = on f (rdata_at p f) e refl g
+    go None e g = let z : ◌≡◌ {A = ℕ} 0 1 = cc in absurd (omega arith)
 
 -- What a caller learns at the cursor from the answer of `question_at` or `record_at`, in a section that has been checked.
-module _ (p : List ℕ) (n at : ℕ) (xs : List Question) (end : ℕ) (h : list_from (question_at p) n at ≡ listing xs end) (lt : 0 < n) (a : QuestionRead) (is : a ≡ question_read p at) where
-  pub question-never_malformed : a ≡ q.Malformed → ⊥
+module _ (p : List ℕ) (n at : ℕ) (xs : List Question) (end : ℕ) (h : list_from (question_at p) n at ≡ listing xs end) (lt : 0 < n) (a : (Option QuestionAt)) (is : a ≡ question_read p at) where
+  pub question-never_malformed : a ≡ None → ⊥
   question-never_malformed e =
       let s = step (question_at p) n at xs end h lt in
       let k = question-here p at s.head s.next s.here in
-      let f : q.Found k.fields ≡ q.Malformed = sym k.found ∙ sym is ∙ e in
+      let f : Some k.fields ≡ None = sym k.found ∙ sym is ∙ e in
       let z : ◌≡◌ {A = ℕ} 0 1 = cc in omega arith
 
   -- the question at the cursor is the list's first, and the cursor goes on to the others
-  pub question-met : (f : QuestionAt) → a ≡ q.Found f
+  pub question-met : (f : QuestionAt) → a ≡ Some f
       → (s : Step (question_at p) n at xs end) × (k : QuestionHere p at s.head s.next) × (k.fields ≡ f) × (list_from (question_at p) (n - 1) f.next ≡ listing s.rest end)
   question-met f e =
       let s = step (question_at p) n at xs end h lt in
       let k = question-here p at s.head s.next s.here in
-      let g : q.Found k.fields ≡ q.Found f = sym k.found ∙ sym is ∙ e in
+      let g : Some k.fields ≡ Some f = sym k.found ∙ sym is ∙ e in
       let same : k.fields ≡ f = cc in
       (s, k, same, ap (list_from (question_at p) (n - 1)) (sym (ap (λ (y : QuestionAt). y.next) same) ∙ k.past) ∙ s.on)
 
-module _ (p : List ℕ) (n at : ℕ) (xs : List Record) (end : ℕ) (h : list_from (record_at p) n at ≡ listing xs end) (lt : 0 < n) (a : RecordRead) (is : a ≡ record_read p at) where
-  pub record_never_malformed : a ≡ r.Malformed → ⊥
+module _ (p : List ℕ) (n at : ℕ) (xs : List Record) (end : ℕ) (h : list_from (record_at p) n at ≡ listing xs end) (lt : 0 < n) (a : (Option RecordAt)) (is : a ≡ record_read p at) where
+  pub record_never_malformed : a ≡ None → ⊥
   record_never_malformed e =
       let s = step (record_at p) n at xs end h lt in
       let k = record_here p at s.head s.next s.here in
-      let f : r.Found k.fields ≡ r.Malformed = sym k.found ∙ sym is ∙ e in
+      let f : Some k.fields ≡ None = sym k.found ∙ sym is ∙ e in
       let z : ◌≡◌ {A = ℕ} 0 1 = cc in omega arith
 
   -- the record at the cursor is the list's first, and the cursor goes on to the others
-  pub record_met : (f : RecordAt) → a ≡ r.Found f
+  pub record_met : (f : RecordAt) → a ≡ Some f
       → (s : Step (record_at p) n at xs end) × (k : RecordHere p at s.head s.next) × (k.fields ≡ f) × (list_from (record_at p) (n - 1) f.next ≡ listing s.rest end)
   record_met f e =
       let s = step (record_at p) n at xs end h lt in
       let k = record_here p at s.head s.next s.here in
-      let g : r.Found k.fields ≡ r.Found f = sym k.found ∙ sym is ∙ e in
+      let g : Some k.fields ≡ Some f = sym k.found ∙ sym is ∙ e in
       let same : k.fields ≡ f = cc in
       (s, k, same, ap (list_from (record_at p) (n - 1)) (sym (ap (λ (y : RecordAt). y.next) same) ∙ k.past) ∙ s.on)
 
@@ -247,7 +244,7 @@ past_tests : (p : List ℕ) (l : Layout) (says : Message) → message_at p ≡ r
 unfolding message_at
 past_tests p l says h = go (wrong_length p) (wrong_header p) h
   where
-    go : (a b : Bool) → cond a (refused 4) (cond b (refused 5) (sections_of p)) ≡ read l says → sections_of p ≡ read l says
+    go : (a b : Bool) → cond a (refused Length) (cond b (refused Header) (sections_of p)) ≡ read l says → sections_of p ≡ read l says
     go true b e = let z : ◌≡◌ {A = ℕ} 0 1 = cc in absurd (omega arith)
     go false true e = let z : ◌≡◌ {A = ℕ} 0 1 = cc in absurd (omega arith)
     go false false e = e
@@ -275,10 +272,10 @@ sections p l says h =
     both a b i x y j s = rw (sym i, sym j) s
 
 -- What a caller of `read_message` learns from its answer.
-pub as_read : (x : Reads) (a : MessageRead) (l : Layout) → a ≡ read_of x → a ≡ m.Read l → (says : Message) × (x ≡ read l says)
+pub as_read : (x : Reads) (a : (Result Layout Refusal)) (l : Layout) → a ≡ read_of x → a ≡ Ok l → (says : Message) × (x ≡ read l says)
 as_read (read k says) a l h e = let i : k ≡ l = cc in (says, ap (λ (y : Layout). read y says) i)
 as_read (refused n) a l h e = let z : ◌≡◌ {A = ℕ} 0 1 = cc in absurd (omega arith)
 
-pub as_refused : (x : Reads) (a : MessageRead) (n : ℕ) → a ≡ read_of x → a ≡ m.Refused n → x ≡ refused n
+pub as_refused : (x : Reads) (a : Result Layout Refusal) (n : Refusal) → a ≡ read_of x → a ≡ Err n → x ≡ refused n
 as_refused (read k says) a n h e = let z : ◌≡◌ {A = ℕ} 0 1 = cc in absurd (omega arith)
 as_refused (refused k) a n h e = let i : k ≡ n = cc in ap refused i

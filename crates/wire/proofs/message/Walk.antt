@@ -1,5 +1,6 @@
 -- For callers: walking a section of any layout meets what the section shows, a question or record at a time. Of the layout that `read_message` gave
 -- that is the message that was read. Assumes nothing.
+use Rattle.std.specs.Prelude.{None, Option, Some}
 use mathlib.Core.Path.{◌≡◌, refl, sym, ap, ◌∙◌}
 use mathlib.Core.List.{List, [], ◌∷◌}
 use mathlib.Core.Bool.{Bool, true, false, cond, ◌||◌}
@@ -18,11 +19,7 @@ use Rattle.wire.specs.message.Message.{record_of, Message}
 use Rattle.wire.specs.message.Layout.{Item, item, broken, Listing, listing, cut, first, and_on, list_from, bytes_of, question_read, question_meant, question_at, record_read, with_rdata, record_meant, record_at, read, message_at}
 use Rattle.wire.specs.message.Readable.{and_more, readable, message_in, whole_from, whole_read, question_shown, record_shown}
 use Rattle.wire.specs.declared.message.QuestionAt.{QuestionAt}
-use Rattle.wire.specs.declared.message.QuestionRead.{QuestionRead}
-use Rattle.wire.specs.declared.message.QuestionRead.TheVariants as q
 use Rattle.wire.specs.declared.message.RecordAt.{RecordAt}
-use Rattle.wire.specs.declared.message.RecordRead.{RecordRead}
-use Rattle.wire.specs.declared.message.RecordRead.TheVariants as r
 use Rattle.wire.specs.declared.message.Layout.{Layout}
 use Rattle.wire.proofs.message.Cursor.{question-fields, record_fields, Sections, sections}
 
@@ -121,12 +118,12 @@ pub record QuestionMet (p : List ℕ) (at : ℕ) (f : QuestionAt) : Type 0 where
   pub named : (other : List ℕ) → name_is p f.name other ≡ same_name (question_shown p f).name other
 
 -- what a caller of `question_at` learns from its answer
-module _ (p : List ℕ) (at : ℕ) (a : QuestionRead) (is : a ≡ question_read p at) where
-  pub question-broken : a ≡ q.Malformed → question_at p at ≡ broken
+module _ (p : List ℕ) (at : ℕ) (a : (Option QuestionAt)) (is : a ≡ question_read p at) where
+  pub question-broken : a ≡ None → question_at p at ≡ broken
   unfolding question_at
   question-broken e = ap (question_meant (bytes_of (name_at p at))) (sym is ∙ e)
 
-  pub question-found : (f : QuestionAt) → a ≡ q.Found f → QuestionMet p at f
+  pub question-found : (f : QuestionAt) → a ≡ Some f → QuestionMet p at f
   unfolding question_at question_read
   question-found f e =
       let k = question-fields p at (name_at p at) f (sym is ∙ e) in
@@ -156,41 +153,41 @@ has-bytes (rdata d) h = refl
 has-bytes unfit h = let z : ◌≡◌ {A = ℕ} 0 1 = cc in absurd (omega arith)
 
 -- the answers of `whole_record`
-module _ (p : List ℕ) (at : ℕ) (a : RecordRead) (is : a ≡ record_read p at) where
-  pub whole-bad : a ≡ r.Malformed → r.Malformed ≡ whole_read p at
+module _ (p : List ℕ) (at : ℕ) (a : (Option RecordAt)) (is : a ≡ record_read p at) where
+  pub whole-bad : a ≡ None → None ≡ whole_read p at
   unfolding whole_read
   whole-bad e = sym (ap (whole_from p) (sym is ∙ e))
 
-  module _ (f : RecordAt) (e : a ≡ r.Found f) (v : Bool) (fit : v ≡ fits (rdata_at p f)) where
-    tested : whole_read p at ≡ cond v (r.Found f) r.Malformed
+  module _ (f : RecordAt) (e : a ≡ Some f) (v : Bool) (fit : v ≡ fits (rdata_at p f)) where
+    tested : whole_read p at ≡ cond v (Some f) None
     unfolding whole_read
-    tested = ap (whole_from p) (sym is ∙ e) ∙ ap (λ (b : Bool). cond b (r.Found f) r.Malformed) (sym fit)
+    tested = ap (whole_from p) (sym is ∙ e) ∙ ap (λ (b : Bool). cond b (Some f) None) (sym fit)
 
-    pub whole-found : v ≡ true → r.Found f ≡ whole_read p at
-    whole-found t = sym (tested ∙ ap (λ (b : Bool). cond b (r.Found f) r.Malformed) t)
+    pub whole-found : v ≡ true → Some f ≡ whole_read p at
+    whole-found t = sym (tested ∙ ap (λ (b : Bool). cond b (Some f) None) t)
 
-    pub whole-unfit : v ≡ false → r.Malformed ≡ whole_read p at
-    whole-unfit t = sym (tested ∙ ap (λ (b : Bool). cond b (r.Found f) r.Malformed) t)
+    pub whole-unfit : v ≡ false → None ≡ whole_read p at
+    whole-unfit t = sym (tested ∙ ap (λ (b : Bool). cond b (Some f) None) t)
 
 -- what a caller of `whole_record` learns from its answer
-module _ (p : List ℕ) (at : ℕ) (a : RecordRead) (is : a ≡ whole_read p at) where
-  pub record_broken : a ≡ r.Malformed → record_at p at ≡ broken
+module _ (p : List ℕ) (at : ℕ) (a : (Option RecordAt)) (is : a ≡ whole_read p at) where
+  pub record_broken : a ≡ None → record_at p at ≡ broken
   unfolding record_at whole_read
   record_broken e = go (record_read p at) refl (sym is ∙ e)
     where
-      on : (f : RecordAt) (x : Rdata) → cond (fits x) (r.Found f) r.Malformed ≡ r.Malformed → with_rdata (bytes_of (name_at p at)) f x ≡ broken
+      on : (f : RecordAt) (x : Rdata) → cond (fits x) (Some f) None ≡ None → with_rdata (bytes_of (name_at p at)) f x ≡ broken
       on f (rdata d) k = let z : ◌≡◌ {A = ℕ} 0 1 = cc in absurd (omega arith)
       on f unfit k = refl
 
-      go : (y : RecordRead) → record_read p at ≡ y → whole_from p y ≡ r.Malformed → record_meant p (bytes_of (name_at p at)) y ≡ broken
-      go (r.Found f) h k = on f (rdata_at p f) k
-      go r.Malformed h k = refl
+      go : (y : (Option RecordAt)) → record_read p at ≡ y → whole_from p y ≡ None → record_meant p (bytes_of (name_at p at)) y ≡ broken
+      go (Some f) h k = on f (rdata_at p f) k
+      go None h k = refl
 
-  pub record_found : (f : RecordAt) → a ≡ r.Found f → RecordMet p at f
+  pub record_found : (f : RecordAt) → a ≡ Some f → RecordMet p at f
   unfolding record_at whole_read record_read
   record_found f e = go (record_read p at) refl (sym is ∙ e)
     where
-      met : record_read p at ≡ r.Found f → fits (rdata_at p f) ≡ true → RecordMet p at f
+      met : record_read p at ≡ Some f → fits (rdata_at p f) ≡ true → RecordMet p at f
       met h fit =
           let k = record_fields p at (name_at p at) f h in
           let bytes : bytes_of (name_at p at) ≡ bytes_of (name_at p f.owner) = ap (λ (n : ℕ). bytes_of (name_at p n)) (sym k.0) in
@@ -211,12 +208,12 @@ module _ (p : List ℕ) (at : ℕ) (a : RecordRead) (is : a ≡ whole_read p at)
             content = content;
           }
 
-      on : (g : RecordAt) (b : Bool) → fits (rdata_at p g) ≡ b → record_read p at ≡ r.Found g → cond b (r.Found g) r.Malformed ≡ r.Found f → RecordMet p at f
+      on : (g : RecordAt) (b : Bool) → fits (rdata_at p g) ≡ b → record_read p at ≡ Some g → cond b (Some g) None ≡ Some f → RecordMet p at f
       on g true fit h k =
           let same : g ≡ f = cc in
           met (h ∙ k) (ap (λ (y : RecordAt). fits (rdata_at p y)) (sym same) ∙ fit)
       on g false fit h k = let z : ◌≡◌ {A = ℕ} 0 1 = cc in absurd (omega arith)
 
-      go : (y : RecordRead) → record_read p at ≡ y → whole_from p y ≡ r.Found f → RecordMet p at f
-      go (r.Found g) h k = on g (fits (rdata_at p g)) refl h k
-      go r.Malformed h k = let z : ◌≡◌ {A = ℕ} 0 1 = cc in absurd (omega arith)
+      go : (y : (Option RecordAt)) → record_read p at ≡ y → whole_from p y ≡ Some f → RecordMet p at f
+      go (Some g) h k = on g (fits (rdata_at p g)) refl h k
+      go None h k = let z : ◌≡◌ {A = ℕ} 0 1 = cc in absurd (omega arith)

@@ -1,4 +1,5 @@
 -- What each piece of a name makes of the walk: what is then read and written. Assumes nothing.
+use Rattle.std.specs.Prelude.{None, Option, Some}
 use mathlib.Core.Path.{◌≡◌, refl, sym, ap, ◌∙◌}
 use mathlib.Core.List.{List, ◌∷◌, ◌++◌}
 use mathlib.Core.Bool.{Bool, true, false, cond}
@@ -18,9 +19,6 @@ use Rattle.wire.specs.declared.name_pieces.Piece.{Piece}
 use Rattle.wire.specs.declared.name_pieces.Piece.TheVariants.{Root, Label, Pointer, Bad}
 use Rattle.wire.specs.labels.Counted.{starts, labels_in, first_in}
 use Rattle.wire.specs.declared.names.Reach.{Reach}
-use Rattle.wire.specs.declared.names.Copied.{Copied}
-use Rattle.wire.specs.declared.names.Copied.TheVariants as copied
-use Rattle.wire.specs.declared.names.Name.TheVariants.{Found, Malformed}
 use Rattle.wire.proofs.names.Rest.{read_at}
 use Rattle.wire.proofs.name_pieces.Pieces.{is-label, label-in, pointer_back}
 use Rattle.wire.proofs.labels.Counted.{label-before}
@@ -39,13 +37,13 @@ module _ (p : List ℕ) (start at used : ℕ) (r : Piece) (is : r ≡ piece_at p
   at_piece : (x : Piece) → r ≡ x → piece_at p start at used ≡ x
   at_piece x e = sym is ∙ e
 
-  pub wrote_bad : (o o' : List ℕ) → r ≡ Bad → Wrote (from_run p start at used) used o copied.Malformed o'
+  pub wrote_bad : (o o' : List ℕ) → r ≡ Bad → Wrote (from_run p start at used) used o None o'
   wrote_bad o o' e = rw (read_at p start at used Bad (at_piece Bad e)) (record { answer = refl; bytes = tt })
 
-  pub wrote_root : (o : List ℕ) → r ≡ Root → Wrote (from_run p start at used) used o (copied.Found (reach_of (at + 1) (used + 1))) (set o used 0)
+  pub wrote_root : (o : List ℕ) → r ≡ Root → Wrote (from_run p start at used) used o (Some (reach_of (at + 1) (used + 1))) (set o used 0)
   wrote_root o e = rw (read_at p start at used Root (at_piece Root e)) (record { answer = refl; bytes = refl })
 
-  pub wrote_label : (n : ℕ) (o o₁ : List ℕ) (a : Copied) (o' : List ℕ) → r ≡ Label n
+  pub wrote_label : (n : ℕ) (o o₁ : List ℕ) (a : (Option Reach)) (o' : List ℕ) → r ≡ Label n
       → o₁ ≡ sets o used (take (at + 1 + n - at) (drop at p))
       → Wrote (from_run p start (at + 1 + n) (used + 1 + n)) (used + 1 + n) o₁ a o' → Wrote (from_run p start at used) used o a o'
   wrote_label n o o₁ a o' e w rest = rw (read_at p start at used (Label n) (at_piece (Label n) e)) (go (from_run p start (at + 1 + n) (used + 1 + n)) rest)
@@ -61,14 +59,14 @@ module _ (p : List ℕ) (start at used : ℕ) (r : Piece) (is : r ≡ piece_at p
 
       go : (x : Reading) → Wrote x (used + 1 + n) o₁ a o' → Wrote (before xs x) used o a o'
       go (name ys d) g = record {
-        answer = g.answer ∙ ap (λ (k : ℕ). copied.Found (reach_of d k)) (omega (arith, length-append xs ys, long));
+        answer = g.answer ∙ ap (λ (k : ℕ). Some (reach_of d k)) (omega (arith, length-append xs ys, long));
         bytes =
             g.bytes ∙ ap (λ (l : List ℕ). sets l (used + 1 + n) ys) (w ∙ ap (sets o used) same)
             ∙ ap (λ (k : ℕ). sets (sets o used xs) k ys) (omega (arith, long)) ∙ sets-append o used xs ys;
       }
       go malformed g = record { answer = g.answer; bytes = tt }
 
-  pub wrote_pointer : (t : ℕ) (o : List ℕ) (a : Copied) (o' : List ℕ) → r ≡ Pointer t → Wrote (ending (at + 2) (from_run p t t used)) used o a o' → Wrote (from_run p start at used) used o a o'
+  pub wrote_pointer : (t : ℕ) (o : List ℕ) (a : (Option Reach)) (o' : List ℕ) → r ≡ Pointer t → Wrote (ending (at + 2) (from_run p t t used)) used o a o' → Wrote (from_run p start at used) used o a o'
   wrote_pointer t o a o' e rest = rw (read_at p start at used (Pointer t) (at_piece (Pointer t) e)) rest
 
   -- one pointer of a chain further
@@ -87,29 +85,32 @@ module _ (p : List ℕ) (start at used : ℕ) (r : Piece) (is : r ≡ piece_at p
       twice e d malformed = refl
 
 -- where a chain ends no pointer stands
-pub not-pointer : (p : List ℕ) (at used : ℕ) (r x : Piece) → r ≡ piece_at p at at used → r ≡ x → is_pointer x ≡ false → is_pointer (piece_at p at at used) ≡ false
-not-pointer p at used r x is e h = ap is_pointer (sym is ∙ e) ∙ h
+pub no_pointer : (x : Piece) → ((t : ℕ) → x ≡ Pointer t → ⊥) → is_pointer x ≡ false
+no_pointer Root h = refl
+no_pointer (Label n) h = refl
+no_pointer (Pointer t) h = absurd (h t refl)
+no_pointer Bad h = refl
 
 pub chased_none : (p : List ℕ) (used from : ℕ) → Chased p used from from
 chased_none p used from = record { back = omega arith; same = λ d. refl }
 
 -- what the walk from the end of a chain answers is the answer at its beginning, but for the end
-module _ (p : List ℕ) (used from run at : ℕ) (c : Chased p used from run) (o : List ℕ) (a : Copied) (o' : List ℕ) (w : Wrote (from_run p run run used) used o a o') where
-  pub followed : (s : Reach) → a ≡ copied.Found s → Wrote (ending (at + 2) (from_run p from from used)) used o (copied.Found (reach_of (at + 2) s.len)) o'
+module _ (p : List ℕ) (used from run at : ℕ) (c : Chased p used from run) (o : List ℕ) (a : (Option Reach)) (o' : List ℕ) (w : Wrote (from_run p run run used) used o a o') where
+  pub followed : (s : Reach) → a ≡ Some s → Wrote (ending (at + 2) (from_run p from from used)) used o (Some (reach_of (at + 2) s.len)) o'
   followed s is = rw (c.same (at + 2)) (go (from_run p run run used) w)
     where
-      go : (x : Reading) → Wrote x used o a o' → Wrote (ending (at + 2) x) used o (copied.Found (reach_of (at + 2) s.len)) o'
+      go : (x : Reading) → Wrote x used o a o' → Wrote (ending (at + 2) x) used o (Some (reach_of (at + 2) s.len)) o'
       go (name ys d) g =
-          let h : copied.Found s ≡ copied.Found (reach_of d (used + length ys)) = sym is ∙ g.answer in
+          let h : Some s ≡ Some (reach_of d (used + length ys)) = sym is ∙ g.answer in
           let k : s ≡ reach_of d (used + length ys) = cc in
-          record { answer = ap (λ (n : ℕ). copied.Found (reach_of (at + 2) n)) (ap (λ (y : Reach). y.len) k); bytes = g.bytes }
-      go malformed g = let h : a ≡ copied.Malformed = g.answer in let z : ◌≡◌ {A = ℕ} 0 1 = cc in absurd (omega arith)
+          record { answer = ap (λ (n : ℕ). Some (reach_of (at + 2) n)) (ap (λ (y : Reach). y.len) k); bytes = g.bytes }
+      go malformed g = let h : a ≡ None = g.answer in let z : ◌≡◌ {A = ℕ} 0 1 = cc in absurd (omega arith)
 
-  pub followed_bad : a ≡ copied.Malformed → Wrote (ending (at + 2) (from_run p from from used)) used o copied.Malformed o'
+  pub followed_bad : a ≡ None → Wrote (ending (at + 2) (from_run p from from used)) used o None o'
   followed_bad is = rw (c.same (at + 2)) (go (from_run p run run used) w)
     where
-      go : (x : Reading) → Wrote x used o a o' → Wrote (ending (at + 2) x) used o copied.Malformed o'
-      go (name ys d) g = let h : a ≡ copied.Found (reach_of d (used + length ys)) = g.answer in let z : ◌≡◌ {A = ℕ} 0 1 = cc in absurd (omega arith)
+      go : (x : Reading) → Wrote x used o a o' → Wrote (ending (at + 2) x) used o None o'
+      go (name ys d) g = let h : a ≡ Some (reach_of d (used + length ys)) = g.answer in let z : ◌≡◌ {A = ℕ} 0 1 = cc in absurd (omega arith)
       go malformed g = record { answer = refl; bytes = tt }
 
 -- the answer where nothing is copied
@@ -127,39 +128,31 @@ seen_before used n end labels first xs z h (name ys e) =
     let len : used + length (n ∷ xs ++ ys) ≡ used + 1 + n + length ys = omega (arith, length-append xs ys) in
     let count : labels + labels_in (n ∷ (xs ++ ys)) ≡ labels + 1 + labels_in ys = omega (arith, label-before n xs ys z h) in
     let one : or_later first n ≡ or_later (or_later first n) (first_in ys) = sym (simp (ne_eqb _ _ (known first))) in
-    λ i. Found (record { end = or_later end e; len = len i; labels = count i; first = one i })
+    λ i. Some (record { end = or_later end e; len = len i; labels = count i; first = one i })
   where
     known : (f : ℕ) → or_later f n ≡ 0 → ⊥
     known zero e = z e
     known (suc f) e = let k : suc f ≡ 0 → ⊥ = λ q. omega arith in k (sym (simp (ne_eqb (suc f) 0 k)) ∙ e)
 seen_before used n end labels first xs z h malformed = refl
 
-seen_first : (used at labels first : ℕ) (x : Reading) → seen_of used 0 labels first (ending (at + 2) x) ≡ seen_of used (at + 2) labels first x
-seen_first used at labels first (name ys e) = let h : at + 2 ≡ 0 → ⊥ = λ z. omega arith in simp (ne_eqb _ _ h)
-seen_first used at labels first malformed = refl
-
-seen_later : (used end labels first d : ℕ) → (end ≡ 0 → ⊥) → (x : Reading) → seen_of used end labels first (ending d x) ≡ seen_of used end labels first x
-seen_later used end labels first d h (name ys e) = simp (ne_eqb _ _ h)
-seen_later used end labels first d h malformed = refl
-
 module _ (p : List ℕ) (start at used end labels first : ℕ) (r : Piece) (is : r ≡ piece_at p start at used) where
   here : (x : Piece) → r ≡ x → piece_at p start at used ≡ x
   here x e = sym is ∙ e
 
-  root_seen : (e : ℕ) → e ≡ or_later end (at + 1) → r ≡ Root
-      → Found (record { end = e; len = used + 1; labels = labels; first = first }) ≡ seen_of used end labels first (from_run p start at used)
+  pub root_seen : (e : ℕ) → e ≡ or_later end (at + 1) → r ≡ Root
+      → Some (record { end = e; len = used + 1; labels = labels; first = first }) ≡ seen_of used end labels first (from_run p start at used)
   unfolding starts
   root_seen e h k =
       let count : labels ≡ labels + 0 = omega arith in
-      (λ i. Found (record { end = h i; len = used + 1; labels = count i; first = sym (or_later_none first) i }))
+      (λ i. Some (record { end = h i; len = used + 1; labels = count i; first = sym (or_later_none first) i }))
       ∙ ap (seen_of used end labels first) (sym (read_at p start at used Root (here Root k)))
 
   pub seen_root : r ≡ Root → end ≡ 0
-      → Found (record { end = at + 1; len = used + 1; labels = labels; first = first }) ≡ seen_of used end labels first (from_run p start at used)
+      → Some (record { end = at + 1; len = used + 1; labels = labels; first = first }) ≡ seen_of used end labels first (from_run p start at used)
   seen_root e z = root_seen (at + 1) (sym (simp (eq-eqb _ _ z))) e
 
   pub seen_root_after : r ≡ Root → (end ≡ 0 → ⊥)
-      → Found (record { end = end; len = used + 1; labels = labels; first = first }) ≡ seen_of used end labels first (from_run p start at used)
+      → Some (record { end = end; len = used + 1; labels = labels; first = first }) ≡ seen_of used end labels first (from_run p start at used)
   seen_root_after e z = root_seen end (sym (simp (ne_eqb _ _ z))) e
 
   -- what is read of a label
@@ -176,16 +169,28 @@ module _ (p : List ℕ) (start at used end labels first : ℕ) (r : Piece) (is :
   pub seen_pointer : (t : ℕ) → r ≡ Pointer t → seen_of used end labels first (from_run p start at used) ≡ seen_of used end labels first (ending (at + 2) (from_run p t t used))
   seen_pointer t e = ap (seen_of used end labels first) (read_at p start at used (Pointer t) (here (Pointer t) e))
 
-  pub seen_bad : r ≡ Bad → Malformed ≡ seen_of used end labels first (from_run p start at used)
+  pub seen_bad : r ≡ Bad → None ≡ seen_of used end labels first (from_run p start at used)
   seen_bad e = rw (read_at p start at used Bad (here Bad e))
 
 -- a pointer that is followed: the name ends in place behind the first
 module _ (p : List ℕ) (run at used end labels first : ℕ) where
+  pub passed : (e : ℕ) → e ≡ or_later end (at + 2)
+      → seen_of used e labels first (from_run p run run used) ≡ seen_of used end labels first (ending (at + 2) (from_run p run run used))
+  passed e h = ap (λ (k : ℕ). seen_of used k labels first (from_run p run run used)) h ∙ go (from_run p run run used)
+    where
+      go : (x : Reading) → seen_of used (or_later end (at + 2)) labels first x ≡ seen_of used end labels first (ending (at + 2) x)
+      go (name ys d) = ap (λ (k : ℕ). Some (record { end = k; len = used + length ys; labels = labels + labels_in ys; first = or_later first (first_in ys) })) (once end)
+        where
+          once : (k : ℕ) → or_later (or_later k (at + 2)) d ≡ or_later k (at + 2)
+          once zero = let z : at + 2 ≡ 0 → ⊥ = λ q. omega arith in simp (ne_eqb _ _ z)
+          once (suc k) = let z : suc k ≡ 0 → ⊥ = λ q. omega arith in simp (ne_eqb _ _ z)
+      go malformed = refl
+
   pub passed_first : end ≡ 0 → seen_of used (at + 2) labels first (from_run p run run used) ≡ seen_of used end labels first (ending (at + 2) (from_run p run run used))
-  passed_first z = sym (seen_first used at labels first (from_run p run run used)) ∙ ap (λ (k : ℕ). seen_of used k labels first (ending (at + 2) (from_run p run run used))) (sym z)
+  passed_first z = passed (at + 2) (sym (simp (eq-eqb _ _ z)))
 
   pub passed_later : (end ≡ 0 → ⊥) → seen_of used end labels first (from_run p run run used) ≡ seen_of used end labels first (ending (at + 2) (from_run p run run used))
-  passed_later z = sym (seen_later used end labels first (at + 2) z (from_run p run run used))
+  passed_later z = passed end (sym (simp (ne_eqb _ _ z)))
 
   pub passed_chain : (from : ℕ) → Chased p used from run
       → seen_of used end labels first (ending (at + 2) (from_run p run run used)) ≡ seen_of used end labels first (ending (at + 2) (from_run p from from used))
@@ -197,5 +202,5 @@ unfolding name_at
 seen_start p at = go (from_run p at at 0)
   where
     go : (x : Reading) → found_of x ≡ seen_of 0 0 0 0 x
-    go (name bs e) = λ i. Found (record { end = e; len = sym (zero-add (length bs)) i; labels = sym (zero-add (labels_in bs)) i; first = first_in bs })
+    go (name bs e) = λ i. Some (record { end = e; len = sym (zero-add (length bs)) i; labels = sym (zero-add (labels_in bs)) i; first = first_in bs })
     go malformed = refl

@@ -1,5 +1,6 @@
 -- A whole name: it has at most 255 bytes, so the buffer of zeros in which it is written holds it and zeros.
 -- Assumes nothing.
+use Rattle.std.specs.Prelude.{None, Option, Some}
 use mathlib.Core.Path.{◌≡◌, refl, sym, ap, ◌∙◌}
 use mathlib.Core.List.{List, ◌++◌}
 use Prim.Native.Nat.{ℕ, zero, suc, ◌+◌, ◌-◌, ◌<◌, ◌≤◌}
@@ -13,10 +14,7 @@ use Rattle.wire.specs.name_pieces.Pieces.{piece_at}
 use Rattle.wire.specs.names.Names.{Reading, name, malformed, before, ending, read_piece, read_from, from_run, name_at}
 use Rattle.wire.specs.names.Answers.{span_of, reach_of, Wrote, expanded}
 use Rattle.wire.specs.declared.names.Reach.{Reach}
-use Rattle.wire.specs.declared.names.Copied.{Copied}
-use Rattle.wire.specs.declared.names.Copied.TheVariants as copied
 use Rattle.wire.specs.declared.names.Span.{Span}
-use Rattle.wire.specs.declared.names.Name.TheVariants.{Found, Malformed}
 use Rattle.wire.specs.declared.names.Expanded.{Expanded}
 use Rattle.wire.proofs.name_pieces.Pieces.{label-room}
 use Rattle.wire.proofs.octets.Sets.{filled}
@@ -47,8 +45,8 @@ unfolding read_from
 short zero p start at used h = tt
 short (suc f) p start at used h = short_piece (read_from f p) (short f p) p start at used h (piece_at p start at used) refl
 
-module _ (p : List ℕ) (at : ℕ) (r : Copied) (o' : List ℕ) (w : Wrote (from_run p at at 0) 0 (replicate 255 0) r o') where
-  module _ (s : Reach) (is : r ≡ copied.Found s) where
+module _ (p : List ℕ) (at : ℕ) (r : (Option Reach)) (o' : List ℕ) (w : Wrote (from_run p at at 0) 0 (replicate 255 0) r o') where
+  module _ (s : Reach) (is : r ≡ Some s) where
     -- the name that was copied stands in front of zeros
     copied_name : (bs : List ℕ) × (name_at p at ≡ name bs s.end) × (length bs ≡ s.len) × (o' ≡ bs ++ replicate (255 - length bs) 0)
     unfolding name_at from_run
@@ -57,14 +55,14 @@ module _ (p : List ℕ) (at : ℕ) (r : Copied) (o' : List ℕ) (w : Wrote (from
         go : (x : Reading) → Wrote x 0 (replicate 255 0) r o' → Short 0 x
             → (bs : List ℕ) × (x ≡ name bs s.end) × (length bs ≡ s.len) × (o' ≡ bs ++ replicate (255 - length bs) 0)
         go (name bs e) g b =
-            let h : copied.Found s ≡ copied.Found (reach_of e (0 + length bs)) = sym is ∙ g.answer in
+            let h : Some s ≡ Some (reach_of e (0 + length bs)) = sym is ∙ g.answer in
             let k : s ≡ reach_of e (0 + length bs) = cc in (
               bs,
               ap (name bs) (sym (ap (λ (y : Reach). y.end) k)),
               sym (ap (λ (y : Reach). y.len) k ∙ zero-add (length bs)),
               g.bytes ∙ filled 255 bs (omega arith),
             )
-        go malformed g b = let h : r ≡ copied.Malformed = g.answer in let z : ◌≡◌ {A = ℕ} 0 1 = cc in absurd (omega arith)
+        go malformed g b = let h : r ≡ None = g.answer in let z : ◌≡◌ {A = ℕ} 0 1 = cc in absurd (omega arith)
 
     pub copied_fits : s.len ≤ length o'
     copied_fits =
@@ -76,18 +74,18 @@ module _ (p : List ℕ) (at : ℕ) (r : Copied) (o' : List ℕ) (w : Wrote (from
 
     -- its labels are counted, and the first is measured, in front of the zeros
     pub whole-found : (x : Span) (e : ℕ) → x ≡ span_of (take s.len o') e
-        → ◌≡◌ {A = Expanded} (record { name = Found (record { end = s.end; len = s.len; labels = x.labels; first = x.first }); bytes = o' }) (expanded (name_at p at))
+        → ◌≡◌ {A = Expanded} (record { name = Some (record { end = s.end; len = s.len; labels = x.labels; first = x.first }); bytes = o' }) (expanded (name_at p at))
     whole-found x e counted =
         let f = copied_name in
         let front : take s.len o' ≡ f.0 = ap (take s.len) f.3 ∙ take_at f.0 (replicate (255 - length f.0) 0) s.len f.2 in
         let is : x ≡ span_of f.0 e = counted ∙ ap (λ (l : List ℕ). span_of l e) front in
-        (λ i. record { name = Found (record { end = s.end; len = sym f.2 i; labels = (is i).labels; first = (is i).first }); bytes = f.3 i })
+        (λ i. record { name = Some (record { end = s.end; len = sym f.2 i; labels = (is i).labels; first = (is i).first }); bytes = f.3 i })
         ∙ ap expanded (sym f.1)
 
-  pub whole-bad : r ≡ copied.Malformed → ◌≡◌ {A = Expanded} (record { name = Malformed; bytes = replicate 255 0 }) (expanded (name_at p at))
+  pub whole-bad : r ≡ None → ◌≡◌ {A = Expanded} (record { name = None; bytes = replicate 255 0 }) (expanded (name_at p at))
   unfolding name_at from_run
   whole-bad is = go (from_run p at at 0) w
     where
-      go : (x : Reading) → Wrote x 0 (replicate 255 0) r o' → ◌≡◌ {A = Expanded} (record { name = Malformed; bytes = replicate 255 0 }) (expanded x)
-      go (name bs e) g = let h : r ≡ copied.Found (reach_of e (0 + length bs)) = g.answer in let z : ◌≡◌ {A = ℕ} 0 1 = cc in absurd (omega arith)
+      go : (x : Reading) → Wrote x 0 (replicate 255 0) r o' → ◌≡◌ {A = Expanded} (record { name = None; bytes = replicate 255 0 }) (expanded x)
+      go (name bs e) g = let h : r ≡ Some (reach_of e (0 + length bs)) = g.answer in let z : ◌≡◌ {A = ℕ} 0 1 = cc in absurd (omega arith)
       go malformed g = refl

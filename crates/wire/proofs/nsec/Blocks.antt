@@ -2,7 +2,7 @@
 use mathlib.Core.Path.{◌≡◌, refl, sym, ap, ◌∙◌}
 use mathlib.Core.List.{List}
 use mathlib.Core.Bool.{Bool, true, false, not}
-use Prim.Native.Nat.{ℕ, zero, suc, ◌+◌, ◌/◌, ◌%◌, ◌<◌, ◌≤◌}
+use Prim.Native.Nat.{ℕ, zero, suc, ◌+◌, ◌/◌, ◌%◌, ◌-◌, ◌^◌, ◌<◌, ◌≤◌}
 use native.Mathlib.Omega.{arith}
 use borrow.Author.Tests.{eq-eqb, ne_eqb, lt-leb, le-leb, eqb-true, leb-true}
 use mathlib.Mathlib.Data.Bool.Basic.{and-eq-true-eq-eq-true-and-eq-true as both}
@@ -14,31 +14,22 @@ use Rattle.wire.specs.nsec.Nsec.{bit_of, names, is_block, is_nsec}
 use Rattle.wire.specs.rdata.Restricted.{Block}
 use Rattle.wire.proofs.case_folding.Equal.{same_lengths, same_length}
 
--- the bit of a type, from where it stands in its byte
-pub bit_in : (block : List ℕ) (rtype n k v : ℕ) → n ≡ byte_at block (rtype / 8 + 2) → rtype % 8 ≡ k → bit_of k ≡ v → eqb (n / v % 2) 1 ≡ names rtype block
+-- the value of a bit is a power of two: from the least bit, the last, by as many places as there are bits behind it
+pub bit_power : (k : ℕ) → k < 8 → 2 ^ (7 - k) ≡ bit_of k
+bit_power zero h = refl
+bit_power (suc zero) h = refl
+bit_power (suc (suc zero)) h = refl
+bit_power (suc (suc (suc zero))) h = refl
+bit_power (suc (suc (suc (suc zero)))) h = refl
+bit_power (suc (suc (suc (suc (suc zero))))) h = refl
+bit_power (suc (suc (suc (suc (suc (suc zero)))))) h = refl
+bit_power (suc (suc (suc (suc (suc (suc (suc zero))))))) h = refl
+bit_power (suc (suc (suc (suc (suc (suc (suc (suc k)))))))) h = absurd (omega arith)
+
+-- a shift that brings the bit of a type to the last place
+pub bit_shifted : (block : List ℕ) (rtype n : ℕ) → n ≡ byte_at block (rtype / 8 + 2) → eqb (n / 2 ^ (7 - rtype % 8) % 2) 1 ≡ names rtype block
 unfolding names
-bit_in block rtype n k v is e b = rw (is, e, b)
-
-seventh : (m : ℕ) → m < 8 → (m ≡ 0 → ⊥) → (m ≡ 1 → ⊥) → (m ≡ 2 → ⊥) → (m ≡ 3 → ⊥) → (m ≡ 4 → ⊥) → (m ≡ 5 → ⊥) → (m ≡ 6 → ⊥) → m ≡ 7
-seventh zero h a b c d e f g = absurd (a refl)
-seventh (suc zero) h a b c d e f g = absurd (b refl)
-seventh (suc (suc zero)) h a b c d e f g = absurd (c refl)
-seventh (suc (suc (suc zero))) h a b c d e f g = absurd (d refl)
-seventh (suc (suc (suc (suc zero)))) h a b c d e f g = absurd (e refl)
-seventh (suc (suc (suc (suc (suc zero))))) h a b c d e f g = absurd (f refl)
-seventh (suc (suc (suc (suc (suc (suc zero)))))) h a b c d e f g = absurd (g refl)
-seventh (suc (suc (suc (suc (suc (suc (suc zero))))))) h a b c d e f g = refl
-seventh (suc (suc (suc (suc (suc (suc (suc (suc m)))))))) h a b c d e f g = absurd (omega arith)
-
-bits_of_byte : (n : ℕ) → n % 8 < 8
-bits_of_byte n = omega arith
-
-pub last_bit : (block : List ℕ) (rtype n : ℕ) → n ≡ byte_at block (rtype / 8 + 2) → (rtype % 8 ≡ 0 → ⊥) → (rtype % 8 ≡ 1 → ⊥) → (rtype % 8 ≡ 2 → ⊥)
-    → (rtype % 8 ≡ 3 → ⊥) → (rtype % 8 ≡ 4 → ⊥) → (rtype % 8 ≡ 5 → ⊥) → (rtype % 8 ≡ 6 → ⊥) → eqb (n % 2) 1 ≡ names rtype block
-unfolding names
-last_bit block rtype n is a b c d f g h =
-    let e : rtype % 8 ≡ 7 = seventh (rtype % 8) (bits_of_byte rtype) a b c d f g h in
-    let one : n / 1 ≡ n = omega arith in ap (λ (x : ℕ). eqb (x % 2) 1) (sym one) ∙ rw (is, e)
+bit_shifted block rtype n is = rw (is, bit_power (rtype % 8) (omega arith))
 
 -- what the test of a block asks
 not-clear : (x : Bool) → not x ≡ true → x ≡ false

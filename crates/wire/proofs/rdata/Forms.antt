@@ -1,4 +1,5 @@
 -- The form of a record's rdata: how many bytes stand around a name, and the NSEC of the restricted kind. Assumes nothing.
+use Rattle.std.specs.Prelude.{None, Some}
 use mathlib.Core.Path.{◌≡◌, refl, sym, ap, ap₂, ◌∙◌}
 use mathlib.Core.List.{List, [], ◌∷◌}
 use mathlib.Core.Bool.{Bool, true, false, cond, ◌&&◌}
@@ -14,7 +15,6 @@ use Rattle.wire.specs.names.Names.{Reading, name, malformed, name_at}
 use Rattle.wire.specs.names.Answers.{expanded, name_is}
 use Rattle.wire.specs.nsec.Nsec.{is_block}
 use Rattle.wire.specs.declared.names.Span.{Span}
-use Rattle.wire.specs.declared.names.Name.TheVariants as nam
 use Rattle.wire.specs.declared.names.Expanded.{Expanded}
 use Rattle.wire.specs.declared.rdata.Form.{Form}
 use Rattle.wire.specs.declared.message.RecordAt.{RecordAt}
@@ -57,10 +57,10 @@ around_small p f d = go (eqb f.rtype 47) (name_at p f.rdata)
 
 -- the form of an NSEC, from the next name that the code has expanded
 module _ (p : List ℕ) (owner at : ℕ) (d : List ℕ) (e : Expanded) (h : e ≡ expanded (name_at p at)) where
-  pub next_bad : e.name ≡ nam.Malformed → (g : Form) → g ≡ form_of 47 → g ≡ next_form p owner at d (name_at p at)
+  pub next_bad : e.name ≡ None → (g : Form) → g ≡ form_of 47 → g ≡ next_form p owner at d (name_at p at)
   next_bad k g is = is ∙ sym (ap (next_form p owner at d) (as_unexpanded (name_at p at) e e.name h refl k))
 
-  module _ (s : Span) (k : e.name ≡ nam.Found s) where
+  module _ (s : Span) (k : e.name ≡ Some s) where
     found : (bs : List ℕ) × (name_at p at ≡ name bs s.end) × (length bs ≡ s.len) × (take s.len e.bytes ≡ bs)
     found = as_expanded (name_at p at) e e.name s h refl k
 

@@ -1,4 +1,6 @@
 -- The readers of a part: what each test makes of the answer, and what an answer says of the part. Assumes nothing.
+use Rattle.std.specs.Option.{is_some}
+use Rattle.std.specs.Prelude.{None, Option, Some}
 use mathlib.Core.Path.{◌≡◌, refl, sym, ap, ◌∙◌}
 use mathlib.Core.List.{List, [], ◌++◌}
 use mathlib.Core.Bool.{Bool, true, false, cond}
@@ -11,8 +13,6 @@ use Rattle.wire.specs.octets.Octets.{word16}
 use Rattle.wire.specs.names.Names.{Reading, name, malformed, name_at}
 use Rattle.wire.specs.names.Answers.{span_of, found_of}
 use Rattle.wire.specs.declared.names.Span.{Span}
-use Rattle.wire.specs.declared.names.Name.{Name}
-use Rattle.wire.specs.declared.names.Name.TheVariants as nam
 use Rattle.wire.proofs.names.Use.{as_name, as_malformed}
 use Rattle.wire.specs.rdata.Rdata.{rdata, unfit, ending_name, with_name}
 use Rattle.wire.specs.rdata.Answers.{fits}
@@ -20,8 +20,6 @@ use Rattle.wire.specs.rdata.Readers.{address_bytes, address_in, string_at, name_
 use Rattle.wire.specs.declared.rdata.StringAt.{StringAt}
 use Rattle.wire.specs.declared.rdata.StringRead.TheVariants as str
 use Rattle.wire.specs.declared.rdata.SrvAt.{SrvAt}
-use Rattle.wire.specs.declared.rdata.SrvRead.{SrvRead}
-use Rattle.wire.specs.declared.rdata.SrvRead.TheVariants as srv
 
 -- an address: the part, or no byte
 pub bytes_of-a : (rtype : ℕ) → rtype ≡ 1 → 4 ≡ address_bytes rtype
@@ -115,9 +113,6 @@ module _ (d : List ℕ) (at : ℕ) where
       go false b e f h = let z : ◌≡◌ {A = ℕ} 0 1 = cc in absurd (omega arith)
 
 -- whether a name is found
-abbrev is_found : Name → Bool
-is_found (nam.Found s) = true
-is_found nam.Malformed = false
 
 -- a name in a part
 module _ (p : List ℕ) (at : ℕ) (d : List ℕ) (before behind : ℕ) where
@@ -125,12 +120,12 @@ module _ (p : List ℕ) (at : ℕ) (d : List ℕ) (before behind : ℕ) where
   abbrev stop : ℕ
   stop = at + (length d - behind)
 
-  pub name-outside : length p < at + length d → nam.Malformed ≡ name_in p at d before behind
+  pub name-outside : length p < at + length d → None ≡ name_in p at d before behind
   unfolding name_in
   name-outside h = simp (lt-leb _ _ h)
 
   module _ (inside : at + length d ≤ length p) where
-    pub name-short : length d < before + behind → nam.Malformed ≡ name_in p at d before behind
+    pub name-short : length d < before + behind → None ≡ name_in p at d before behind
     unfolding name_in
     name-short h = simp (le-leb _ _ inside, lt-leb _ _ h)
 
@@ -139,89 +134,77 @@ module _ (p : List ℕ) (at : ℕ) (d : List ℕ) (before behind : ℕ) where
       unfolding name_in
       read_there = simp (le-leb _ _ inside, le-leb _ _ room)
 
-      module _ (r : Name) (is : r ≡ found_of (name_at p (at + before))) where
-        pub name-bad : r ≡ nam.Malformed → nam.Malformed ≡ name_in p at d before behind
+      module _ (r : (Option Span)) (is : r ≡ found_of (name_at p (at + before))) where
+        pub name-bad : r ≡ None → None ≡ name_in p at d before behind
         name-bad k = sym (read_there ∙ ap (name_ending stop) (as_malformed (name_at p (at + before)) r is k))
 
-        module _ (s : Span) (k : r ≡ nam.Found s) where
-          found : name_in p at d before behind ≡ cond (eqb s.end stop) (nam.Found s) nam.Malformed
+        module _ (s : Span) (k : r ≡ Some s) where
+          found : name_in p at d before behind ≡ cond (eqb s.end stop) (Some s) None
           found =
               let f = as_name (name_at p (at + before)) r s is k in
               read_there ∙ ap (name_ending stop) f.1
-              ∙ ap (λ (x : Span). cond (eqb s.end stop) (nam.Found x) nam.Malformed) (sym f.3)
+              ∙ ap (λ (x : Span). cond (eqb s.end stop) (Some x) None) (sym f.3)
 
-          pub name-ends : s.end ≡ stop → nam.Found s ≡ name_in p at d before behind
-          name-ends e = sym (found ∙ ap (λ (b : Bool). cond b (nam.Found s) nam.Malformed) (eq-eqb _ _ e))
+          pub name-ends : s.end ≡ stop → Some s ≡ name_in p at d before behind
+          name-ends e = sym (found ∙ ap (λ (b : Bool). cond b (Some s) None) (eq-eqb _ _ e))
 
-          pub name-elsewhere : (s.end ≡ stop → ⊥) → nam.Malformed ≡ name_in p at d before behind
-          name-elsewhere e = sym (found ∙ ap (λ (b : Bool). cond b (nam.Found s) nam.Malformed) (ne_eqb _ _ e))
+          pub name-elsewhere : (s.end ≡ stop → ⊥) → None ≡ name_in p at d before behind
+          name-elsewhere e = sym (found ∙ ap (λ (b : Bool). cond b (Some s) None) (ne_eqb _ _ e))
 
   -- a name that is found starts in the packet
-  pub name-starts : (s : Span) → name_in p at d before behind ≡ nam.Found s → at + before ≤ length p
+  pub name-starts : (s : Span) → name_in p at d before behind ≡ Some s → at + before ≤ length p
   unfolding name_in
   name-starts s = go (leb (at + length d) (length p)) (leb (before + behind) (length d)) refl refl
     where
       go : (a b : Bool) → leb (at + length d) (length p) ≡ a → leb (before + behind) (length d) ≡ b
-          → cond a (cond b (name_ending stop (name_at p (at + before))) nam.Malformed) nam.Malformed ≡ nam.Found s → at + before ≤ length p
+          → cond a (cond b (name_ending stop (name_at p (at + before))) None) None ≡ Some s → at + before ≤ length p
       go true true e f h = omega (arith, leb-true (at + length d) (length p) e, leb-true (before + behind) (length d) f)
       go true false e f h = let z : ◌≡◌ {A = ℕ} 0 1 = cc in absurd (omega arith)
       go false b e f h = let z : ◌≡◌ {A = ℕ} 0 1 = cc in absurd (omega arith)
 
   -- rdata with a name fits exactly where the name is found
-  name-fits : at + length d ≤ length p → is_found (name_in p at d before behind) ≡ fits (with_name p at d before behind)
+  name-fits : at + length d ≤ length p → is_some (name_in p at d before behind) ≡ fits (with_name p at d before behind)
   unfolding name_in
   name-fits inside =
-      ap (λ (b : Bool). is_found (cond b (cond (leb (before + behind) (length d)) (name_ending stop (name_at p (at + before))) nam.Malformed) nam.Malformed))
+      ap (λ (b : Bool). is_some (cond b (cond (leb (before + behind) (length d)) (name_ending stop (name_at p (at + before))) None) None))
       (le-leb _ _ inside)
       ∙ go (leb (before + behind) (length d)) (name_at p (at + before))
     where
       back : List ℕ
       back = drop (length d - behind) d
 
-      end : (bs : List ℕ) (e : ℕ) (b : Bool) → is_found (cond b (nam.Found (span_of bs e)) nam.Malformed) ≡ fits (cond b (rdata (take before d ++ (bs ++ back))) unfit)
+      end : (bs : List ℕ) (e : ℕ) (b : Bool) → is_some (cond b (Some (span_of bs e)) None) ≡ fits (cond b (rdata (take before d ++ (bs ++ back))) unfit)
       end bs e true = refl
       end bs e false = refl
 
       go : (b : Bool) (x : Reading)
-          → is_found (cond b (name_ending stop x) nam.Malformed) ≡ fits (cond b (ending_name (take before d) (drop (length d - behind) d) stop x) unfit)
+          → is_some (cond b (name_ending stop x) None) ≡ fits (cond b (ending_name (take before d) (drop (length d - behind) d) stop x) unfit)
       go true (name bs e) = end bs e (eqb e stop)
       go true malformed = refl
       go false x = refl
 
-  module _ (inside : at + length d ≤ length p) (r : Name) (is : r ≡ name_in p at d before behind) where
-    pub fits-found : (s : Span) → r ≡ nam.Found s → true ≡ fits (with_name p at d before behind)
-    fits-found s k = ap is_found (sym k ∙ is) ∙ name-fits inside
-
-    pub fits-bad : r ≡ nam.Malformed → false ≡ fits (with_name p at d before behind)
-    fits-bad k = ap is_found (sym k ∙ is) ∙ name-fits inside
+  module _ (inside : at + length d ≤ length p) (r : (Option Span)) (is : r ≡ name_in p at d before behind) where
+    pub fits_name : is_some r ≡ fits (with_name p at d before behind)
+    fits_name = ap is_some is ∙ name-fits inside
 
 -- an SRV: its numbers, and its target as a name in the part
 module _ (p : List ℕ) (at : ℕ) (d : List ℕ) where
-  module _ (r : Name) (is : r ≡ name_in p at d 6 0) where
-    pub srv_there : (s : Span) → r ≡ nam.Found s → (priority weight port : ℕ) → priority ≡ word16 d 0 → weight ≡ word16 d 2 → port ≡ word16 d 4
-        → srv.Found (record { priority = priority; weight = weight; port = port; target = at + 6; span = s }) ≡ srv_in p at d
+  module _ (r : (Option Span)) (is : r ≡ name_in p at d 6 0) where
+    pub srv_there : (s : Span) → r ≡ Some s → (priority weight port : ℕ) → priority ≡ word16 d 0 → weight ≡ word16 d 2 → port ≡ word16 d 4
+        → Some (record { priority = priority; weight = weight; port = port; target = at + 6; span = s }) ≡ srv_in p at d
     unfolding srv_in
     srv_there s k priority weight port a b c =
-        (λ i. srv.Found (record { priority = a i; weight = b i; port = c i; target = at + 6; span = s })) ∙ ap (srv_with d (at + 6)) (sym k ∙ is)
+        (λ i. Some (record { priority = a i; weight = b i; port = c i; target = at + 6; span = s })) ∙ ap (srv_with d (at + 6)) (sym k ∙ is)
 
-    pub srv_bad : r ≡ nam.Malformed → srv.Malformed ≡ srv_in p at d
+    pub srv_bad : r ≡ None → None ≡ srv_in p at d
     unfolding srv_in
     srv_bad k = ap (srv_with d (at + 6)) (sym k ∙ is)
 
   -- one is there exactly where its target is
-  module _ (r : SrvRead) (is : r ≡ srv_in p at d) where
-    pub srv_target : (f : SrvAt) → r ≡ srv.Found f → (s : Span) × (name_in p at d 6 0 ≡ nam.Found s)
-    unfolding srv_in
-    srv_target f k = go (name_in p at d 6 0) (sym is ∙ k)
-      where
-        go : (x : Name) → srv_with d (at + 6) x ≡ srv.Found f → (s : Span) × (x ≡ nam.Found s)
-        go (nam.Found s) h = (s, refl)
-        go nam.Malformed h = let z : ◌≡◌ {A = ℕ} 0 1 = cc in absurd (omega arith)
-
-    pub srv_none : r ≡ srv.Malformed → name_in p at d 6 0 ≡ nam.Malformed
-    unfolding srv_in
-    srv_none k = go (name_in p at d 6 0) (sym is ∙ k)
-      where
-        go : (x : Name) → srv_with d (at + 6) x ≡ srv.Malformed → x ≡ nam.Malformed
-        go (nam.Found s) h = let z : ◌≡◌ {A = ℕ} 0 1 = cc in absurd (omega arith)
-        go nam.Malformed h = refl
+  pub srv_named : (r : Option SrvAt) → r ≡ srv_in p at d → is_some r ≡ is_some (name_in p at d 6 0)
+  unfolding srv_in
+  srv_named r is = ap is_some is ∙ go (name_in p at d 6 0)
+    where
+      go : (x : Option Span) → is_some (srv_with d (at + 6) x) ≡ is_some x
+      go (Some s) = refl
+      go None = refl

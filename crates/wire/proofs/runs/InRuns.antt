@@ -1,4 +1,5 @@
 -- A name that is read run by run: its span, and the two runs that it may consist of. Assumes nothing.
+use Rattle.std.specs.Prelude.{Some}
 use mathlib.Core.Path.{◌≡◌, refl, sym, ap, ap₂, ◌∙◌}
 use mathlib.Core.List.{List, [], ◌∷◌, ◌++◌, append_assoc, append-nil}
 use mathlib.Core.Bool.{Bool, true, false, cond}
@@ -14,9 +15,8 @@ use Rattle.wire.specs.names.Names.{Reading, name, malformed, before, ending, fro
 use Rattle.wire.specs.names.Answers.{or_later, seen_of}
 use Rattle.wire.specs.declared.name_pieces.Piece.{Piece}
 use Rattle.wire.specs.declared.name_pieces.Piece.TheVariants.{Root, Label, Pointer}
-use Rattle.wire.specs.declared.names.Name.TheVariants.{Found}
 use Rattle.wire.proofs.names.Rest.{read_at}
-use Rattle.wire.proofs.names.Walked.{seen_root, seen_root_after, seen_pointer, passed_first, passed_later}
+use Rattle.wire.proofs.names.Walked.{root_seen, seen_pointer, passed}
 use Rattle.wire.proofs.name_pieces.Pieces.{is-root}
 use Rattle.wire.specs.runs.Runs.{from_of}
 
@@ -37,26 +37,12 @@ later-zero known later k e z = go (eqb known 0) refl e
 
 module _ (p : List ℕ) (start at used end labels first : ℕ) (r : Piece) (is : r ≡ piece_at p start at used) where
   pub root_span : r ≡ Root → (e : ℕ) → e ≡ or_later end (at + 1)
-      → Found (record { end = e; len = used + 1; labels = labels; first = first }) ≡ seen_of used end labels first (from_run p start at used)
-  root_span k e h = go (eqb end 0) refl h
-    where
-      go : (b : Bool) → eqb end 0 ≡ b → e ≡ cond b (at + 1) end
-          → Found (record { end = e; len = used + 1; labels = labels; first = first }) ≡ seen_of used end labels first (from_run p start at used)
-      go true t g =
-          ap (λ (m : ℕ). Found (record { end = m; len = used + 1; labels = labels; first = first })) g
-          ∙ seen_root p start at used end labels first r is k (eqb-true end 0 t)
-      go false t g =
-          ap (λ (m : ℕ). Found (record { end = m; len = used + 1; labels = labels; first = first })) g
-          ∙ seen_root_after p start at used end labels first r is k (eqb-false end 0 t)
+      → Some (record { end = e; len = used + 1; labels = labels; first = first }) ≡ seen_of used end labels first (from_run p start at used)
+  root_span k e h = root_seen p start at used end labels first r is e h k
 
   pub pointer_span : (t : ℕ) → r ≡ Pointer t → (e : ℕ) → e ≡ or_later end (at + 2)
       → seen_of used end labels first (from_run p start at used) ≡ seen_of used e labels first (from_run p t t used)
-  pointer_span t k e h = seen_pointer p start at used end labels first r is t k ∙ sym (go (eqb end 0) refl h)
-    where
-      go : (b : Bool) → eqb end 0 ≡ b → e ≡ cond b (at + 2) end
-          → seen_of used e labels first (from_run p t t used) ≡ seen_of used end labels first (ending (at + 2) (from_run p t t used))
-      go true z g = ap (λ (m : ℕ). seen_of used m labels first (from_run p t t used)) g ∙ passed_first p t at used end labels first (eqb-true end 0 z)
-      go false z g = ap (λ (m : ℕ). seen_of used m labels first (from_run p t t used)) g ∙ passed_later p t at used end labels first (eqb-false end 0 z)
+  pointer_span t k e h = seen_pointer p start at used end labels first r is t k ∙ sym (passed p t at used end labels first e h)
 
 -- the bytes of two runs
 abbrev pub both : (p : List ℕ) (from front start rest : ℕ) → List ℕ

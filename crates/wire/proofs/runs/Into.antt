@@ -1,4 +1,5 @@
 -- A name that was read run by run, written over the front of a buffer. Assumes nothing.
+use Rattle.std.specs.Prelude.{None, Option, Some}
 use mathlib.Core.Path.{◌≡◌, refl, sym, ap, ap₂, ◌∙◌}
 use mathlib.Core.List.{List, [], ◌∷◌, ◌++◌}
 use mathlib.Core.Bool.{true}
@@ -10,7 +11,6 @@ use lib.Seq.{sets, sets-eq, take_at}
 use Rattle.wire.specs.message.Layout.{bytes_of}
 use Rattle.wire.specs.names.Names.{Reading, name}
 use Rattle.wire.specs.names.Answers.{span_of, found_of, expanded}
-use Rattle.wire.specs.declared.names.Name.TheVariants.{Found, Malformed}
 use Rattle.wire.specs.declared.names.Expanded.{Expanded}
 use Rattle.wire.proofs.octets.Sets.{sets-append}
 use Rattle.wire.proofs.names.Use.{as_name, as_malformed}
@@ -18,8 +18,6 @@ use Rattle.wire.proofs.runs.Use.{with-fitting, with-longer, with-malformed}
 use Rattle.wire.specs.runs.Runs.{span_in, Lies}
 use Rattle.wire.specs.runs.Written.{with_name}
 use Rattle.wire.specs.declared.runs.Runs.{Runs}
-use Rattle.wire.specs.declared.runs.RunsRead.{RunsRead}
-use Rattle.wire.specs.declared.runs.RunsRead.TheVariants as runs
 
 -- so many bytes at the most
 take-most : (n : ℕ) (l : List ℕ) → length (take n l) ≤ n
@@ -31,18 +29,18 @@ take-most (suc n) (x ∷ l) = omega (arith, take-most n l)
 over : (l bs : List ℕ) → length bs ≤ length l → sets l 0 bs ≡ bs ++ drop (length bs) l
 over l bs h = sets-eq bs l 0 (omega arith) ∙ ap (λ (k : ℕ). bs ++ drop k l) (zero-add (length bs))
 
-module _ (p : List ℕ) (x : Reading) (out : List ℕ) (r : RunsRead) (span : span_in r ≡ found_of x) (lies : Lies p x r) where
-  pub into_bad : r ≡ runs.Malformed → (Malformed ≡ found_of x) × (out ≡ with_name out x)
+module _ (p : List ℕ) (x : Reading) (out : List ℕ) (r : (Option Runs)) (span : span_in r ≡ found_of x) (lies : Lies p x r) where
+  pub into_bad : r ≡ None → (None ≡ found_of x) × (out ≡ with_name out x)
   into_bad k =
-      let h : Malformed ≡ found_of x = sym (ap span_in k) ∙ span in
-      (h, sym (with-malformed out x (as_malformed x Malformed h refl)))
+      let h : None ≡ found_of x = sym (ap span_in k) ∙ span in
+      (h, sym (with-malformed out x (as_malformed x None h refl)))
 
-  module _ (w : Runs) (k : r ≡ runs.Found w) where
-    pub into_span : Found w.span ≡ found_of x
+  module _ (w : Runs) (k : r ≡ Some w) where
+    pub into_span : Some w.span ≡ found_of x
     into_span = sym (ap span_in k) ∙ span
 
     found : (bs : List ℕ) × (x ≡ name bs w.span.end) × (length bs ≡ w.span.len) × (w.span ≡ span_of bs w.span.end)
-    found = as_name x (Found w.span) w.span into_span refl
+    found = as_name x (Some w.span) w.span into_span refl
 
     pub into_short : length out < w.span.len → out ≡ with_name out x
     into_short h =

@@ -1,4 +1,5 @@
 -- What a caller of `name_into` learns of the buffer. Assumes nothing.
+use Rattle.std.specs.Prelude.{Option, Some}
 use mathlib.Core.Path.{◌≡◌, refl, sym, ap, ◌∙◌}
 use mathlib.Core.List.{List, ◌++◌}
 use mathlib.Core.Bool.{Bool, true, false, cond}
@@ -12,8 +13,6 @@ use Rattle.wire.specs.names.Names.{Reading, name, malformed}
 use Rattle.wire.specs.names.Answers.{span_of, found_of}
 use Rattle.wire.specs.runs.Written.{with_name}
 use Rattle.wire.specs.declared.names.Span.{Span}
-use Rattle.wire.specs.declared.names.Name.{Name}
-use Rattle.wire.specs.declared.names.Name.TheVariants.{Found}
 use Rattle.wire.proofs.names.Use.{as_name}
 
 module _ (out : List ℕ) (x : Reading) where
@@ -45,7 +44,7 @@ with-length out (name bs e) = go (leb (length bs) (length out)) refl
 with-length out malformed = refl
 
 -- what stands in a buffer that the name was written into, by the answer that was matched
-pub as_written : (out out' : List ℕ) (x : Reading) (r : Name) (s : Span) → out' ≡ with_name out x → r ≡ found_of x → r ≡ Found s → s.len ≤ length out
+pub as_written : (out out' : List ℕ) (x : Reading) (r : (Option Span)) (s : Span) → out' ≡ with_name out x → r ≡ found_of x → r ≡ Some s → s.len ≤ length out
     → (bs : List ℕ) × (x ≡ name bs s.end) × (length bs ≡ s.len) × (s ≡ span_of bs s.end) × (out' ≡ bs ++ drop s.len out) × (take s.len out' ≡ bs)
 as_written out out' x r s w h k l =
     let f = as_name x r s h k in

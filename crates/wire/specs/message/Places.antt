@@ -1,12 +1,12 @@
 -- Where an item of a section, or a section, ends. Assumes nothing: these are definitions.
+use Rattle.std.specs.Prelude.{None, Option, Some}
+use Rattle.std.specs.Prelude.{ℕ}
 use Rattle.wire.specs.message.Layout.{Item, item, broken, Listing, listing, cut}
-use Rattle.wire.specs.declared.message.Place.{Place}
-use Rattle.wire.specs.declared.message.Place.TheVariants.{At, Malformed}
 
-abbrev pub past_item : {A : Type 0} → Item A → Place
-past_item (item x next) = At next
-past_item broken = Malformed
+abbrev pub past_item : {A : Type 0} → Item A → Option ℕ
+past_item (item x next) = Some next
+past_item broken = None
 
-abbrev pub past_list : {A : Type 0} → Listing A → Place
-past_list (listing xs end) = At end
-past_list cut = Malformed
+abbrev pub past_list : {A : Type 0} → Listing A → Option ℕ
+past_list (listing xs end) = Some end
+past_list cut = None

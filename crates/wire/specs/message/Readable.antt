@@ -1,6 +1,6 @@
 -- What a section shows, of any layout: "The four sections by their counts" (specification, 'Reading a message'), each as far as it is well formed. Who
 -- walks a section of a layout, whatever that layout is, meets exactly these questions and records. Assumes nothing: these are definitions.
-use Rattle.std.specs.Prelude.{ℕ, zero, suc, List, [], ◌∷◌, cond}
+use Rattle.std.specs.Prelude.{ℕ, zero, suc, List, [], ◌∷◌, cond, None, Option, Some}
 use Rattle.wire.specs.names.Names.{name_at}
 use Rattle.wire.specs.rdata.Rdata.{rdata_at}
 use Rattle.wire.specs.rdata.Answers.{fits, data_of}
@@ -8,8 +8,6 @@ use Rattle.wire.specs.message.Message.{Question, Record, record_of, Message}
 use Rattle.wire.specs.message.Layout.{Item, item, broken, bytes_of, question_at, record_read, record_at}
 use Rattle.wire.specs.declared.message.QuestionAt.{QuestionAt}
 use Rattle.wire.specs.declared.message.RecordAt.{RecordAt}
-use Rattle.wire.specs.declared.message.RecordRead.{RecordRead}
-use Rattle.wire.specs.declared.message.RecordRead.TheVariants as r
 use Rattle.wire.specs.declared.message.Layout.{Layout}
 
 -- The items of a section as far as they are well formed.
@@ -34,11 +32,11 @@ message_in p l = record {
 }
 
 -- the record at an offset as it lies, if its rdata is as its type asks
-abbrev pub whole_from : List ℕ → RecordRead → RecordRead
-whole_from p (r.Found f) = cond (fits (rdata_at p f)) (r.Found f) r.Malformed
-whole_from p r.Malformed = r.Malformed
+abbrev pub whole_from : List ℕ → (Option RecordAt) → Option RecordAt
+whole_from p (Some f) = cond (fits (rdata_at p f)) (Some f) None
+whole_from p None = None
 
-unfoldable pub whole_read : List ℕ → ℕ → RecordRead
+unfoldable pub whole_read : List ℕ → ℕ → Option RecordAt
 whole_read p at = whole_from p (record_read p at)
 
 -- what a question and a record as they lie say: of those that were found at an offset, the question and the record there

@@ -1,7 +1,9 @@
 -- The refusals of a message (specification, 'Refusal numbers'), as a list of tests: of a packet alone, which is what the reader answers (`refusal_is` in
 -- proofs/message/Refused.antt), and of a packet with the port that it came from. Assumes nothing: these are definitions.
-use Rattle.std.specs.Prelude.{ℕ, List, [], ◌∷◌, Bool, true, false, cond, not, ◌&&◌, ◌||◌, eqb}
-use Rattle.wire.specs.refusals.Numbers.{LENGTH, HEADER, MALFORMED, first_refusal}
+use Rattle.std.specs.Prelude.{ℕ, List, [], ◌∷◌, Bool, true, false, not, ◌&&◌, ◌||◌, eqb, Result, Ok, Err}
+use Rattle.wire.specs.refusals.Numbers.{first_refusal, refused_by}
+use Rattle.wire.specs.declared.refusals.Refusal.{Refusal}
+use Rattle.wire.specs.declared.refusals.Refusal.TheVariants.{Length, Header, Malformed}
 use Rattle.wire.specs.octets.Octets.{word16}
 use Rattle.wire.specs.message.Message.{is_response}
 use Rattle.wire.specs.message.Layout.{Reads, read, refused, sections_of, wrong_length, wrong_header, message_at}
@@ -19,12 +21,12 @@ abbrev pub is_malformed : List ℕ → Bool
 is_malformed p = is_refused (sections_of p)
 
 -- the refusals of a packet
-abbrev pub packet_tests : List ℕ → List (ℕ × Bool)
-packet_tests p = (LENGTH, wrong_length p) ∷ ((HEADER, wrong_header p) ∷ ((MALFORMED, is_malformed p) ∷ []))
+abbrev pub packet_tests : List ℕ → List (Refusal × Bool)
+packet_tests p = (Length, wrong_length p) ∷ ((Header, wrong_header p) ∷ ((Malformed, is_malformed p) ∷ []))
 
 -- the refusals of a message from a port
-abbrev pub message_tests : ℕ → List ℕ → List (ℕ × Bool)
-message_tests port p = (LENGTH, wrong_length p) ∷ ((HEADER, wrong_header p || wrong_port port p) ∷ ((MALFORMED, is_malformed p) ∷ []))
+abbrev pub message_tests : ℕ → List ℕ → List (Refusal × Bool)
+message_tests port p = (Length, wrong_length p) ∷ ((Header, wrong_header p || wrong_port port p) ∷ ((Malformed, is_malformed p) ∷ []))
 
 unfoldable pub packet_refusal : List ℕ → ℕ
 packet_refusal p = first_refusal (packet_tests p)
@@ -32,10 +34,11 @@ packet_refusal p = first_refusal (packet_tests p)
 unfoldable pub message_refusal : ℕ → List ℕ → ℕ
 message_refusal port p = first_refusal (message_tests port p)
 
--- what is read, or the number of a refusal
-abbrev pub or_refused : ℕ → Reads → Reads
-or_refused refusal reads = cond (eqb refusal 0) reads (refused refusal)
+-- what is read, or a refusal
+abbrev pub or_refused : Result (Unit {0}) Refusal → Reads → Reads
+or_refused (Ok u) reads = reads
+or_refused (Err refusal) reads = refused refusal
 
 -- the message of a packet that came from a port
 unfoldable pub message_from : ℕ → List ℕ → Reads
-message_from port p = or_refused (message_refusal port p) (message_at p)
+message_from port p = or_refused (refused_by (message_tests port p)) (message_at p)

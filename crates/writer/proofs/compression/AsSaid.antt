@@ -11,11 +11,10 @@ use Rattle.wire.specs.names.Names.{Reading, name, malformed, ending, read_piece,
 use Rattle.wire.proofs.names.Rest.{unroll}
 use Rattle.wire.proofs.name_pieces.Pieces.{is_pointer_lem}
 use Rattle.wire.specs.labels.Labels.{encode, Labels}
-use Rattle.writer.specs.declared.compression.Place.{Place}
-use Rattle.writer.specs.declared.compression.Place.TheVariants.{At, Nowhere}
 use Rattle.writer.specs.compression.Compression.{is_read, stands_at, place_of, pointer_to, name_bytes, name_places}
 use Rattle.writer.specs.compression.Sentence.{Among, first, later, Stands, label_bytes, Rising, empty, next, Cuts, whole, cut}
 use Rattle.writer.proofs.compression.ByLabels.{cut_at, none_at, by_labels, places_by, by-labels, places-by}
+use Rattle.std.specs.Prelude.{Option, Some, None}
 
 above : {m n o : ℕ} {os : List ℕ} → Rising m n os → Among o os → m ≤ o
 above {o = o} (empty {m = m} {n = n} _) i = elim i [ ]
@@ -23,27 +22,27 @@ above (next h r) first = h
 above (next h r) (later i) = omega (arith, above r i)
 
 -- what the search answers
-nowhere : (p s : List ℕ) {os : List ℕ} {o : ℕ} → Among o os → place_of p s os ≡ Nowhere → stands_at p s o ≡ true → ⊥
+nowhere : (p s : List ℕ) {os : List ℕ} {o : ℕ} → Among o os → place_of p s os ≡ None → stands_at p s o ≡ true → ⊥
 unfolding place_of
 nowhere p s (first {o = o} {os = os}) h t = go (stands_at p s o) refl h
   where
-    go : (b : Bool) → stands_at p s o ≡ b → cond b (At o) (place_of p s os) ≡ Nowhere → ⊥
+    go : (b : Bool) → stands_at p s o ≡ b → cond b (Some o) (place_of p s os) ≡ None → ⊥
     go true e k = let z : ◌≡◌ {A = ℕ} 0 1 = cc in omega arith
     go false e k = let z : ◌≡◌ {A = ℕ} 0 1 = cc in omega arith
 nowhere p s (later {o = o} {x = x} {os = os} i) h t = go (stands_at p s x) refl h (nowhere p s i)
   where
-    go : (b : Bool) → stands_at p s x ≡ b → cond b (At x) (place_of p s os) ≡ Nowhere → (place_of p s os ≡ Nowhere → stands_at p s o ≡ true → ⊥) → ⊥
+    go : (b : Bool) → stands_at p s x ≡ b → cond b (Some x) (place_of p s os) ≡ None → (place_of p s os ≡ None → stands_at p s o ≡ true → ⊥) → ⊥
     go true e k ih = let z : ◌≡◌ {A = ℕ} 0 1 = cc in omega arith
     go false e k ih = ih k t
 
-found : (p s : List ℕ) (m n : ℕ) (os : List ℕ) (o : ℕ) → Rising m n os → place_of p s os ≡ At o
+found : (p s : List ℕ) (m n : ℕ) (os : List ℕ) (o : ℕ) → Rising m n os → place_of p s os ≡ Some o
     → (Among o os) × (stands_at p s o ≡ true) × ((o' : ℕ) → Among o' os → stands_at p s o' ≡ true → o ≤ o')
 unfolding place_of
 found p s m n [] o up h = let z : ◌≡◌ {A = ℕ} 0 1 = cc in absurd (omega arith)
 found p s m n (x ∷ xs) o (next lo up) h = go (stands_at p s x) refl h (found p s (suc x) n xs o up)
   where
-    go : (b : Bool) → stands_at p s x ≡ b → cond b (At x) (place_of p s xs) ≡ At o
-        → (place_of p s xs ≡ At o → (Among o xs) × (stands_at p s o ≡ true) × ((o' : ℕ) → Among o' xs → stands_at p s o' ≡ true → o ≤ o'))
+    go : (b : Bool) → stands_at p s x ≡ b → cond b (Some x) (place_of p s xs) ≡ Some o
+        → (place_of p s xs ≡ Some o → (Among o xs) × (stands_at p s o ≡ true) × ((o' : ℕ) → Among o' xs → stands_at p s o' ≡ true → o ≤ o'))
         → (Among o (x ∷ xs)) × (stands_at p s o ≡ true) × ((o' : ℕ) → Among o' (x ∷ xs) → stands_at p s o' ≡ true → o ≤ o')
     go true e k ih = let i : x ≡ o = cc in (rw (← i) first, rw (← i) e, λ o' j t. least i o' j)
       where
@@ -62,20 +61,20 @@ unfolding by_labels places_by
 labels-cut p m n os up at [] = whole (λ j o h s. omega arith) refl refl
 labels-cut p m n os up at (l ∷ ls) = go (place_of p (encode (l ∷ ls)) os) refl (labels-cut p m n os up (at + 1 + length l) ls)
   where
-    not_first : place_of p (encode (l ∷ ls)) os ≡ Nowhere → (o : ℕ) → Stands p os (l ∷ ls) o → ⊥
+    not_first : place_of p (encode (l ∷ ls)) os ≡ None → (o : ℕ) → Stands p os (l ∷ ls) o → ⊥
     not_first is o s = nowhere p (encode (l ∷ ls)) s.labelled is s.read
 
-    go : (x : Place) → place_of p (encode (l ∷ ls)) os ≡ x → Cuts p os (at + 1 + length l) ls (by_labels p os ls) (places_by p os (at + 1 + length l) ls)
+    go : (x : Option ℕ) → place_of p (encode (l ∷ ls)) os ≡ x → Cuts p os (at + 1 + length l) ls (by_labels p os ls) (places_by p os (at + 1 + length l) ls)
         → Cuts p os at (l ∷ ls) (cut_at x (length l ∷ (l ++ by_labels p os ls))) (none_at x (at ∷ places_by p os (at + 1 + length l) ls))
-    go (At o) is ih =
+    go (Some o) is ih =
         let f = found p (encode (l ∷ ls)) m n os o up is in
         cut 0 o (omega arith) (record { labelled = f.0; read = f.1 }) (λ o' s. f.2 o' s.labelled s.read) (λ j o' h s. omega arith) refl refl
-    go Nowhere is (whole never same noted) = whole shift (ap (λ (b : List ℕ). length l ∷ (l ++ b)) same) (ap (λ (b : List ℕ). at ∷ b) noted)
+    go None is (whole never same noted) = whole shift (ap (λ (b : List ℕ). length l ∷ (l ++ b)) same) (ap (λ (b : List ℕ). at ∷ b) noted)
       where
         shift : (j o : ℕ) → j < length (l ∷ ls) → Stands p os (drop j (l ∷ ls)) o → ⊥
         shift zero o h s = not_first is o s
         shift (suc j) o h s = never j o (omega arith) s
-    go Nowhere is (cut k o h s least never same noted) =
+    go None is (cut k o h s least never same noted) =
         cut (suc k) o (omega arith) s least shift (ap (λ (b : List ℕ). length l ∷ (l ++ b)) same ∙ ap (λ (b : List ℕ). length l ∷ b)
         (sym (append_assoc l (label_bytes (take k ls)) (pointer_to o)))) (ap (λ (b : List ℕ). at ∷ b) noted)
       where

@@ -5,19 +5,18 @@ use Prim.Native.Nat.{ℕ, suc, ◌+◌}
 use native.Mathlib.Omega.{arith}
 use lib.ListN.{length, take}
 use Rattle.wire.specs.labels.Labels.{encode, Labels, none, one}
-use Rattle.writer.specs.declared.compression.Place.{Place}
-use Rattle.writer.specs.declared.compression.Place.TheVariants.{At, Nowhere}
 use Rattle.writer.specs.compression.Compression.{place_of, onward, cut_here, cut_from, cut_of, pointer_to, end_of, name_bytes, name_places}
 use Rattle.wire.specs.labels.Counted.{starts}
+use Rattle.std.specs.Prelude.{Option, Some, None}
 
 -- a pointer where the suffix stands earlier, else its first label and what follows
-abbrev pub cut_at : Place → List ℕ → List ℕ
-cut_at (At o) go_on = pointer_to o
-cut_at Nowhere go_on = go_on
+abbrev pub cut_at : Option ℕ → List ℕ → List ℕ
+cut_at (Some o) go_on = pointer_to o
+cut_at None go_on = go_on
 
-abbrev pub none_at : Place → List ℕ → List ℕ
-none_at (At o) go_on = []
-none_at Nowhere go_on = go_on
+abbrev pub none_at : Option ℕ → List ℕ → List ℕ
+none_at (Some o) go_on = []
+none_at None go_on = go_on
 
 -- the bytes of a name from its labels, and the offsets at which those of them start that are written
 unfoldable pub by_labels : List ℕ → List ℕ → List (List ℕ) → List ℕ
@@ -51,14 +50,14 @@ module _ (p os : List ℕ) where
   by-labels (one {l = []} {ls = ls} lo hi rest) = absurd (omega arith)
   by-labels (one {l = x ∷ xs} {ls = ls} lo hi rest) = go (place_of p (encode ((x ∷ xs) ∷ ls)) os) (by-labels rest)
     where
-      go : (y : Place) → name_bytes p os (encode ls) ≡ by_labels p os ls
+      go : (y : Option ℕ) → name_bytes p os (encode ls) ≡ by_labels p os ls
           → take (cut_here y (onward (onward (cut_from p os (length xs) (xs ++ encode ls))))).kept (length (x ∷ xs) ∷ (x ∷ (xs ++ encode ls))) ++ end_of
           (cut_here y (onward (onward (cut_from p os (length xs) (xs ++ encode ls))))).place
           ≡ cut_at y (length (x ∷ xs) ∷ (x ∷ (xs ++ by_labels p os ls)))
-      go (At o) ih = refl
-      go Nowhere ih =
+      go (Some o) ih = refl
+      go None ih =
           ap (λ (l : List ℕ). length (x ∷ xs) ∷ (x ∷ l))
-          (ap₂ (λ (l : List ℕ) (q : Place). l ++ end_of q) (kept_on_lem xs (encode ls)) (place-on xs (encode ls)) ∙ append_assoc xs
+          (ap₂ (λ (l : List ℕ) (q : Option ℕ). l ++ end_of q) (kept_on_lem xs (encode ls)) (place-on xs (encode ls)) ∙ append_assoc xs
           (take (cut_of p os (encode ls)).kept (encode ls)) (end_of (cut_of p os (encode ls)).place)
           ∙ ap (λ (l : List ℕ). xs ++ l) ih)
 
@@ -68,11 +67,11 @@ module _ (p os : List ℕ) where
   places-by at (one {l = []} {ls = ls} lo hi rest) = absurd (omega arith)
   places-by at (one {l = x ∷ xs} {ls = ls} lo hi rest) = go (place_of p (encode ((x ∷ xs) ∷ ls)) os) (places-by (at + 1 + length (x ∷ xs)) rest)
     where
-      go : (y : Place) → name_places p os (at + 1 + length (x ∷ xs)) (encode ls) ≡ places_by p os (at + 1 + length (x ∷ xs)) ls
+      go : (y : Option ℕ) → name_places p os (at + 1 + length (x ∷ xs)) (encode ls) ≡ places_by p os (at + 1 + length (x ∷ xs)) ls
           → starts at 0 (take (cut_here y (onward (onward (cut_from p os (length xs) (xs ++ encode ls))))).kept (length (x ∷ xs) ∷ (x ∷ (xs ++ encode ls))))
           ≡ none_at y (at ∷ places_by p os (at + 1 + length (x ∷ xs)) ls)
-      go (At o) ih = refl
-      go Nowhere ih =
+      go (Some o) ih = refl
+      go None ih =
           let e : suc (suc at) + length xs ≡ at + 1 + suc (length xs) = omega arith in
           ap (λ (l : List ℕ). at ∷ l)
           (ap (starts (suc (suc at)) (length xs)) (kept_on_lem xs (encode ls)) ∙ starts-on (suc (suc at)) xs (take (cut_of p os (encode ls)).kept (encode ls))

@@ -3,12 +3,11 @@ use Prim.Native.Nat.{ℕ, suc, ◌+◌, ◌≤◌}
 use mathlib.Core.List.{List, [], ◌∷◌, ◌++◌}
 use native.Mathlib.Omega.{arith}
 use lib.ListN.{length, length-append}
-use Rattle.writer.specs.declared.compression.Place.{Place}
-use Rattle.writer.specs.declared.compression.Place.TheVariants.{At, Nowhere}
 use Rattle.wire.specs.labels.Labels.{encode}
 use Rattle.writer.specs.compression.Compression.{place_of}
 use Rattle.writer.specs.compression.Sentence.{Rising, empty, next}
 use Rattle.writer.proofs.compression.ByLabels.{cut_at, none_at, by_labels, places_by}
+use Rattle.std.specs.Prelude.{Option, Some, None}
 
 pub rising_le : {m n : ℕ} {os : List ℕ} → Rising m n os → m ≤ n
 rising_le (empty h) = h
@@ -32,9 +31,9 @@ unfolding by_labels places_by
 name-rising p os at [] = let g : at ≤ at + 1 = omega arith in empty g
 name-rising p os at (l ∷ ls) = go (place_of p (encode (l ∷ ls)) os) (name-rising p os (at + 1 + length l) ls)
   where
-    go : (x : Place) → Rising (at + 1 + length l) (at + 1 + length l + length (by_labels p os ls)) (places_by p os (at + 1 + length l) ls)
+    go : (x : Option ℕ) → Rising (at + 1 + length l) (at + 1 + length l + length (by_labels p os ls)) (places_by p os (at + 1 + length l) ls)
         → Rising at (at + length (cut_at x (length l ∷ (l ++ by_labels p os ls)))) (none_at x (at ∷ places_by p os (at + 1 + length l) ls))
-    go (At o) ih = let g : at ≤ at + 2 = omega arith in empty g
-    go Nowhere ih =
+    go (Some o) ih = let g : at ≤ at + 2 = omega arith in empty g
+    go None ih =
         let g : at ≤ at = omega arith in next g (rising_from (suc at) (omega arith)
         (rising_to (at + suc (length (l ++ by_labels p os ls))) (omega (arith, length-append l (by_labels p os ls))) ih))

@@ -13,8 +13,6 @@ use Rattle.wire.specs.name_pieces.Pieces.{piece_at, target}
 use Rattle.wire.specs.names.Names.{Reading, name, malformed, ending, read_piece, from_run, name_at}
 use Rattle.wire.proofs.names.Rest.{unroll}
 use Rattle.wire.proofs.name_pieces.Pieces.{piece_root, piece_pointer}
-use Rattle.writer.specs.declared.compression.Place.{Place}
-use Rattle.writer.specs.declared.compression.Place.TheVariants.{At, Nowhere}
 use Rattle.wire.specs.labels.Labels.{encode, Labels, none, one, IsName}
 use Rattle.wire.proofs.expansion.Bytes.{same_equal}
 use Rattle.wire.proofs.labels.Encoded.{encode-pos}
@@ -23,6 +21,7 @@ use Rattle.writer.proofs.compression.ByLabels.{cut_at, none_at, by_labels, place
 use Rattle.writer.specs.compression.Sentence.{Rising, empty, next}
 use Rattle.wire.proofs.names.Extend.{read_on, within}
 use Rattle.wire.proofs.names.InPlace.{head, tail_at, label-step}
+use Rattle.std.specs.Prelude.{Option, Some, None}
 
 -- what stands at an offset is read there
 pub stands_read : (p s : List ℕ) (o : ℕ) → stands_at p s o ≡ true → (e : ℕ) × (name_at p o ≡ name s e)
@@ -34,12 +33,12 @@ stands_read p s o h = go (name_at p o) refl h
     go malformed r k = let z : ◌≡◌ {A = ℕ} 0 1 = cc in absurd (omega arith)
 
 -- the offset that was found is one of the offsets, and the name stands there
-pub place_found : (p s : List ℕ) {m n : ℕ} {os : List ℕ} (o : ℕ) → Rising m n os → place_of p s os ≡ At o → (m ≤ o) × (stands_at p s o ≡ true)
+pub place_found : (p s : List ℕ) {m n : ℕ} {os : List ℕ} (o : ℕ) → Rising m n os → place_of p s os ≡ Some o → (m ≤ o) × (stands_at p s o ≡ true)
 unfolding place_of
 place_found p s o (empty h) k = let z : ◌≡◌ {A = ℕ} 0 1 = cc in absurd (omega arith)
 place_found p s {m = m} o (next {o = x} {os = xs} lo up) h = go (stands_at p s x) refl h (place_found p s o up)
   where
-    go : (b : Bool) → stands_at p s x ≡ b → cond b (At x) (place_of p s xs) ≡ At o → (place_of p s xs ≡ At o → (suc x ≤ o) × (stands_at p s o ≡ true)) → (m ≤ o) ×
+    go : (b : Bool) → stands_at p s x ≡ b → cond b (Some x) (place_of p s xs) ≡ Some o → (place_of p s xs ≡ Some o → (suc x ≤ o) × (stands_at p s o ≡ true)) → (m ≤ o) ×
         (stands_at p s o ≡ true)
     go true e k ih = let i : x ≡ o = cc in (omega arith, ap (stands_at p s) (sym i) ∙ e)
     go false e k ih = let f = ih k in (omega (arith, f.0), f.1)
@@ -50,7 +49,7 @@ bits o h = omega arith
 
 module _ (p q os : List ℕ) (n : ℕ) (small : length p ≤ 16384) (low : Rising 12 n os) where
   -- a pointer stands at a place, to an offset that was found for s
-  pointer_step : (s post : List ℕ) (o start at used : ℕ) → place_of p s os ≡ At o → length p ≤ start → drop at (p ++ q) ≡ pointer_to o ++ post → used + length s ≤
+  pointer_step : (s post : List ℕ) (o start at used : ℕ) → place_of p s os ≡ Some o → length p ≤ start → drop at (p ++ q) ≡ pointer_to o ++ post → used + length s ≤
       255
       → from_run (p ++ q) start at used ≡ name s (at + 2)
   pointer_step s post o start at used is later e fits =
@@ -75,12 +74,12 @@ module _ (p q os : List ℕ) (n : ℕ) (small : length p ≤ 16384) (low : Risin
       unroll (p ++ q) start at used ∙ ap (read_piece (from_run (p ++ q)) (p ++ q) start at used) (piece_root (p ++ q) start at used g.0 g.1)
   read_back (l ∷ ls) (one lo hi rest) post start at used later e fits = go (place_of p (encode (l ∷ ls)) os) refl e (read_back ls rest)
     where
-      go : (x : Place) → place_of p (encode (l ∷ ls)) os ≡ x → drop at (p ++ q) ≡ cut_at x (length l ∷ (l ++ by_labels p os ls)) ++ post
+      go : (x : Option ℕ) → place_of p (encode (l ∷ ls)) os ≡ x → drop at (p ++ q) ≡ cut_at x (length l ∷ (l ++ by_labels p os ls)) ++ post
           → ((post : List ℕ) (start at used : ℕ) → length p ≤ start → drop at (p ++ q) ≡ by_labels p os ls ++ post
           → used + length (encode ls) ≤ 255 → from_run (p ++ q) start at used ≡ name (encode ls) (at + length (by_labels p os ls)))
           → from_run (p ++ q) start at used ≡ name (encode (l ∷ ls)) (at + length (cut_at x (length l ∷ (l ++ by_labels p os ls))))
-      go (At o) is k ih = pointer_step (encode (l ∷ ls)) post o start at used is later k fits
-      go Nowhere is k ih =
+      go (Some o) is k ih = pointer_step (encode (l ∷ ls)) post o start at used is later k fits
+      go None is k ih =
           label-step (p ++ q) l (by_labels p os ls) (encode ls) post start at used lo hi k fits (encode-pos ls)
           (λ d. ih post start (at + 1 + length l) (used + 1 + length l) later d (omega (arith, length-append l (encode ls))))
 
@@ -111,10 +110,10 @@ places-read p q os n small low [] none post at later e fits = nothing
 places-read p q os n small low (l ∷ ls) (one lo hi rest) post at later e fits =
     go (place_of p (encode (l ∷ ls)) os) e (places-read p q os n small low ls rest post (at + 1 + length l) (omega arith))
   where
-    go : (x : Place) → drop at (p ++ q) ≡ cut_at x (length l ∷ (l ++ by_labels p os ls)) ++ post
+    go : (x : Option ℕ) → drop at (p ++ q) ≡ cut_at x (length l ∷ (l ++ by_labels p os ls)) ++ post
         → (drop (at + 1 + length l) (p ++ q) ≡ by_labels p os ls ++ post → length (encode ls) ≤ 255 → Read (p ++ q) (places_by p os (at + 1 + length l) ls))
         → Read (p ++ q) (none_at x (at ∷ places_by p os (at + 1 + length l) ls))
-    go (At o) k ih = nothing
-    go Nowhere k ih =
+    go (Some o) k ih = nothing
+    go None k ih =
         reads (l ∷ ls) _ (read_back p q os n small low (l ∷ ls) (one lo hi rest) post at at 0 later e (omega arith))
         (ih (tail_at (p ++ q) l (by_labels p os ls) post at k) (omega (arith, length-append l (encode ls))))

@@ -10,23 +10,22 @@ use Rattle.wire.proofs.names.Extend.{within}
 use Rattle.wire.specs.names.Names.{name, name_at, is_name}
 use Rattle.wire.specs.labels.Labels.{encode, Labels, none, one, IsName}
 use Rattle.wire.proofs.labels.Encoded.{encode-pos, made_of}
-use Rattle.writer.specs.declared.compression.Place.{Place}
-use Rattle.writer.specs.declared.compression.Place.TheVariants.{At, Nowhere}
 use Rattle.writer.specs.compression.Compression.{stands_at, place_of, onward, cut_here, cut_from, cut_of, name_bytes, name_places}
 use Rattle.wire.specs.labels.Counted.{starts, labels_in}
 use Rattle.writer.specs.compression.Sentence.{Rising}
 use Rattle.writer.proofs.compression.ByLabels.{starts-on, cut_at, by_labels, places_by, by-labels, places-by}
 use Rattle.writer.proofs.compression.Places.{name-rising}
 use Rattle.writer.proofs.compression.ReadBack as labelled
+use Rattle.std.specs.Prelude.{Option, Some, None}
 
 shorter : (p os : List ℕ) {ls : List (List ℕ)} → Labels ls → length (by_labels p os ls) ≤ length (encode ls)
 unfolding by_labels
 shorter p os none = omega arith
 shorter p os (one {l = l} {ls = ls} lo hi rest) = go (place_of p (encode (l ∷ ls)) os) (shorter p os rest)
   where
-    go : (x : Place) → length (by_labels p os ls) ≤ length (encode ls) → length (cut_at x (length l ∷ (l ++ by_labels p os ls))) ≤ length (encode (l ∷ ls))
-    go (At o) ih = omega (arith, length-append l (encode ls), encode-pos ls)
-    go Nowhere ih = omega (arith, length-append l (encode ls), length-append l (by_labels p os ls))
+    go : (x : Option ℕ) → length (by_labels p os ls) ≤ length (encode ls) → length (cut_at x (length l ∷ (l ++ by_labels p os ls))) ≤ length (encode (l ∷ ls))
+    go (Some o) ih = omega (arith, length-append l (encode ls), encode-pos ls)
+    go None ih = omega (arith, length-append l (encode ls), length-append l (by_labels p os ls))
 
 -- what is kept of a list has no more labels
 fewer : (a b k m : ℕ) (bs : List ℕ) → length (starts a k (take m bs)) ≤ length (starts b k bs)
@@ -71,26 +70,26 @@ module _ (p os : List ℕ) where
   stands_within : (s : List ℕ) (o : ℕ) → stands_at p s o ≡ true → o < length p
   stands_within s o h = let g = labelled.stands_read p s o h in within p o s g.0 g.1
 
-  place-within : (s os : List ℕ) (o : ℕ) → place_of p s os ≡ At o → o < length p
+  place-within : (s os : List ℕ) (o : ℕ) → place_of p s os ≡ Some o → o < length p
   unfolding place_of
   place-within s [] o h = let z : ◌≡◌ {A = ℕ} 0 1 = cc in absurd (omega arith)
   place-within s (x ∷ xs) o h = go (stands_at p s x) refl h (place-within s xs o)
     where
-      go : (b : Bool) → stands_at p s x ≡ b → cond b (At x) (place_of p s xs) ≡ At o → (place_of p s xs ≡ At o → o < length p) → o < length p
+      go : (b : Bool) → stands_at p s x ≡ b → cond b (Some x) (place_of p s xs) ≡ Some o → (place_of p s xs ≡ Some o → o < length p) → o < length p
       go true e k ih = let i : x ≡ o = cc in rw (← i) (stands_within s x e)
       go false e k ih = ih k
 
-  pub cut-within : (k : ℕ) (bs : List ℕ) (o : ℕ) → (cut_from p os k bs).place ≡ At o → o < length p
+  pub cut-within : (k : ℕ) (bs : List ℕ) (o : ℕ) → (cut_from p os k bs).place ≡ Some o → o < length p
   unfolding cut_from
   cut-within k [] o h = let z : ◌≡◌ {A = ℕ} 0 1 = cc in absurd (omega arith)
   cut-within (suc k) (b ∷ bs) o h = cut-within k bs o h
   cut-within zero (zero ∷ bs) o h = let z : ◌≡◌ {A = ℕ} 0 1 = cc in absurd (omega arith)
   cut-within zero (suc n ∷ bs) o h = go (place_of p (suc n ∷ bs) os) refl h (cut-within (suc n) bs o)
     where
-      go : (x : Place) → place_of p (suc n ∷ bs) os ≡ x → (cut_here x (onward (cut_from p os (suc n) bs))).place ≡ At o →
-          ((cut_from p os (suc n) bs).place ≡ At o → o < length p) → o < length p
-      go (At y) e q ih = place-within (suc n ∷ bs) os o (e ∙ q)
-      go Nowhere e q ih = ih q
+      go : (x : Option ℕ) → place_of p (suc n ∷ bs) os ≡ x → (cut_here x (onward (cut_from p os (suc n) bs))).place ≡ Some o →
+          ((cut_from p os (suc n) bs).place ≡ Some o → o < length p) → o < length p
+      go (Some y) e q ih = place-within (suc n ∷ bs) os o (e ∙ q)
+      go None e q ih = ih q
 
   pub kept-most : (k : ℕ) (bs : List ℕ) → (cut_from p os k bs).kept ≤ length bs
   unfolding cut_from
@@ -99,9 +98,9 @@ module _ (p os : List ℕ) where
   kept-most zero (zero ∷ bs) = omega arith
   kept-most zero (suc n ∷ bs) = go (place_of p (suc n ∷ bs) os) (kept-most (suc n) bs)
     where
-      go : (x : Place) → (cut_from p os (suc n) bs).kept ≤ length bs → (cut_here x (onward (cut_from p os (suc n) bs))).kept ≤ length (suc n ∷ bs)
-      go (At y) ih = omega arith
-      go Nowhere ih = omega arith
+      go : (x : Option ℕ) → (cut_from p os (suc n) bs).kept ≤ length bs → (cut_here x (onward (cut_from p os (suc n) bs))).kept ≤ length (suc n ∷ bs)
+      go (Some y) ih = omega arith
+      go None ih = omega arith
 
 -- a name of labels has as many labels
 pub labels_in_lem : {ls : List (List ℕ)} (at : ℕ) → Labels ls → length (starts at 0 (encode ls)) ≡ length ls

@@ -21,7 +21,6 @@ use Rattle.own.specs.records.Setups.{valid_setup}
 use Rattle.own.specs.records.Records.{own_of, own_name}
 use Rattle.own.proofs.records.Valid.{Valid, valid, own_is_name}
 use Rattle.writer.specs.declared.Spot.{Spot}
-use Rattle.writer.specs.declared.Placed.{Placed}
 use Rattle.writer.specs.Items.{Writing, put_question, put_record}
 use Rattle.writer.specs.Writer.{held_in, spot_of, room_in, question_of, name_fits, question_fits, Placing, Grown}
 use Rattle.writer.proofs.Use.{question-size, question-count, question-low, record_low, held-so}
@@ -36,6 +35,8 @@ use Rattle.writer.specs.own_packets.Own.{refusal, unless_refused, sent_of, writt
 use Rattle.writer.specs.own_packets.Ready.{spot_after, TtlSmall, each, ListReady, listed, Picks, asked_size, asked_labels, AskReady, most_places, PacketReady}
 use Rattle.writer.proofs.own_packets.Owned.{own_front, placed-grown, own_shaped}
 use Rattle.writer.proofs.own_packets.Room.{response_size, response_labels, probe-size, probe-labels, claim_size_lem, claim_labels}
+use Rattle.std.specs.Prelude.{Result}
+use Rattle.writer.specs.declared.Misfit.{Misfit}
 
 -- the answer and the buffer
 abbrev pub Answered : ℕ → List ℕ → List ℕ → Written → List ℕ → Type 0
@@ -131,7 +132,7 @@ module _ (style : Style) (name o pl : List ℕ) (ready : AskReady style name o p
         let c : 0 + labels_in name + 0 ≤ length pl = omega (arith, labels) in
         simp (le-leb _ _ a, le-leb _ _ b, le-leb _ _ c)
 
-    pub asked-grown : (placed : Placed) (o' pl' : List ℕ)
+    pub asked-grown : (placed : Result Spot Misfit) (o' pl' : List ℕ)
         → Placing (is_name name) (question_fits (room_in o pl 12 0) name) (put_question (held_in o pl 12 0) (question_of name style.qtype style.qclass)) o pl
         placed o' pl'
         → (r : Spot) → r ≡ spot_after placed 12 0 → Grown (put_all put_question (held_in o pl 12 0) (asked style name)) o pl r o' pl'

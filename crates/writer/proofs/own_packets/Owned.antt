@@ -6,8 +6,8 @@ use Prim.Native.Nat.{ℕ, ◌+◌, ◌-◌, ◌<◌, ◌≤◌}
 use native.Mathlib.Numerals.{add-one}
 use native.Mathlib.Omega.{arith}
 use borrow.Author.Tests.{le-leb, eq-eqb}
-use lib.ListN.{length, get_or, take, drop, replicate, length-take, take-append-drop, drop_of_length-le, length-map, get_or-map}
-use lib.Seq.{sets, get_or-take, take_at, drop_at, drop-cons, length-take-le, drop-drop}
+use lib.ListN.{length, get_or, take, drop, replicate, take-append-drop, drop_of_length-le, get_or-map}
+use lib.Seq.{sets, take_at, drop_at, drop-cons, length-take-le, drop-drop}
 use Rattle.wire.specs.labels.Labels.{encode}
 use Rattle.wire.specs.names.Names.{is_name}
 use Rattle.wire.proofs.labels.Encoded.{is_name_lem}
@@ -23,7 +23,6 @@ use Rattle.own.specs.records.Setups.{valid_setup, instance_labels, host_labels}
 use Rattle.own.specs.records.Records.{own_of, own_labels, own_name, own_rdata, srv_rdata, instance_types, host_types}
 use Rattle.own.proofs.records.Valid.{Valid, valid, instance-name, host-name, own_is_name}
 use Rattle.writer.specs.declared.Spot.{Spot}
-use Rattle.writer.specs.declared.Placed.{Placed}
 use Rattle.writer.specs.Items.{Writing, u16, put_record}
 use Rattle.wire.specs.message.Message.{record_of}
 use Rattle.writer.specs.Writer.{held_in, spot_of, room_in, labels_for, name_fits, record_fits, Placing, Grown}
@@ -36,9 +35,9 @@ use Rattle.writer.proofs.Use.{is-done, is-grown, record_size, record_count, reco
 use Rattle.writer.specs.own_packets.Packets.{header_bytes, put_all}
 use Rattle.writer.specs.own_packets.Styles.{class_in, ttl_in, own_record}
 use Rattle.writer.specs.own_packets.Ready.{spot_after, size_of, labels_of, sizes, label_counts, TtlSmall, each, fixed, OwnReady, ListReady}
-use Rattle.writer.specs.declared.own_packets.TtlRule.{TtlRule}
-use Rattle.writer.specs.declared.own_packets.TtlRule.TheVariants.{Each}
 use Rattle.writer.specs.declared.own_packets.Style.{Style}
+use Rattle.std.specs.Prelude.{Result, Option, None}
+use Rattle.writer.specs.declared.Misfit.{Misfit}
 
 -- six runs of two bytes
 pub six : (o : List ℕ) (a b c d e f : ℕ) (o₁ o₂ o₃ o₄ o₅ o₆ : List ℕ) → o₁ ≡ sets o 0 (u16 a) → o₂ ≡ sets o₁ 2 (u16 b) → o₃ ≡ sets o₂ 4 (u16 c) → o₄ ≡ sets o₃ 6
@@ -59,15 +58,12 @@ module _ (bs : List ℕ) (r : OwnBytes) (e : r ≡ own_of bs) where
   pub own_long : r.len ≡ length (take r.len r.bytes)
   own_long = ap (λ (x : OwnBytes). x.len) e ∙ ap length (sym own_front)
 
-  pub own_fits : r.len ≤ length r.bytes
-  own_fits = omega (arith, own_long, length-take r.len r.bytes)
-
 -- what is fit and has room is put, so the packet ends behind it
-pub placed-grown : (fit fits : Bool) (v : Writing) (o pl : List ℕ) (placed : Placed) (o' pl' : List ℕ) → Placing fit fits v o pl placed o' pl'
+pub placed-grown : (fit fits : Bool) (v : Writing) (o pl : List ℕ) (placed : Result Spot Misfit) (o' pl' : List ℕ) → Placing fit fits v o pl placed o' pl'
     → fit ≡ true → fits ≡ true → (at count : ℕ) (r : Spot) → r ≡ spot_after placed at count → Grown v o pl r o' pl'
 placed-grown fit fits v o pl placed o' pl' p u t at count r e =
     subst (λ (x : Spot). Grown v o pl x o' pl')
-    (sym (e ∙ ap (λ (x : Placed). spot_after x at count) (is-done fit fits v o pl placed o' pl' p u t))) (is-grown fit fits v o pl placed o' pl' p u t)
+    (sym (e ∙ ap (λ (x : Result Spot Misfit). spot_after x at count) (is-done fit fits v o pl placed o' pl' p u t))) (is-grown fit fits v o pl placed o' pl' p u t)
 
 -- an NSEC says its owner again, and then types of its name
 instance-nsec_shaped : (s : Setup) → Valid s → is_shaped (own_name s InstanceNsec) 47 (own_rdata s InstanceNsec) ≡ true
@@ -93,9 +89,9 @@ own_shaped s ok Aaaa = eq-eqb _ _ ok.sixteen
 own_shaped s ok InstanceNsec = instance-nsec_shaped s ok
 own_shaped s ok HostNsec = host-nsec_shaped s ok
 
-pub own_counts : {rule : TtlRule} → TtlSmall rule → (o : Own) → ttl_in rule o < 2147483648
+pub own_counts : {rule : Option ℕ} → TtlSmall rule → (o : Own) → ttl_in rule o < 2147483648
 own_counts each o =
-    by-record (λ o. ttl_in Each o < 2147483648) (omega arith) (omega arith) (omega arith) (omega arith) (omega arith) (omega arith) (omega arith) o
+    by-record (λ o. ttl_in None o < 2147483648) (omega arith) (omega arith) (omega arith) (omega arith) (omega arith) (omega arith) (omega arith) o
 own_counts (fixed h) o = h
 
 module _ (s : Setup) (style : Style) (i : Own) (at count : ℕ) (o pl : List ℕ) (ready : OwnReady s style i at count o pl) where
@@ -120,7 +116,7 @@ module _ (s : Setup) (style : Style) (i : Own) (at count : ℕ) (o pl : List ℕ
     record_fit : (t : ℕ) → t ≡ ttl_in style.ttl i → fit_record (take n.len n.bytes) k t (take d.len d.bytes) ≡ true
     record_fit t et = (λ j. fit_record (own_front (own_name s i) n en j) (ek j) (et j) (own_front (own_rdata s i) d ed j)) ∙ fit
 
-    pub own_grown : (c t : ℕ) → c ≡ class_in style i → t ≡ ttl_in style.ttl i → (placed : Placed) (o' pl' : List ℕ)
+    pub own_grown : (c t : ℕ) → c ≡ class_in style i → t ≡ ttl_in style.ttl i → (placed : Result Spot Misfit) (o' pl' : List ℕ)
         → Placing (fit_record (take n.len n.bytes) k t (take d.len d.bytes))
         (record_fits (room_in o pl at count) (take n.len n.bytes) k (take d.len d.bytes))
         (put_record style.whole (held_in o pl at count) (record_of (take n.len n.bytes) k c t (take d.len d.bytes))) o pl placed o' pl'
@@ -250,9 +246,6 @@ module _ (s : Setup) (style : Style) (is : List Own) (v : Writing) (o₀ pl₀ o
               l₀ ∙ ap (λ (q : ℕ). drop q l₀) (sym t ∙ sym ee)
 
 -- the record of the index at a place of the order
-pub listed_at : (order : List ℕ) (n j : ℕ) (x : Own) → x ≡ record_at (get_or order j 0) → j < n → x ≡ get_or (map record_at (take n order)) j Ptr
+pub listed_at : (is : List ℕ) (j : ℕ) (x : Own) → x ≡ record_at (get_or is j 0) → x ≡ get_or (map record_at is) j Ptr
 unfolding record_at
-listed_at order n j x e h = e ∙ sym (get_or-map record_at (take n order) j 0 ∙ ap record_at (get_or-take n order j 0 h))
-
-pub listed-length : (order : List ℕ) (n : ℕ) → n ≤ length order → length (map record_at (take n order)) ≡ n
-listed-length order n h = length-map (take n order) record_at ∙ length-take-le n order h
+listed_at is j x e = e ∙ sym (get_or-map record_at is j 0)

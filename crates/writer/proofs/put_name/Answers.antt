@@ -63,7 +63,7 @@ overflow_add-o c = omega (
   arith,
   pointer_small c.args.known c.args.at c.args.count c.args.tried c.args.name.now
       c.args.out.now c.args.places.now c.requires c.cut_of-cut.result
-      c.cut_of-cut.ensures _ c.in-At.is,
+      c.cut_of-cut.ensures _ c.in-Some.is,
 )
 
 pub put_u16-requires : goal.put_u16-requires
@@ -72,7 +72,7 @@ put_u16-requires c = (
     arith,
     room-end c.args.known c.args.at c.args.count c.args.tried c.args.name.now
         c.args.out.now c.args.places.now c.requires c.cut_of-cut.result
-        c.cut_of-cut.ensures _ c.in-At.is,
+        c.cut_of-cut.ensures _ c.in-Some.is,
     ap length c.put.ensures ∙ length-sets
         c.args.out.now c.args.at (take c.cut_of-cut.result.kept c.args.name.now),
   ),
@@ -80,7 +80,7 @@ put_u16-requires c = (
     arith,
     pointer_small c.args.known c.args.at c.args.count c.args.tried c.args.name.now
         c.args.out.now c.args.places.now c.requires c.cut_of-cut.result
-        c.cut_of-cut.ensures _ c.in-At.is,
+        c.cut_of-cut.ensures _ c.in-Some.is,
   ),
 )
 
@@ -92,7 +92,7 @@ overflow_add-result c = omega (
       c.args.out.now c.args.places.now c.requires
       c.cut_of-cut.result
       c.cut_of-cut.ensures
-      _ c.in-At.is,
+      _ c.in-Some.is,
 )
 
 pub bounds-out-end : goal.bounds-out-end
@@ -107,15 +107,15 @@ bounds-out-end c = omega (
       c.args.places.now
       c.requires c.cut_of-cut.result
       c.cut_of-cut.ensures _
-      c.in-Nowhere.is,
+      c.in-None.is,
   ap length c.put.ensures ∙ length-sets
       c.args.out.now
       c.args.at
       (take c.cut_of-cut.result.kept c.args.name.now),
 )
 
-pub overflow_add-result-in-Nowhere : goal.overflow_add-result-in-Nowhere
-overflow_add-result-in-Nowhere c = omega (
+pub overflow_add-result-in-None : goal.overflow_add-result-in-None
+overflow_add-result-in-None c = omega (
   arith,
   room-end c.args.known
       c.args.at
@@ -126,21 +126,21 @@ overflow_add-result-in-Nowhere c = omega (
       c.args.places.now
       c.requires c.cut_of-cut.result
       c.cut_of-cut.ensures _
-      c.in-Nowhere.is,
+      c.in-None.is,
 )
 
-pub returns-in-At : goal.returns-in-At
-returns-in-At c = wrote_pointer c.args.known c.args.at c.args.count
+pub returns-in-Some : goal.returns-in-Some
+returns-in-Some c = wrote_pointer c.args.known c.args.at c.args.count
     c.args.tried c.args.name.now c.args.out.now
     c.args.places.now c.requires
     c.cut_of-cut.result c.cut_of-cut.ensures
     _ _ _ c.put.ensures
     c.note_starts-noted.ensures.value
     c.note_starts-noted.ensures.places_after _
-    c.in-At.is _ c.put_u16.ensures
+    c.in-Some.is _ c.put_u16.ensures
 
-pub returns-in-Nowhere : goal.returns-in-Nowhere
-returns-in-Nowhere c = wrote_root c.args.known
+pub returns-in-None : goal.returns-in-None
+returns-in-None c = wrote_root c.args.known
     c.args.at
     c.args.count
     c.args.tried
@@ -149,4 +149,4 @@ returns-in-Nowhere c = wrote_root c.args.known
     c.args.places.now
     c.requires c.cut_of-cut.result c.cut_of-cut.ensures _ _
     _ c.put.ensures c.note_starts-noted.ensures.value
-    c.note_starts-noted.ensures.places_after c.in-Nowhere.is
+    c.note_starts-noted.ensures.places_after c.in-None.is

@@ -1,12 +1,11 @@
 -- A goodbye (specification, 'Stops and updates'; RFC 6762, section 10.1): "one packet with the held claims' records, own classes, TTL 0, in 01's order; nothing
 -- where no claim is held". Assumes nothing: these are definitions.
-use Rattle.std.specs.Prelude.{ℕ, List, [], true, false}
+use Rattle.std.specs.Prelude.{ℕ, List, [], true, false, Some}
 use Rattle.claims.specs.declared.records.Set.{Set}
 use Rattle.wire.specs.message.Message.{Message}
 use Rattle.own.specs.declared.records.Setup.{Setup}
 use Rattle.writer.specs.own_packets.Styles.{styled_message, packet_in}
 use Rattle.writer.specs.own_packets.Own.{response_records, none_if_empty}
-use Rattle.writer.specs.declared.own_packets.TtlRule.TheVariants.{Fixed}
 use Rattle.writer.specs.declared.own_packets.Style.{Style}
 
 -- a response of ID 0 whose records have TTL 0
@@ -18,7 +17,7 @@ goodbye_style = record {
   qtype = 0;
   qclass = 0;
   authority = false;
-  ttl = Fixed 0;
+  ttl = Some 0;
   flush = true;
   whole = false;
 }

@@ -5,7 +5,8 @@ use Rattle.claims.specs.records.Sets.{picked, with_data}
 use Rattle.claims.specs.declared.records.Claim.{Claim}
 use Rattle.claims.specs.declared.records.Own.{Own}
 use Rattle.claims.specs.declared.records.Set.{Set}
-use Rattle.wire.specs.refusals.Numbers.{BUFFER, SETUP, first_refusal}
+use Rattle.wire.specs.refusals.Numbers.{first_refusal}
+use Rattle.wire.specs.declared.refusals.Refusal.TheVariants as cause
 use Rattle.wire.specs.names.Names.{is_name}
 use Rattle.wire.specs.message.Message.{Question, Message}
 use Rattle.own.specs.declared.records.Setup.{Setup}
@@ -61,7 +62,7 @@ small_buffer room = ltb room 1452
 
 -- 3, then 7: "names or data, in a setup .. break the rules"
 unfoldable pub refusal : Setup → List ℕ → ℕ
-refusal s out = first_refusal ((BUFFER, small_buffer (length out)) ∷ ((SETUP, not (valid_setup s)) ∷ []))
+refusal s out = first_refusal ((cause.Buffer, small_buffer (length out)) ∷ ((cause.Setup, not (valid_setup s)) ∷ []))
 
 -- what is written: nothing where it is refused
 abbrev pub unless_refused : ℕ → List ℕ → List ℕ

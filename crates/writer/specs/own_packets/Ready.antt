@@ -1,5 +1,5 @@
 -- What the private functions that write own records ask for and leave: room for each record with its names whole.
-use Rattle.std.specs.Prelude.{ℕ, ◌+◌, ◌≤◌, ◌<◌, ◌≡◌, List, [], ◌∷◌, map, true, cond, length, take}
+use Rattle.std.specs.Prelude.{ℕ, ◌+◌, ◌≤◌, ◌<◌, ◌≡◌, List, [], ◌∷◌, map, true, cond, length, take, Result, Ok, Err, Option, Some, None}
 use Rattle.wire.specs.names.Names.{is_name}
 use Rattle.wire.specs.labels.Counted.{labels_in}
 use Rattle.claims.specs.records.Own.{records, record_at, own_type}
@@ -8,14 +8,11 @@ use Rattle.own.specs.declared.records.Setup.{Setup}
 use Rattle.own.specs.records.Setups.{valid_setup}
 use Rattle.own.specs.records.Records.{own_name, own_rdata}
 use Rattle.writer.specs.declared.Spot.{Spot}
-use Rattle.writer.specs.declared.Placed.{Placed}
-use Rattle.writer.specs.declared.Placed.TheVariants.{Done, Full, Unfit}
 use Rattle.writer.specs.Fit.{form_for}
 use Rattle.writer.specs.Writer.{spot_of, labels_for}
 use Rattle.writer.specs.declared.own_packets.Picked.{Picked}
-use Rattle.writer.specs.declared.own_packets.TtlRule.{TtlRule}
-use Rattle.writer.specs.declared.own_packets.TtlRule.TheVariants.{Each, Fixed}
 use Rattle.writer.specs.declared.own_packets.Style.{Style}
+use Rattle.writer.specs.declared.Misfit.{Misfit}
 
 -- each number of the header fits in two bytes
 pub record HeaderReady (id flags questions answers authorities : ℕ) (out : List ℕ) : Type 0 where
@@ -27,10 +24,9 @@ pub record HeaderReady (id flags questions answers authorities : ℕ) (out : Lis
   pub authorities_small : authorities < 65536
 
 -- where a packet ends after something was to be put behind it: where it did before, if it was not
-abbrev pub spot_after : Placed → ℕ → ℕ → Spot
-spot_after (Done spot) at count = spot
-spot_after Full at count = spot_of at count
-spot_after Unfit at count = spot_of at count
+abbrev pub spot_after : Result Spot Misfit → ℕ → ℕ → Spot
+spot_after (Ok spot) at count = spot
+spot_after (Err misfit) at count = spot_of at count
 
 -- the bytes and the labels of an own record, its names whole
 abbrev pub size_of : Setup → Own → ℕ
@@ -49,9 +45,9 @@ label_counts s [] = 0
 label_counts s (o ∷ os) = labels_of s o + label_counts s os
 
 -- every TTL of a style is one that counts
-pub data TtlSmall : TtlRule → Type 0 where
-  each : TtlSmall Each
-  fixed : {ttl : ℕ} → ttl < 2147483648 → TtlSmall (Fixed ttl)
+pub data TtlSmall : Option ℕ → Type 0 where
+  each : TtlSmall None
+  fixed : {ttl : ℕ} → ttl < 2147483648 → TtlSmall (Some ttl)
 
 pub record OwnReady (s : Setup) (style : Style) (o : Own) (at count : ℕ) (out places : List ℕ) : Type 0 where
   pub ok : valid_setup s ≡ true

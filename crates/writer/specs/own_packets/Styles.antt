@@ -1,6 +1,6 @@
 -- How packets of own records differ (specification, 'Writing a packet'): the header, a question in front, the section, TTLs, the class's top bit, and
 -- whether the target of the SRV is cut. Assumes nothing: these are definitions.
-use Rattle.std.specs.Prelude.{ℕ, List, [], ◌∷◌, map, true, false, cond}
+use Rattle.std.specs.Prelude.{ℕ, List, [], ◌∷◌, map, true, false, cond, Option, Some, None}
 use Rattle.claims.specs.records.Own.{own_type, own_class, own_ttl}
 use Rattle.claims.specs.declared.records.Own.{Own}
 use Rattle.wire.specs.message.Message.{Question, Record, Message}
@@ -8,8 +8,6 @@ use Rattle.own.specs.declared.records.Setup.{Setup}
 use Rattle.own.specs.records.Records.{own_name, own_rdata}
 use Rattle.writer.specs.Writer.{question_of}
 use Rattle.writer.specs.own_packets.Packets.{packet_of}
-use Rattle.writer.specs.declared.own_packets.TtlRule.{TtlRule}
-use Rattle.writer.specs.declared.own_packets.TtlRule.TheVariants.{Each, Fixed}
 use Rattle.writer.specs.declared.own_packets.Style.{Style}
 
 -- "Responses have flags 0x8400"; the ID is 0 to all, and "Unicast answers carry the query's ID"
@@ -21,7 +19,7 @@ response_style id = record {
   qtype = 0;
   qclass = 0;
   authority = false;
-  ttl = Each;
+  ttl = None;
   flush = true;
   whole = false;
 }
@@ -36,7 +34,7 @@ probe_style = record {
   qtype = 255;
   qclass = 0x8001;
   authority = true;
-  ttl = Each;
+  ttl = None;
   flush = false;
   whole = false;
 }
@@ -50,7 +48,7 @@ plain_style id qtype qclass = record {
   qtype = qtype;
   qclass = qclass;
   authority = false;
-  ttl = Fixed 10;
+  ttl = Some 10;
   flush = false;
   whole = true;
 }
@@ -60,9 +58,9 @@ abbrev pub class_in : Style → Own → ℕ
 class_in style o = cond style.flush (own_class o) 1
 
 -- each record's own TTL, or one for all
-abbrev pub ttl_in : TtlRule → Own → ℕ
-ttl_in Each o = own_ttl o
-ttl_in (Fixed ttl) o = ttl
+abbrev pub ttl_in : Option ℕ → Own → ℕ
+ttl_in None o = own_ttl o
+ttl_in (Some ttl) o = ttl
 
 -- an own record in a style
 unfoldable pub own_record : Setup → Style → Own → Record

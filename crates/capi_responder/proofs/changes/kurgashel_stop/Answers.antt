@@ -1,12 +1,13 @@
 use Rattle.capi_responder.proofs.Calling.{of_stop, call_kept, stop-taken}
 use Rattle.capi_responder.proofs.changes.kurgashel_stop.Goals as goal
-
-pub returns-then-refusal_of-ne0 : goal.returns-then-refusal_of-ne0
-returns-then-refusal_of-ne0 c = let a = c.args in
-    call_kept a.state.now a.out.now _ c.read_state.ensures (of_stop c.stop-ended.ensures) c.refusal_of.ensures c.answered.ensures
-    c.if-refusal_of-ne0.true
+use Rattle.capi_responder.proofs.changes.kurgashel_stop.Goals.{then-refusal_of-eq0, else-refusal_of-eq0}
 
 pub returns : goal.returns
 returns c = let a = c.args in
-    stop-taken a.state.now a.out.now _ c.read_state.ensures c.refusal_of.ensures c.answered-2.ensures (of_stop c.stop-ended.ensures)
-    c.if-refusal_of-ne0.false c.put_progress.ensures
+    let gives = of_stop c.stop-ended.ensures in
+    elim c.if-refusal_of-eq0.branch [
+      | then-refusal_of-eq0 w ↦ rw w.state-is
+          (stop-taken a.state.now a.out.now _ c.read_state.ensures c.refusal_of.ensures c.answered.ensures gives w.if-refusal_of-eq0.true w.put_progress.ensures)
+      | else-refusal_of-eq0 w ↦ rw w.state-is
+          (call_kept a.state.now a.out.now _ c.read_state.ensures gives c.refusal_of.ensures c.answered.ensures w.if-refusal_of-eq0.false)
+    ]

@@ -3,17 +3,19 @@ use mathlib.Core.Path.{sym, ◌∙◌}
 use Rattle.capi_responder.proofs.Renewing.{short_txt}
 use Rattle.capi_responder.proofs.Calling.{update-kept, update-taken}
 use Rattle.capi_responder.proofs.changes.kurgashel_update_txt.Goals as goal
-
-pub returns-then-refusal_of-ne0 : goal.returns-then-refusal_of-ne0
-returns-then-refusal_of-ne0 c = let a = c.args in
-    update-kept a.state.now a.out.now _ c.read_state.ensures c.refusal_of.ensures c.answered.ensures c.update_txt-changed.ensures
-    c.if-refusal_of-ne0.true
+use Rattle.capi_responder.proofs.changes.kurgashel_update_txt.Goals.{then-refusal_of-eq0, else-refusal_of-eq0}
 
 pub put_txt-requires : goal.put_txt-requires
-put_txt-requires c = short_txt _ _ _ _ (sym c.update_txt-changed.ensures.number ∙ sym c.refusal_of.ensures ∙ c.if-refusal_of-ne0.false)
+put_txt-requires c = short_txt _ _ _ _ (sym c.update_txt-changed.ensures.number ∙ sym c.refusal_of.ensures ∙ c.if-refusal_of-eq0.true)
 
 pub returns : goal.returns
 unfolding with_data
 returns c = let a = c.args in
-    update-taken a.state.now a.out.now _ c.read_state.ensures c.refusal_of.ensures c.answered-2.ensures c.update_txt-changed.ensures
-    c.if-refusal_of-ne0.false c.put_txt.ensures c.put_progress.ensures
+    let changes = c.update_txt-changed.ensures in
+    elim c.if-refusal_of-eq0.branch [
+      | then-refusal_of-eq0 w ↦ rw w.state-is
+          (update-taken a.state.now a.out.now _ c.read_state.ensures c.refusal_of.ensures c.answered.ensures changes w.if-refusal_of-eq0.true
+          w.put_txt.ensures w.put_progress.ensures)
+      | else-refusal_of-eq0 w ↦ rw w.state-is
+          (update-kept a.state.now a.out.now _ c.read_state.ensures c.refusal_of.ensures c.answered.ensures changes w.if-refusal_of-eq0.false)
+    ]

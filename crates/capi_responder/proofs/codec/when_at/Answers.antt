@@ -1,8 +1,12 @@
-use Rattle.capi_responder.proofs.codec.Cases.{when_set, when_unset}
+use native.Mathlib.Omega.{arith}
+use Rattle.std.proofs.lemmas.Grind.{common_steps}
+use Rattle.capi_responder.specs.codec.Parts.{when_at}
 use Rattle.capi_responder.proofs.codec.when_at.Goals as goal
 
 pub returns-then-flag : goal.returns-then-flag
-returns-then-flag c = let a = c.args in when_set a.b.now a.at _ c.flag.ensures _ c.if-flag.true c.be64.ensures
+unfolding when_at
+returns-then-flag c = grind (arith, common_steps)
 
-pub returns : goal.returns
-returns c = let a = c.args in when_unset a.b.now a.at _ c.flag.ensures c.if-flag.false
+pub returns-else-flag : goal.returns-else-flag
+unfolding when_at
+returns-else-flag c = grind (arith, common_steps)

@@ -1,12 +1,16 @@
-use mathlib.Core.Path.{refl}
-use Rattle.capi_responder.proofs.idle.Tests.{reply-unset, reply-unknown, reply-step}
+use native.Mathlib.Omega.{arith}
+use Rattle.std.proofs.lemmas.Grind.{common_steps}
+use Rattle.capi_responder.specs.idle.Idle.{reply_rests}
 use Rattle.capi_responder.proofs.idle.reply_rests.Goals as goal
 
 pub returns-then-flag-eq0 : goal.returns-then-flag-eq0
-returns-then-flag-eq0 c = let a = c.args in reply-unset a.b.now a.at _ _ refl c.number_at.ensures a.time c.if-flag-eq0.true
+unfolding reply_rests
+returns-then-flag-eq0 c = grind (arith, common_steps)
 
-pub returns-then-flag-ne1 : goal.returns-then-flag-ne1
-returns-then-flag-ne1 c = let a = c.args in reply-unknown a.b.now a.at _ _ refl refl a.time c.if-flag-eq0.false c.if-flag-ne1.true
+pub returns-then-flag-eq1 : goal.returns-then-flag-eq1
+unfolding reply_rests
+returns-then-flag-eq1 c = grind (arith, common_steps)
 
-pub returns : goal.returns
-returns c = let a = c.args in reply-step a.b.now a.at _ _ refl c.number_at-2.ensures a.time c.if-flag-ne1.false c.is_to_come.ensures
+pub returns-else-flag-eq1 : goal.returns-else-flag-eq1
+unfolding reply_rests
+returns-else-flag-eq1 c = grind (arith, common_steps)

@@ -1,12 +1,16 @@
-use mathlib.Core.Path.{refl}
-use Rattle.capi_responder.proofs.idle.Tests.{last-unset, last-unknown, last_set}
+use native.Mathlib.Omega.{arith}
+use Rattle.std.proofs.lemmas.Grind.{common_steps}
+use Rattle.capi_responder.specs.idle.Idle.{when_kept}
 use Rattle.capi_responder.proofs.idle.when_kept.Goals as goal
 
 pub returns-then-flag-eq0 : goal.returns-then-flag-eq0
-returns-then-flag-eq0 c = let a = c.args in last-unset a.b.now a.at _ _ refl c.number_at.ensures c.if-flag-eq0.true
+unfolding when_kept
+returns-then-flag-eq0 c = grind (arith, common_steps)
 
-pub returns-then-flag-ne1 : goal.returns-then-flag-ne1
-returns-then-flag-ne1 c = let a = c.args in last-unknown a.b.now a.at _ _ refl refl c.if-flag-eq0.false c.if-flag-ne1.true
+pub returns-then-flag-eq1 : goal.returns-then-flag-eq1
+unfolding when_kept
+returns-then-flag-eq1 c = grind (arith, common_steps)
 
-pub returns : goal.returns
-returns c = let a = c.args in last_set a.b.now a.at _ _ refl c.number_at-2.ensures c.if-flag-ne1.false
+pub returns-else-flag-eq1 : goal.returns-else-flag-eq1
+unfolding when_kept
+returns-else-flag-eq1 c = grind (arith, common_steps)

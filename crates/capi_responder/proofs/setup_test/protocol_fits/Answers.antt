@@ -1,8 +1,12 @@
-use Rattle.own.proofs.setups.Rules.{protocol-tcp, protocol-udp}
+use native.Mathlib.Omega.{arith}
+use Rattle.std.proofs.lemmas.Grind.{common_steps}
+use Rattle.own.specs.records.Setups.{protocol_fits}
 use Rattle.capi_responder.proofs.setup_test.protocol_fits.Goals as goal
 
 pub returns-then-same_bytes : goal.returns-then-same_bytes
-returns-then-same_bytes c = protocol-tcp _ _ c.same_bytes.ensures c.if-same_bytes.true
+unfolding protocol_fits
+returns-then-same_bytes c = grind (arith, common_steps)
 
-pub returns : goal.returns
-returns c = protocol-udp _ _ c.same_bytes.ensures c.if-same_bytes.false _ c.same_bytes-2.ensures
+pub returns-else-same_bytes : goal.returns-else-same_bytes
+unfolding protocol_fits
+returns-else-same_bytes c = grind (arith, common_steps)

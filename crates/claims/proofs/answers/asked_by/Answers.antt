@@ -1,19 +1,10 @@
-use Rattle.claims.proofs.records.Filled.{none_filled, next_filled, set-filled}
-use mathlib.Core.Bool.{false}
-use native.Mathlib.Omega.{arith}
-use Rattle.claims.specs.answers.Answers.{asked_by}
+use Rattle.std.proofs.Common.{rules}
+use mathlib.Core.Bool.{cond, not, ◌&&◌}
+use Rattle.claims.specs.records.Own.{has}
+use Rattle.claims.specs.answers.Answers.{asks_of, is_to_asker, asked_by}
+use Rattle.claims.proofs.records.Sets.{same-each}
 use Rattle.claims.proofs.answers.asked_by.Goals as goal
-
-pub loop-i-init : goal.loop-i-init
-loop-i-init c = (omega arith, none_filled false _)
-
-pub loop-i-preserved : goal.loop-i-preserved
-loop-i-preserved c = (
-  omega arith,
-  next_filled false _ _ _ _ c.loop-i.invariant.1
-      (simp (c.goes_by.ensures, c.is_to_asker.ensures, c.is_in.ensures, c.record_at-o.ensures)),
-)
 
 pub returns : goal.returns
 unfolding asked_by
-returns c = rw (← c.asks_of-q.ensures) (set-filled _ _ _ _ c.set_of.ensures (omega arith) c.loop-i.invariant.0 c.loop-i.invariant.1)
+returns c = let a = c.args in same-each (λ o. has o (asks_of a.f).asked && cond a.unicast (is_to_asker a.progress a.f a.now o) (not (is_to_asker a.progress a.f a.now o))) _ (λ o. let h = c.of.ensures o in search rules)

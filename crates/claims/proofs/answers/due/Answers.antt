@@ -1,15 +1,8 @@
-use Rattle.claims.proofs.records.Filled.{none_filled, next_filled, set-filled}
-use mathlib.Core.Bool.{false}
-use native.Mathlib.Omega.{arith}
-use Rattle.claims.specs.answers.Answers.{due_to}
+use Rattle.std.proofs.Common.{rules}
+use Rattle.claims.specs.answers.Answers.{is_due, due_to}
+use Rattle.claims.proofs.records.Sets.{same-each}
 use Rattle.claims.proofs.answers.due.Goals as goal
-
-pub loop-i-init : goal.loop-i-init
-loop-i-init c = (omega arith, none_filled false _)
-
-pub loop-i-preserved : goal.loop-i-preserved
-loop-i-preserved c = (omega arith, next_filled false _ _ _ _ c.loop-i.invariant.1 (simp (c.is_due.ensures, c.record_at.ensures)))
 
 pub returns : goal.returns
 unfolding due_to
-returns c = set-filled _ _ _ _ c.set_of.ensures (omega arith) c.loop-i.invariant.0 c.loop-i.invariant.1
+returns c = let a = c.args in same-each (is_due a.progress a.q a.aaaa) _ (λ o. let h = c.of.ensures o in search rules)

@@ -1,22 +1,19 @@
+use Rattle.std.proofs.Common.{rules}
 use Rattle.claims.specs.answers.Answers.{heard_of}
 use Rattle.claims.proofs.answers.heard_by.Goals as goal
 
-pub returns-then-conflict : goal.returns-then-conflict
+pub returns-then-h : goal.returns-then-h
 unfolding heard_of
-returns-then-conflict c = simp (c.if-response.true, c.if-conflict.true) c.after_conflict.ensures
+returns-then-h c = search rules
 
-pub returns-then-response : goal.returns-then-response
+pub returns-else-h : goal.returns-else-h
 unfolding heard_of
-returns-then-response c = simp (c.if-response.true, c.if-conflict.false)
+returns-else-h c = search rules
 
-pub returns-then-later : goal.returns-then-later
+pub returns-then-h-3 : goal.returns-then-h-3
 unfolding heard_of
-returns-then-later c = simp (c.if-response.false, c.if-probe.true, c.if-later.true) c.after_probe.ensures
+returns-then-h-3 c = search rules
 
-pub returns-else-later : goal.returns-else-later
+pub returns-else-h-2 : goal.returns-else-h-2
 unfolding heard_of
-returns-else-later c = simp (c.if-response.false, c.if-probe.true, c.if-later.false)
-
-pub returns-else-probe : goal.returns-else-probe
-unfolding heard_of
-returns-else-probe c = simp (c.if-response.false, c.if-probe.false)
+returns-else-h-2 c = search rules

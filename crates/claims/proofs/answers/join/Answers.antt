@@ -1,10 +1,11 @@
+use Rattle.std.proofs.Common.{rules}
 use Rattle.claims.specs.answers.Answers.{joined}
 use Rattle.claims.proofs.answers.join.Goals as goal
 
 pub returns-then-f : goal.returns-then-f
 unfolding joined
-returns-then-f c = simp c.if-f.true
+returns-then-f c = search rules
 
-pub returns : goal.returns
+pub returns-else-f : goal.returns-else-f
 unfolding joined
-returns c = simp c.if-f.false c.add_known.ensures
+returns-else-f c = search rules

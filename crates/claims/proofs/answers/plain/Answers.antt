@@ -1,6 +1,7 @@
+use Rattle.std.proofs.Common.{rules}
 use Rattle.claims.specs.answers.Answers.{plain_of}
 use Rattle.claims.proofs.answers.plain.Goals as goal
 
 pub returns : goal.returns
 unfolding plain_of
-returns c = simp (c.due.ensures, c.asks_of.ensures, c.no_record.ensures)
+returns c = search rules

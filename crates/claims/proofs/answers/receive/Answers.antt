@@ -1,10 +1,11 @@
+use Rattle.std.proofs.Common.{rules}
 use Rattle.claims.specs.answers.Held.{receive_of}
 use Rattle.claims.proofs.answers.receive.Goals as goal
 
 pub returns-then-is_to_hold : goal.returns-then-is_to_hold
 unfolding receive_of
-returns-then-is_to_hold c = simp (← c.is_to_hold.ensures, c.if-is_to_hold.true) c.hold_back.ensures
+returns-then-is_to_hold c = search rules
 
-pub returns : goal.returns
+pub returns-else-is_to_hold : goal.returns-else-is_to_hold
 unfolding receive_of
-returns c = simp (← c.is_to_hold.ensures, c.if-is_to_hold.false) c.judge.ensures
+returns-else-is_to_hold c = search rules

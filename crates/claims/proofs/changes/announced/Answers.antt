@@ -1,10 +1,11 @@
+use Rattle.std.proofs.Common.{rules}
 use Rattle.claims.specs.changes.Changes.{announced_of}
 use Rattle.claims.proofs.changes.announced.Goals as goal
 
 pub returns-then-is_held : goal.returns-then-is_held
 unfolding announced_of
-returns-then-is_held c = simp (← c.is_held.ensures, c.if-is_held.true, ← c.changed_record.ensures) c.only.ensures
+returns-then-is_held c = search rules
 
-pub returns : goal.returns
+pub returns-else-is_held : goal.returns-else-is_held
 unfolding announced_of
-returns c = simp (← c.is_held.ensures, c.if-is_held.false) c.no_record.ensures
+returns-else-is_held c = search rules

@@ -1,15 +1,8 @@
-use Rattle.claims.proofs.records.Filled.{none_filled, next_filled, set-filled}
-use mathlib.Core.Bool.{false}
-use native.Mathlib.Omega.{arith}
-use Rattle.claims.specs.changes.Changes.{goodbye_of}
+use Rattle.std.proofs.Common.{rules}
+use Rattle.claims.specs.changes.Changes.{is_parting, goodbye_of}
+use Rattle.claims.proofs.records.Sets.{same-each}
 use Rattle.claims.proofs.changes.goodbye.Goals as goal
-
-pub loop-i-init : goal.loop-i-init
-loop-i-init c = (omega arith, none_filled false _)
-
-pub loop-i-preserved : goal.loop-i-preserved
-loop-i-preserved c = (omega arith, next_filled false _ _ _ _ c.loop-i.invariant.1 (simp (c.is_parting.ensures, c.record_at.ensures)))
 
 pub returns : goal.returns
 unfolding goodbye_of
-returns c = set-filled _ _ _ _ c.set_of.ensures (omega arith) c.loop-i.invariant.0 c.loop-i.invariant.1
+returns c = let a = c.args in same-each (is_parting a.progress a.aaaa) _ (λ o. let h = c.of.ensures o in search rules)

@@ -1,12 +1,8 @@
-use Prim.Native.Nat.{◌≤◌, ◌-◌}
 use Rattle.claims.specs.steps.Steps.{steps}
 use Rattle.claims.specs.due.Due.{earliest_of}
 use mathlib.Core.Path.{◌≡◌}
-use lib.ListN.{length, drop}
+use lib.ListN.{drop}
 use Rattle.claims.proofs.due.next_due.Given as goal
 
 abbrev pub invariant-loop-i : goal.invariant-loop-i
-invariant-loop-i l = (l.i ≤ length steps) × (earliest_of l.progress l.initial.first steps ≡ earliest_of l.progress l.first (drop l.i steps))
-
-abbrev pub decreases-loop-i : goal.decreases-loop-i
-decreases-loop-i l = length steps - l.i
+invariant-loop-i l = earliest_of l.progress l.initial.first steps ≡ earliest_of l.progress l.first (drop l.i steps)

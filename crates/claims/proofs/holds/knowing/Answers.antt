@@ -1,10 +1,11 @@
+use Rattle.std.proofs.Common.{rules}
 use Rattle.claims.specs.holds.Holds.{knowing}
 use Rattle.claims.proofs.holds.knowing.Goals as goal
 
 pub returns-then-is_from : goal.returns-then-is_from
 unfolding knowing
-returns-then-is_from c = simp (← c.is_from.ensures, c.if-is_from.true, c.union.ensures)
+returns-then-is_from c = search rules
 
-pub returns : goal.returns
+pub returns-else-is_from : goal.returns-else-is_from
 unfolding knowing
-returns c = simp (← c.is_from.ensures, c.if-is_from.false)
+returns-else-is_from c = search rules

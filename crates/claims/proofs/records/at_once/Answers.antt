@@ -1,15 +1,10 @@
-use Rattle.claims.proofs.records.Filled.{none_filled, next_filled, set-filled}
-use mathlib.Core.Bool.{false}
-use native.Mathlib.Omega.{arith}
+use Rattle.std.proofs.Common.{rules}
+use mathlib.Core.Bool.{◌&&◌}
+use Rattle.claims.specs.records.Own.{goes_at_once, has}
 use Rattle.claims.specs.records.Sets.{at_once}
+use Rattle.claims.proofs.records.Sets.{same-each}
 use Rattle.claims.proofs.records.at_once.Goals as goal
-
-pub loop-i-init : goal.loop-i-init
-loop-i-init c = (omega arith, none_filled false _)
-
-pub loop-i-preserved : goal.loop-i-preserved
-loop-i-preserved c = (omega arith, next_filled false _ _ _ _ c.loop-i.invariant.1 (simp (c.both.ensures, c.is_in.ensures, c.goes_at_once.ensures, c.record_at-o.ensures)))
 
 pub returns : goal.returns
 unfolding at_once
-returns c = set-filled _ _ _ _ c.set_of.ensures (omega arith) c.loop-i.invariant.0 c.loop-i.invariant.1
+returns c = same-each (λ o. goes_at_once o && has o c.args.set) _ (λ o. let h = c.of.ensures o in search rules)

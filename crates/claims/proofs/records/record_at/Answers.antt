@@ -8,6 +8,6 @@ pub returns-then-i-lt-RECORDS : goal.returns-then-i-lt-RECORDS
 unfolding record_at
 returns-then-i-lt-RECORDS c = refl
 
-pub returns : goal.returns
+pub returns-else-i-lt-RECORDS : goal.returns-else-i-lt-RECORDS
 unfolding record_at
-returns c = sym (get_or-eq_default all Ptr c.if-i-lt-RECORDS.false)
+returns-else-i-lt-RECORDS c = sym (get_or-eq_default all Ptr c.if-i-lt-RECORDS.false)

@@ -1,15 +1,10 @@
-use Rattle.claims.proofs.records.Filled.{none_filled, next_filled, set-filled}
-use mathlib.Core.Bool.{false}
-use native.Mathlib.Omega.{arith}
+use Rattle.std.proofs.Common.{rules}
+use mathlib.Core.Bool.{◌&&◌}
+use Rattle.claims.specs.records.Own.{claim_for, same_claim, present, carries_data}
 use Rattle.claims.specs.records.Sets.{records_of}
+use Rattle.claims.proofs.records.Sets.{same-each}
 use Rattle.claims.proofs.records.records_of.Goals as goal
-
-pub loop-i-init : goal.loop-i-init
-loop-i-init c = (omega arith, none_filled false _)
-
-pub loop-i-preserved : goal.loop-i-preserved
-loop-i-preserved c = (omega arith, next_filled false _ _ _ _ c.loop-i.invariant.1 (simp (c.both-in-loop-i.ensures, c.both.ensures, c.is_present.ensures, c.carries_data.ensures, c.same_claim.ensures, c.claim_for.ensures, c.record_at-o.ensures)))
 
 pub returns : goal.returns
 unfolding records_of
-returns c = set-filled _ _ _ _ c.set_of.ensures (omega arith) c.loop-i.invariant.0 c.loop-i.invariant.1
+returns c = let a = c.args in same-each (λ o. same_claim (claim_for o) a.claim && (carries_data o && present o a.aaaa)) _ (λ o. let h = c.of.ensures o in search rules)

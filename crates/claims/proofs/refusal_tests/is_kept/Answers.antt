@@ -1,6 +1,11 @@
+use Rattle.std.proofs.Common.{rules}
 use Rattle.claims.specs.Refusals.{kept}
 use Rattle.claims.proofs.refusal_tests.is_kept.Goals as goal
 
-pub returns : goal.returns
+pub returns-then-is_within-2 : goal.returns-then-is_within-2
 unfolding kept
-returns c = simp (c.all_seven.ensures, c.is_within-2.ensures, c.holds_kept.ensures, c.is_within.ensures, c.multicasts_kept.ensures, c.claim_kept-2.ensures, c.claim_kept.ensures)
+returns-then-is_within-2 c = search rules
+
+pub returns-else-is_within-2 : goal.returns-else-is_within-2
+unfolding kept
+returns-else-is_within-2 c = search rules

@@ -1,23 +1,32 @@
-use mathlib.Core.Path.{refl}
-use native.Mathlib.Omega.{arith}
-use Rattle.claims.specs.records.Own.{all, record_at}
-use Rattle.claims.specs.Time.{at_most, sent_of}
+use Rattle.std.proofs.Common.{arith, rules, tests}
+use Rattle.std.proofs.lemmas.Iterator.{YieldsList-from_slice}
+use Rattle.std.proofs.lemmas.Iterator.Search.{all_from_yields_List}
+use Rattle.std.specs.List.{list_all}
+use Prim.Native.Nat.{ℕ}
+use mathlib.Core.Path.{◌≡◌, refl, ◌∙◌}
+use mathlib.Core.List.{List, [], ◌∷◌}
+use lib.ListN.{length}
+use Rattle.claims.specs.records.Own.{records}
+use Rattle.claims.specs.records.Sets.{every_of}
+use Rattle.claims.specs.Time.{at_most}
 use Rattle.claims.specs.Refusals.{multicasts_kept}
-use Rattle.claims.specs.declared.records.Own.TheVariants.{Ptr}
-use Rattle.claims.proofs.records.Searched.{every-fails, every-next, every-ends}
+use Rattle.claims.specs.declared.Multicast.{Multicast}
 use Rattle.claims.proofs.refusal_tests.multicasts_kept.Goals as goal
 
-pub loop-i-init : goal.loop-i-init
-loop-i-init c = (omega arith, refl)
-
-pub returns-then-not-is_within : goal.returns-then-not-is_within
-unfolding record_at multicasts_kept
-returns-then-not-is_within c = let a = c.args in let l = c.loop-i in every-fails (λ o. at_most a.most (sent_of o a.sent)) all l.i Ptr (omega arith) _ (rw (c.is_within.ensures, c.sent_of-last.ensures, c.record_at.ensures)) l.invariant.1 (c.if-not-is_within.true)
-
-pub loop-i-preserved : goal.loop-i-preserved
-unfolding record_at
-loop-i-preserved c = let a = c.args in let l = c.loop-i in (omega arith, every-next (λ o. at_most a.most (sent_of o a.sent)) all l.i Ptr (omega arith) _ (rw (c.is_within.ensures, c.sent_of-last.ensures, c.record_at.ensures)) l.invariant.1 (c.if-not-is_within.false))
+-- the last multicasts one after the other are those of the records
+each : (most : ℕ) (of : List Multicast) → length of ≡ records → list_all (λ (m : Multicast). at_most most m.last) of ≡ multicasts_kept most (record { of = of })
+unfolding multicasts_kept every_of
+each most [] h = absurd (omega arith)
+each most (a ∷ []) h = absurd (omega arith)
+each most (a ∷ b ∷ []) h = absurd (omega arith)
+each most (a ∷ b ∷ c ∷ []) h = absurd (omega arith)
+each most (a ∷ b ∷ c ∷ d ∷ []) h = absurd (omega arith)
+each most (a ∷ b ∷ c ∷ d ∷ e ∷ []) h = absurd (omega arith)
+each most (a ∷ b ∷ c ∷ d ∷ e ∷ f ∷ []) h = absurd (omega arith)
+each most (a ∷ b ∷ c ∷ d ∷ e ∷ f ∷ g ∷ []) h = refl
+each most (a ∷ b ∷ c ∷ d ∷ e ∷ f ∷ g ∷ x ∷ xs) h = absurd (omega arith)
 
 pub returns : goal.returns
-unfolding multicasts_kept
-returns c = let a = c.args in let l = c.loop-i in every-ends (λ o. at_most a.most (sent_of o a.sent)) all l.i l.invariant.1 (omega arith)
+returns c =
+    all_from_yields_List (λ m. at_most c.args.most m.last) _ _ c.all.result c.all.ensures.ran (YieldsList-from_slice c.args.sent.of cc) (λ x b q k. search (rules, tests))
+    ∙ each c.args.most c.args.sent.of (search rules)

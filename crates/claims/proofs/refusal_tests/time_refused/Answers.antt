@@ -1,15 +1,11 @@
-use borrow.Author.Tests.{lt-ltb, le-ltb}
+use Rattle.std.proofs.Common.{rules}
 use Rattle.claims.specs.Refusals.{wrong_time}
 use Rattle.claims.proofs.refusal_tests.time_refused.Goals as goal
 
-pub returns-then-now-gt-LAST_TIME : goal.returns-then-now-gt-LAST_TIME
+pub returns-then-now-progress : goal.returns-then-now-progress
 unfolding wrong_time
-returns-then-now-gt-LAST_TIME c = simp (lt-ltb _ _ c.if-now-gt-LAST_TIME.true)
+returns-then-now-progress c = search rules
 
-pub returns-then-now-last : goal.returns-then-now-last
+pub returns-else-now-progress : goal.returns-else-now-progress
 unfolding wrong_time
-returns-then-now-last c = simp (le-ltb _ _ c.if-now-gt-LAST_TIME.false, lt-ltb _ _ c.if-now-last.true)
-
-pub returns : goal.returns
-unfolding wrong_time
-returns c = simp (le-ltb _ _ c.if-now-gt-LAST_TIME.false, le-ltb _ _ c.if-now-last.false, c.is_kept.ensures)
+returns-else-now-progress c = search rules

@@ -1,18 +1,19 @@
+use Rattle.std.proofs.Common.{rules}
 use Rattle.claims.specs.steps.Tick.{action_turn}
 use Rattle.claims.proofs.steps.action_turn.Goals as goal
 
 pub returns-in-Idle : goal.returns-in-Idle
 unfolding action_turn
-returns-in-Idle c = rw c.in-Idle.is
+returns-in-Idle c = search rules
 
 pub returns-in-Probe : goal.returns-in-Probe
 unfolding action_turn
-returns-in-Probe c = simp (c.in-Probe.is, c.with_claim.ensures)
+returns-in-Probe c = search rules
 
 pub returns-in-Announce : goal.returns-in-Announce
 unfolding action_turn
-returns-in-Announce c = simp (c.in-Announce.is, c.send.ensures, c.with_claim-in-Announce.ensures, c.records_of.ensures)
+returns-in-Announce c = search rules
 
 pub returns-in-Repeat : goal.returns-in-Repeat
 unfolding action_turn
-returns-in-Repeat c = simp (c.in-Repeat.is, c.send-in-Repeat.ensures, c.with_claim-in-Repeat.ensures, c.unsent_of.ensures, c.records_of-in-Repeat.ensures)
+returns-in-Repeat c = search rules

@@ -1,10 +1,11 @@
+use Rattle.std.proofs.Common.{rules}
 use Rattle.claims.specs.steps.Steps.{action_of}
 use Rattle.claims.proofs.steps.claim_action.Goals as goal
 
 pub returns-then-has_come : goal.returns-then-has_come
 unfolding action_of
-returns-then-has_come c = simp (← c.due_of.ensures, ← c.has_come.ensures, c.if-has_come.true, c.taken_action.ensures)
+returns-then-has_come c = search rules
 
-pub returns : goal.returns
+pub returns-else-has_come : goal.returns-else-has_come
 unfolding action_of
-returns c = simp (← c.due_of.ensures, ← c.has_come.ensures, c.if-has_come.false)
+returns-else-has_come c = search rules

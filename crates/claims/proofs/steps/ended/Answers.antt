@@ -1,6 +1,7 @@
+use Rattle.std.proofs.Common.{rules}
 use Rattle.claims.specs.steps.Tick.{ended_of}
 use Rattle.claims.proofs.steps.ended.Goals as goal
 
 pub returns : goal.returns
 unfolding ended_of
-returns c = simp c.more_due.ensures
+returns c = search rules

@@ -1,10 +1,11 @@
+use Rattle.std.proofs.Common.{rules}
 use Rattle.claims.specs.steps.Tick.{sends}
 use Rattle.claims.proofs.steps.send.Goals as goal
 
 pub returns-then-is_any : goal.returns-then-is_any
 unfolding sends
-returns-then-is_any c = simp (← c.is_any.ensures, c.if-is_any.true, c.with_sent.ensures, c.mark_all.ensures)
+returns-then-is_any c = search rules
 
-pub returns : goal.returns
+pub returns-else-is_any : goal.returns-else-is_any
 unfolding sends
-returns c = simp (← c.is_any.ensures, c.if-is_any.false)
+returns-else-is_any c = search rules

@@ -1,15 +1,10 @@
-use Rattle.claims.proofs.records.Filled.{none_filled, next_filled, set-filled}
-use mathlib.Core.Bool.{false}
-use native.Mathlib.Omega.{arith}
-use Rattle.claims.specs.steps.Steps.{unsent_of}
+use Rattle.std.proofs.Common.{rules}
+use Rattle.claims.specs.records.Own.{has}
+use Rattle.claims.specs.Time.{sent_of}
+use Rattle.claims.specs.steps.Steps.{unsent, unsent_of}
+use Rattle.claims.proofs.records.Sets.{same-each}
 use Rattle.claims.proofs.steps.unsent_of.Goals as goal
-
-pub loop-i-init : goal.loop-i-init
-loop-i-init c = (omega arith, none_filled false _)
-
-pub loop-i-preserved : goal.loop-i-preserved
-loop-i-preserved c = (omega arith, next_filled false _ _ _ _ c.loop-i.invariant.1 (simp (c.is_unsent.ensures, c.sent_of.ensures, c.is_in.ensures, c.record_at-o.ensures)))
 
 pub returns : goal.returns
 unfolding unsent_of
-returns c = set-filled _ _ _ _ c.set_of.ensures (omega arith) c.loop-i.invariant.0 c.loop-i.invariant.1
+returns c = let a = c.args in same-each (λ o. unsent (has o a.set) (sent_of o a.sent) a.now) _ (λ o. let h = c.of.ensures o in search rules)

@@ -1,13 +1,9 @@
-use Rattle.console_proxy.proofs.After.{not-proxy, is-proxy}
+use Rattle.console_proxy.proofs.After.{is-proxy}
 use Rattle.console_text.proofs.hex.Room.{in_room}
 use lib.ListN.{replicate, length-replicate}
 use Prim.Native.Nat.{ℕ}
 use mathlib.Core.Path.{sym, ◌∙◌}
 use Rattle.console_proxy.proofs.setup.proxy.Goals as goal
-
-pub returns-then-not-is_proxy : goal.returns-then-not-is_proxy
-returns-then-not-is_proxy g c = let a = c.args in not-proxy a.line.now a.held
-    (sym c.is_proxy.ensures ∙ c.if-not-is_proxy.true)
 
 pub returns : goal.returns
 returns g c = let a = c.args

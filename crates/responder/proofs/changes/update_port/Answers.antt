@@ -4,4 +4,4 @@ use Rattle.responder.proofs.changes.update_port.Goals as goal
 
 pub returns : goal.returns
 returns c = let a = c.args in
-    by-data a.state a.time (new_port a.port) _ a.out.now _ _ c.with_port.ensures c.update.ensures
+    by-data a.state a.time (new_port a.port) _ a.out.now _ _ c.with_port-new.ensures c.update.ensures

@@ -4,4 +4,4 @@ use Rattle.responder.proofs.changes.update_txt.Goals as goal
 
 pub returns : goal.returns
 returns c = let a = c.args in
-    by-data a.state a.time (new_txt a.txt.now) _ a.out.now _ _ c.with_txt.ensures c.update.ensures
+    by-data a.state a.time (new_txt a.txt.now) _ a.out.now _ _ c.with_txt-new.ensures c.update.ensures

@@ -1,11 +1,6 @@
-use borrow.Author.Tests.{le-leb, lt-leb}
+use mathlib.Core.Path.{◌∙◌}
+use Rattle.wire.proofs.case_folding.Letters.{lowered_as}
 use Rattle.wire.proofs.case_folding.lowered.Goals as goal
 
-pub returns-then-b-lt65 : goal.returns-then-b-lt65
-returns-then-b-lt65 c = simp (lt-leb _ _ c.if-b-lt65.true)
-
-pub returns-then-b-gt90 : goal.returns-then-b-gt90
-returns-then-b-gt90 c = simp (le-leb _ _ c.if-b-lt65.false, lt-leb _ _ c.if-b-gt90.true)
-
 pub returns : goal.returns
-returns c = simp (le-leb _ _ c.if-b-lt65.false, le-leb _ _ c.if-b-gt90.false)
+returns c = c.to_ascii_lowercase.ensures.value ∙ lowered_as c.args.b

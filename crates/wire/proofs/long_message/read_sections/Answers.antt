@@ -10,13 +10,13 @@ pub returns-in_default : goal.returns-in_default
 returns-in_default c = questions-cut _ _ _ _ _ c.be16-questions.ensures c.be16-answers.ensures c.be16-authorities.ensures c.be16-additionals.ensures _ c.questions_end.ensures.answer c.in_default.is
 
 pub returns-in_default-records_end : goal.returns-in_default-records_end
-returns-in_default-records_end c = answers_cut _ _ _ _ _ c.be16-questions.ensures c.be16-answers.ensures c.be16-authorities.ensures c.be16-additionals.ensures _ c.questions_end.ensures.answer _ c.in-At.is _ c.records_end.ensures.answer c.in_default-records_end.is
+returns-in_default-records_end c = answers_cut _ _ _ _ _ c.be16-questions.ensures c.be16-answers.ensures c.be16-authorities.ensures c.be16-additionals.ensures _ c.questions_end.ensures.answer _ c.in-Some.is _ c.records_end.ensures.answer c.in_default-records_end.is
 
 pub returns-in_default-records_end-2 : goal.returns-in_default-records_end-2
-returns-in_default-records_end-2 c = authorities_cut _ _ _ _ _ c.be16-questions.ensures c.be16-answers.ensures c.be16-authorities.ensures c.be16-additionals.ensures _ c.questions_end.ensures.answer _ c.in-At.is _ c.records_end.ensures.answer _ c.in-At-records_end.is _ c.records_end-2.ensures.answer c.in_default-records_end-2.is
+returns-in_default-records_end-2 c = authorities_cut _ _ _ _ _ c.be16-questions.ensures c.be16-answers.ensures c.be16-authorities.ensures c.be16-additionals.ensures _ c.questions_end.ensures.answer _ c.in-Some.is _ c.records_end.ensures.answer _ c.in-Some-records_end.is _ c.records_end-2.ensures.answer c.in_default-records_end-2.is
 
 pub returns-in_default-records_end-3 : goal.returns-in_default-records_end-3
-returns-in_default-records_end-3 c = additionals_cut _ _ _ _ _ c.be16-questions.ensures c.be16-answers.ensures c.be16-authorities.ensures c.be16-additionals.ensures _ c.questions_end.ensures.answer _ c.in-At.is _ c.records_end.ensures.answer _ c.in-At-records_end.is _ c.records_end-2.ensures.answer _ c.in-At-records_end-2.is _ c.records_end-3.ensures.answer c.in_default-records_end-3.is
+returns-in_default-records_end-3 c = additionals_cut _ _ _ _ _ c.be16-questions.ensures c.be16-answers.ensures c.be16-authorities.ensures c.be16-additionals.ensures _ c.questions_end.ensures.answer _ c.in-Some.is _ c.records_end.ensures.answer _ c.in-Some-records_end.is _ c.records_end-2.ensures.answer _ c.in-Some-records_end-2.is _ c.records_end-3.ensures.answer c.in_default-records_end-3.is
 
 pub returns : goal.returns
-returns c = sections_read _ _ _ _ _ c.be16-questions.ensures c.be16-answers.ensures c.be16-authorities.ensures c.be16-additionals.ensures _ c.questions_end.ensures.answer _ c.in-At.is _ c.records_end.ensures.answer _ c.in-At-records_end.is _ c.records_end-2.ensures.answer _ c.in-At-records_end-2.is _ c.records_end-3.ensures.answer _ c.in-At-records_end-3.is _ _ c.be16.ensures c.be16-2.ensures
+returns c = sections_read _ _ _ _ _ c.be16-questions.ensures c.be16-answers.ensures c.be16-authorities.ensures c.be16-additionals.ensures _ c.questions_end.ensures.answer _ c.in-Some.is _ c.records_end.ensures.answer _ c.in-Some-records_end.is _ c.records_end-2.ensures.answer _ c.in-Some-records_end-2.is _ c.records_end-3.ensures.answer _ c.in-Some-records_end-3.is _ _ c.be16.ensures c.be16-2.ensures

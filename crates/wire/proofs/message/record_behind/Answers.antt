@@ -6,10 +6,6 @@ pub returns-then-p-end : goal.returns-then-p-end
 returns-then-p-end c = let a = c.args in
     behind-short a.p.now a.at a.span (omega arith)
 
-pub returns-then-p-end-lt10 : goal.returns-then-p-end-lt10
-returns-then-p-end-lt10 c = let a = c.args in
-    behind-short a.p.now a.at a.span (omega arith)
-
 pub returns-then-p-rdata : goal.returns-then-p-rdata
 returns-then-p-rdata c = let a = c.args in
     behind-over a.p.now a.at a.span (omega arith) (omega arith)

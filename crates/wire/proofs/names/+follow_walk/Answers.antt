@@ -7,11 +7,11 @@ use Rattle.wire.proofs.names.+follow_walk.Goals as goal
 pub follow-walk-requires : goal.follow-walk-requires
 follow-walk-requires t c = (omega (arith, c.chase-run.ensures.chain.back), omega arith)
 
-pub follow-returns-in-Found : goal.follow-returns-in-Found
-follow-returns-in-Found t c = followed _ _ _ _ _ c.chase-run.ensures.chain _ _ _ c.walk.ensures _ c.in-Found.is
+pub follow-returns : goal.follow-returns
+follow-returns t c = followed _ _ _ _ _ c.chase-run.ensures.chain _ _ _ c.walk.ensures _ c.in_ok-reach.was
 
-pub follow-returns-in-Malformed : goal.follow-returns-in-Malformed
-follow-returns-in-Malformed t c = followed_bad _ _ _ _ _ c.chase-run.ensures.chain _ _ _ c.walk.ensures c.in-Malformed.is
+pub follow-returns-in_err-reach : goal.follow-returns-in_err-reach
+follow-returns-in_err-reach t c = rw c.from_residual.ensures (followed_bad _ _ _ _ _ c.chase-run.ensures.chain _ _ _ c.walk.ensures c.in_err-reach.was)
 
 pub walk-overflow_add-result : goal.walk-overflow_add-result
 walk-overflow_add-result t c = omega (arith, is-root _ _ _ _ (sym c.piece_at.ensures ∙ c.in-Root.is))

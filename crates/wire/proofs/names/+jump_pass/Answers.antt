@@ -1,23 +1,26 @@
 use mathlib.Core.Path.{sym, ◌∙◌}
 use native.Mathlib.Omega.{arith}
 use Rattle.wire.proofs.name_pieces.Pieces.{is-root, label-in, label-room, pointer_in, pointer_back}
-use Rattle.wire.proofs.names.Walked.{seen_root, seen_root_after, seen_label, seen_pointer, seen_bad, passed_first, passed_later, passed_chain}
+use Rattle.wire.proofs.names.Walked.{root_seen, seen_label, seen_pointer, seen_bad, passed, passed_chain}
 use Rattle.wire.proofs.names.+jump_pass.Goals as goal
 
-pub jump-returns-then-end-eq0 : goal.jump-returns-then-end-eq0
-jump-returns-then-end-eq0 t c = c.pass.ensures ∙ passed_first c.args.p.now c.chase-run.result c.args.at c.args.used c.args.end c.args.labels c.args.first c.if-end-eq0.true ∙ passed_chain c.args.p.now c.chase-run.result c.args.at c.args.used c.args.end c.args.labels c.args.first _ c.chase-run.ensures.chain
-
 pub jump-returns : goal.jump-returns
-jump-returns t c = c.pass-2.ensures ∙ passed_later c.args.p.now c.chase-run.result c.args.at c.args.used c.args.end c.args.labels c.args.first c.if-end-eq0.false ∙ passed_chain c.args.p.now c.chase-run.result c.args.at c.args.used c.args.end c.args.labels c.args.first _ c.chase-run.ensures.chain
+jump-returns t c = let a = c.args in
+    c.pass.ensures ∙ passed a.p.now c.chase-run.result a.at a.used a.end a.labels a.first _ c.or_later.ensures
+    ∙ passed_chain a.p.now c.chase-run.result a.at a.used a.end a.labels a.first _ c.chase-run.ensures.chain
+
+pub pass-overflow_add-at : goal.pass-overflow_add-at
+pass-overflow_add-at t c = omega (arith, is-root _ _ _ _ (sym c.piece_at.ensures ∙ c.in-Root.is))
 
 pub pass-overflow_add-result : goal.pass-overflow_add-result
 pass-overflow_add-result t c = omega (arith, is-root _ _ _ _ (sym c.piece_at.ensures ∙ c.in-Root.is))
 
-pub pass-returns-then-end-eq0 : goal.pass-returns-then-end-eq0
-pass-returns-then-end-eq0 t c = seen_root _ _ _ _ _ _ _ _ c.piece_at.ensures c.in-Root.is c.if-end-eq0.true
+pub pass-returns-in-Root : goal.pass-returns-in-Root
+pass-returns-in-Root t c = let a = c.args in
+    root_seen a.p.now a.start a.at a.used a.end a.labels a.first _ c.piece_at.ensures _ c.or_later.ensures c.in-Root.is
 
-pub pass-overflow_add-at : goal.pass-overflow_add-at
-pass-overflow_add-at t c = omega (arith, label-in _ _ _ _ _ (sym c.piece_at.ensures ∙ c.in-Label.is))
+pub pass-overflow_add-at-in-Label-2 : goal.pass-overflow_add-at-in-Label-2
+pass-overflow_add-at-in-Label-2 t c = omega (arith, label-in _ _ _ _ _ (sym c.piece_at.ensures ∙ c.in-Label.is))
 
 pub pass-overflow_add-at-in-Label : goal.pass-overflow_add-at-in-Label
 pass-overflow_add-at-in-Label t c = omega (arith, label-in _ _ _ _ _ (sym c.piece_at.ensures ∙ c.in-Label.is))
@@ -30,9 +33,6 @@ pass-pass-requires t c = let room = label-room _ _ _ _ _ (sym c.piece_at.ensures
 
 pub pass-jump-requires : goal.pass-jump-requires
 pass-jump-requires t c = (omega (arith, pointer_back _ _ _ _ _ (sym c.piece_at.ensures ∙ c.in-Pointer.is)), (omega arith, (omega arith, pointer_in _ _ _ _ _ (sym c.piece_at.ensures ∙ c.in-Pointer.is))))
-
-pub pass-returns-else-end-eq0 : goal.pass-returns-else-end-eq0
-pass-returns-else-end-eq0 t c = seen_root_after _ _ _ _ _ _ _ _ c.piece_at.ensures c.in-Root.is c.if-end-eq0.false
 
 pub pass-returns-in-Label : goal.pass-returns-in-Label
 pass-returns-in-Label t c = c.pass.ensures ∙ sym (seen_label c.args.p.now c.args.start c.args.at c.args.used c.args.end c.args.labels c.args.first _ c.piece_at.ensures _ c.in-Label.is _ c.or_later-one.ensures)

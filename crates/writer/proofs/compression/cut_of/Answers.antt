@@ -8,22 +8,22 @@ loop-i-init c = (omega arith, further_zero _)
 pub returns-then-n-eq0 : goal.returns-then-n-eq0
 returns-then-n-eq0 c = cut-root _ _ _ c.loop-i.i c.loop-i.invariant.1 (omega arith) c.if-n-eq0.true
 
-pub returns-in-At : goal.returns-in-At
-returns-in-At c = cut-found _ _ _ c.loop-i.i
+pub returns-in-Some : goal.returns-in-Some
+returns-in-Some c = cut-found _ _ _ c.loop-i.i
     c.loop-i.invariant.1 (omega arith) c.if-n-eq0.false _
-    c.place_of.ensures _ c.in-At.is
+    c.place_of.ensures _ c.in-Some.is
 
 pub returns-then-name-i : goal.returns-then-name-i
 returns-then-name-i c = cut-long _ _ _ c.loop-i.i
     c.loop-i.invariant.1 (omega arith) c.if-n-eq0.false _
-    c.place_of.ensures c.in-Nowhere.is c.if-name-i.true
+    c.place_of.ensures c.in_default.is c.if-name-i.true
 
 pub loop-i-preserved : goal.loop-i-preserved
 loop-i-preserved c = (
   omega arith,
   cut_on _ _ _ c.loop-i.i
       c.loop-i.invariant.1 (omega arith) c.if-n-eq0.false _
-      c.place_of.ensures c.in-Nowhere.is c.if-name-i.false,
+      c.place_of.ensures c.in_default.is c.if-name-i.false,
 )
 
 pub returns : goal.returns

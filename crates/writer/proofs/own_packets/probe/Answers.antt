@@ -1,5 +1,5 @@
 use Rattle.own.specs.records.Records.{own_name}
-use Rattle.writer.proofs.own_packets.Owned.{own_fits, own_long}
+use Rattle.writer.proofs.own_packets.Owned.{own_long}
 use Rattle.writer.proofs.own_packets.Answering.{refuse_3, refuse_7, probe-ready, probe-sent}
 use Rattle.writer.proofs.own_packets.probe.Goals as goal
 
@@ -9,10 +9,6 @@ returns-then-out-lt-LEAST_OUT c = let all = refuse_3 c.args.s c.args.out.now _ c
 pub returns-then-not-check_setup : goal.returns-then-not-check_setup
 returns-then-not-check_setup c = let a = c.args in
     let all = refuse_7 a.s a.out.now c.if-out-lt-LEAST_OUT.false _ c.check_setup.ensures _ (c.if-not-check_setup.true) in record { answer = all.0; out = all.1.0; number = all.1.1.0; sent = all.1.1.1 }
-
-pub slice_bounds-name-end : goal.slice_bounds-name-end
-slice_bounds-name-end c = own_fits (own_name c.args.s c.first_of.result) _
-    c.own_name-owner.ensures
 
 pub slice_bounds-write_packet-end : goal.slice_bounds-write_packet-end
 slice_bounds-write_packet-end c = own_long (own_name c.args.s c.first_of.result) _ c.own_name-owner.ensures
