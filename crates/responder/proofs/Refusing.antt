@@ -1,12 +1,11 @@
 -- Which refusal the tests of a call lead to, in their order. Assumes nothing.
-use Prim.Native.Nat.{ℕ, ◌≤◌, ◌<◌}
+use Prim.Native.Nat.{ℕ}
 use mathlib.Core.Path.{◌≡◌, refl, sym, ap, ◌∙◌}
 use Rattle.std.specs.Prelude.{Result, Ok, Err}
 use mathlib.Core.Bool.{Bool, true, false, cond, not, ◌||◌}
 use mathlib.Core.List.{List, [], ◌∷◌, ◌++◌}
 use native.Mathlib.Omega.{arith}
 use lib.ListN.{length}
-use borrow.Author.Tests.{lt-ltb, le-ltb, ne_eqb}
 use Rattle.wire.specs.message.Message.{Message}
 use Rattle.wire.specs.message.Layout.{read, wrong_length, wrong_header, message_at, read_of}
 use Rattle.wire.specs.message.Refusals.{wrong_port, is_malformed, message_tests, message_refusal, message_from}
@@ -18,7 +17,7 @@ use Rattle.wire.proofs.refusals.Tests.{numbers_from-1, number_by}
 use Rattle.wire.proofs.message.Refused.{accepted_from, refusing, reading, was_read, was_refused}
 use Rattle.own.specs.declared.records.Setup.{Setup}
 use Rattle.own.specs.records.Setups.{valid_setup}
-use Rattle.claims.specs.Refusals.{late_start, wrong_time, wrong_start_draw, wrong_draws}
+use Rattle.claims.specs.Refusals.{wrong_time, wrong_start_draw, wrong_draws}
 use Rattle.writer.specs.own_packets.Own.{refusal}
 use Rattle.responder.specs.Handed.{Arrival, Tick}
 use Rattle.responder.specs.Refusals.{small_buffer, small_buffers, wrong_state, start_tests, start_refusal, receive_tests, receive_refusal, tick_tests, tick_refusal, admitted}

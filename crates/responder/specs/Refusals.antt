@@ -1,6 +1,6 @@
 -- The refusals of a start, a packet received and a tick (specification, 'Refusal numbers'): "Each call tests those that apply to it in the order 1, 2, 3, 8,
 -- 4, 5, 6, 7, 9". Assumes nothing: these are definitions.
-use Rattle.std.specs.Prelude.{ℕ, Bool, not, ◌||◌, List, [], ◌∷◌, ◌++◌, ltb}
+use Rattle.std.specs.Prelude.{ℕ, Bool, not, ◌||◌, List, [], ◌∷◌, ◌++◌}
 use Rattle.wire.specs.refusals.Numbers.{first_refusal, refused_by}
 use Rattle.wire.specs.declared.refusals.Refusal.{Refusal}
 use Rattle.wire.specs.declared.refusals.Refusal.TheVariants as cause
