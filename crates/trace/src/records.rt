@@ -6,17 +6,17 @@ ghost use Rattle.trace.specs.records.Records.{kind_of, size_of, claim_of, fields
 use claims::holds::Address;
 use wire::octets::{be16, be32, byte};
 
-// The kinds of records.
+// The kinds of records, each with its byte.
 #[derive(Clone, Copy)]
 pub enum Kind {
-    Tick,
-    Packet,
-    Piece,
-    Claim,
-    Source,
-    Stop,
-    Port,
-    Txt,
+    Tick = 1,
+    Packet = 2,
+    Piece = 3,
+    Claim = 4,
+    Source = 5,
+    Stop = 6,
+    Port = 7,
+    Txt = 8,
 }
 
 // The bytes that a piece carries.

@@ -11,8 +11,8 @@ ghost use Rattle.trace.specs.writing.Writing.{written_to, out_after};
 
 use crate::reading::{Event, is_usual};
 use crate::records::{
-    CLAIM_SIZE, PACKET_SIZE, PIECE_BYTES, PIECE_SIZE, PORT_SIZE, SOURCE_SIZE, STOP_SIZE, TICK_SIZE,
-    TXT_SIZE,
+    CLAIM_SIZE, Kind, PACKET_SIZE, PIECE_BYTES, PIECE_SIZE, PORT_SIZE, SOURCE_SIZE, STOP_SIZE,
+    TICK_SIZE, TXT_SIZE,
 };
 use claims::holds::Address;
 use wire::buffer::put;
@@ -29,23 +29,6 @@ pub enum Unwritten {
     Unfit { at: usize },
     NoRoom,
 }
-
-// The bytes of the kinds.
-const TICK: u8 = 1;
-
-const PACKET: u8 = 2;
-
-const PIECE: u8 = 3;
-
-const CLAIM: u8 = 4;
-
-const SOURCE: u8 = 5;
-
-const STOP: u8 = 6;
-
-const PORT: u8 = 7;
-
-const TXT: u8 = 8;
 
 // The greatest numbers of 16 and of 8 bits.
 const MOST_16: u64 = 65535;
@@ -134,35 +117,11 @@ pub fn size_of(event: Event, len: usize) -> Result<usize, Unfit>
     }
 }
 
-// The eight bytes of a number.
-fn number_bytes(n: u64) -> [u8; 8]
-    ensures { result ≡ bytes64 n }
-{
-    let n1 = n / 256;
-    let n2 = n1 / 256;
-    let n3 = n2 / 256;
-    let n4 = n3 / 256;
-    let n5 = n4 / 256;
-    let n6 = n5 / 256;
-    let n7 = n6 / 256;
-    [
-        (n7 % 256) as u8,
-        (n6 % 256) as u8,
-        (n5 % 256) as u8,
-        (n4 % 256) as u8,
-        (n3 % 256) as u8,
-        (n2 % 256) as u8,
-        (n1 % 256) as u8,
-        (n % 256) as u8,
-    ]
-}
-
 // Lays a number of 64 bits over a buffer.
 fn put64(out: &mut [u8], at: usize, n: u64)
     ensures { out.new ≡ sets out.old at (bytes64 n) }
 {
-    let bytes = number_bytes(n);
-    put(out, at, &bytes);
+    put(out, at, &n.to_be_bytes());
 }
 
 // Lays a number of 16 bits over a buffer.
@@ -170,8 +129,7 @@ fn put16(out: &mut [u8], at: usize, n: u64)
     requires { n < 65536 }
     ensures { out.new ≡ sets out.old at (bytes16 n) }
 {
-    let bytes = [(n / 256) as u8, (n % 256) as u8];
-    put(out, at, &bytes);
+    put(out, at, &(n as u16).to_be_bytes());
 }
 
 // Lays a kind and the number of 64 bits behind it over a buffer.
@@ -179,8 +137,7 @@ fn put_headed(out: &mut [u8], at: usize, kind: u8, n: u64)
     requires { at + 9 ≤ length out.old }
     ensures { out.new ≡ sets out.old at (headed kind n) }
 {
-    let first = [kind];
-    put(out, at, &first);
+    put(out, at, &[kind]);
     put64(out, at + 1, n);
 }
 
@@ -214,7 +171,7 @@ fn put_source(out: &mut [u8], at: usize, from: Address, hold: u64)
     requires hold_bound { hold < 65536 }
     ensures { out.new ≡ sets out.old at (source_bytes from hold) }
 {
-    put_headed(out, at, SOURCE, from.high);
+    put_headed(out, at, Kind::Source as u8, from.high);
     put64(out, at + 9, from.low);
     put16(out, at + 17, hold);
 }
@@ -225,11 +182,10 @@ fn put_piece(out: &mut [u8], at: usize, bytes: &[u8])
     requires bytes_len_bound { length bytes.now ≤ 16 }
     ensures { out.new ≡ sets out.old at (piece_of bytes.now) }
 {
-    let kind = [PIECE];
     let zeros = [0u8; PIECE_BYTES];
     let n = bytes.len();
     let padding = PIECE_BYTES - n;
-    put(out, at, &kind);
+    put(out, at, &[Kind::Piece as u8]);
     put(out, at + 1, bytes);
     put(out, at + 1 + n, &zeros[..padding]);
 }
@@ -252,7 +208,7 @@ fn put_packet(out: &mut [u8], at: usize, time: u64, port: u64, draw: u64, bytes:
     requires port_bound { (port < 65536) × (draw < 256) × (length bytes.now < 65536) }
     ensures { out.new ≡ sets out.old at (packet_bytes time port draw bytes.now) }
 {
-    put_headed(out, at, PACKET, time);
+    put_headed(out, at, Kind::Packet as u8, time);
     put_numbers(out, at + 9, port, draw, bytes.len());
     put_pieces(out, at + PACKET_SIZE, bytes);
 }
@@ -263,7 +219,7 @@ fn put_txt(out: &mut [u8], at: usize, time: u64, bytes: &[u8])
     requires bytes_len_bound { length bytes.now < 65536 }
     ensures { out.new ≡ sets out.old at (txt_bytes time bytes.now) }
 {
-    put_headed(out, at, TXT, time);
+    put_headed(out, at, Kind::Txt as u8, time);
     put16(out, at + 9, bytes.len() as u64);
     put_pieces(out, at + TXT_SIZE, bytes);
 }
@@ -274,7 +230,7 @@ fn put_event(out: &mut [u8], at: usize, event: Event, bytes: &[u8])
     ensures { out.new ≡ sets out.old at (bytes_of (occurrence event bytes.now)) }
 {
     match event {
-        Event::Tick(time) => put_headed(out, at, TICK, time),
+        Event::Tick(time) => put_headed(out, at, Kind::Tick as u8, time),
         Event::Packet {
             time,
             from,
@@ -290,12 +246,12 @@ fn put_event(out: &mut [u8], at: usize, event: Event, bytes: &[u8])
             }
         }
         Event::Claim { last, claim, state } => {
-            put_headed(out, at, CLAIM, last);
+            put_headed(out, at, Kind::Claim as u8, last);
             put_claim(out, at + 9, claim, state);
         }
-        Event::Stop(time) => put_headed(out, at, STOP, time),
+        Event::Stop(time) => put_headed(out, at, Kind::Stop as u8, time),
         Event::Port { time, port } => {
-            put_headed(out, at, PORT, time);
+            put_headed(out, at, Kind::Port as u8, time);
             put16(out, at + 9, port);
         }
         Event::Txt(time) => put_txt(out, at, time, bytes),
