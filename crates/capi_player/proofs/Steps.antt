@@ -5,13 +5,12 @@ use mathlib.Core.List.{List}
 use Prim.Native.Nat.{ℕ}
 use native.Mathlib.Omega.{arith}
 use borrow.Author.Tests.{leb-true}
+use Rattle.std.specs.Prelude.{Some, None, Ok, Err}
 use Rattle.own.specs.changes.Changes.{new_port, new_txt}
-use Rattle.trace.specs.reading.Reading.{step_at}
+use Rattle.trace.specs.reading.Reading.{Step, step_at}
 use Rattle.trace.specs.reading.Events.{Occurrence, occurrence, data_in}
 use Rattle.trace.specs.declared.reading.Event.{Event}
 use Rattle.trace.specs.declared.reading.Event.TheVariants as event
-use Rattle.trace.specs.declared.reading.Step.{Step}
-use Rattle.trace.specs.declared.reading.Step.TheVariants.{End, Found, Refused}
 use Rattle.trace.proofs.Numbers.{Bytes}
 use Rattle.trace.proofs.EventsWritten.{wrote}
 use Rattle.responder.specs.declared.State.{State}
@@ -80,19 +79,19 @@ module _ (b : List ℕ) (l : is_state b ≡ true) (bytes : Bytes b) where
 
 module _ (b p : List ℕ) where
   step_kept : (x : Step) → is_taken (played_by p (decode b) x).turn (played_by p (decode b) x).refusal ≡ false → Stepped b p x b
-  step_kept End h = record { bytes = refl; says = refl }
-  step_kept (Found e) h = let k = event_kept b e.event (data_in p e) e.next h in record { bytes = k.bytes; says = k.says }
-  step_kept (Refused offset) h = record { bytes = refl; says = refl }
+  step_kept (Ok None) h = record { bytes = refl; says = refl }
+  step_kept (Ok (Some e)) h = let k = event_kept b e.event (data_in p e) e.next h in record { bytes = k.bytes; says = k.says }
+  step_kept (Err r) h = record { bytes = refl; says = refl }
 
   module _ (l : is_state b ≡ true) (bytes : Bytes b) (trace : Bytes p) (at : ℕ) {b' : List ℕ} where
     step-taken : (x : Step) → step_at p at ≡ x → is_taken (played_by p (decode b) x).turn (played_by p (decode b) x).refusal ≡ true
         → Lays b (played_by p (decode b) x).state b' → Stepped b p x b'
-    step-taken End e h w = clash h
-    step-taken (Found v) e h w =
+    step-taken (Ok None) e h w = clash h
+    step-taken (Ok (Some v)) e h w =
         let f = fits-port v.event (data_in p v) (wrote p trace at v e).fits in
         let k = event_taken b l bytes v.event (data_in p v) v.next f h w in
         record { bytes = k.bytes; says = k.says }
-    step-taken (Refused offset) e h w = clash h
+    step-taken (Err r) e h w = clash h
 
 -- ---- the exported call
 

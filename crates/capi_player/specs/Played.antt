@@ -1,13 +1,10 @@
 -- Playing the event at an offset to a responder in lent bytes: what it came to in numbers, the bytes that the state then has, and what they say. The contract is the
 -- record `Plays`. Assumes nothing: these are definitions.
-use Rattle.std.specs.Prelude.{ℕ, ◌≡◌, Bool, false, cond, List, length, eqb}
-use Rattle.std.proofs.Math.Option.{Option, none, some}
+use Rattle.std.specs.Prelude.{ℕ, ◌≡◌, Bool, false, cond, List, length, eqb, Option, Some, None, Ok, Err}
 use Rattle.responder.specs.Runs.{Call}
 use Rattle.responder.specs.declared.State.{State}
-use Rattle.trace.specs.reading.Reading.{step_at}
+use Rattle.trace.specs.reading.Reading.{Step, step_at}
 use Rattle.trace.specs.reading.Events.{occurrence, data_in}
-use Rattle.trace.specs.declared.reading.Step.{Step}
-use Rattle.trace.specs.declared.reading.Step.TheVariants.{End, Found, Refused}
 use Rattle.playing.specs.Playing.{call_of, played_at}
 use Rattle.playing.specs.declared.Turn.{Turn}
 use Rattle.playing.specs.declared.Turn.TheVariants as turn
@@ -58,13 +55,13 @@ is_taken (turn.Shown line next) call = false
 
 -- the state's bytes after the call of an event are those that the exported call leaves; where there is no call, they stay
 abbrev pub bytes_by : List ℕ → Option Call → List ℕ
-bytes_by b none = b
-bytes_by b (some c) = bytes_after b c
+bytes_by b None = b
+bytes_by b (Some c) = bytes_after b c
 
 abbrev pub bytes_behind : List ℕ → List ℕ → Step → List ℕ
-bytes_behind b p End = b
-bytes_behind b p (Found e) = bytes_by b (call_of (occurrence e.event (data_in p e)))
-bytes_behind b p (Refused offset) = b
+bytes_behind b p (Ok None) = b
+bytes_behind b p (Ok (Some e)) = bytes_by b (call_of (occurrence e.event (data_in p e)))
+bytes_behind b p (Err r) = b
 
 unfoldable pub bytes_played : List ℕ → List ℕ → ℕ → List ℕ
 bytes_played b p at = cond (is_state b) (bytes_behind b p (step_at p at)) b

@@ -10,6 +10,7 @@ use capi_responder::layout;
 use own::records::{MOST_TXT, Setup};
 use playing::Turn;
 use responder::State;
+use wire::buffer::put;
 
 // What playing from an offset came to: 7, 12 or 0; 0 at the trace's end or where it is refused, 1 for a call that was made, 2 for a claim that was recorded;
 // the refusal number of that call, or 0; whether the responder agrees with what was recorded; the offset behind the event, or that of the refusal; and of the
@@ -47,7 +48,7 @@ fn no_state(at: usize) -> PlayedTurn
 fn turn_numbers(turn: Turn, call: u8, at: usize) -> PlayedTurn
     ensures { result ≡ turn_numbers turn call at }
 {
-    let mut r = PlayedTurn {
+    let none = PlayedTurn {
         refusal: 0,
         turn: 0,
         call,
@@ -58,26 +59,26 @@ fn turn_numbers(turn: Turn, call: u8, at: usize) -> PlayedTurn
         state: 0,
     };
     match turn {
-        Turn::End => r,
-        Turn::Refused(offset) => {
-            r.refusal = wire::refusals::TRACE;
-            r.at = offset;
-            r
-        }
-        Turn::Called(next) => {
-            r.turn = 1;
-            r.at = next;
-            r
-        }
-        Turn::Shown(line, next) => {
-            r.turn = 2;
-            r.agrees = line.agrees;
-            r.at = next;
-            r.last = line.last;
-            r.claim = line.claim;
-            r.state = line.state;
-            r
-        }
+        Turn::End => none,
+        Turn::Refused(offset) => PlayedTurn {
+            refusal: wire::refusals::TRACE,
+            at: offset,
+            ..none
+        },
+        Turn::Called(next) => PlayedTurn {
+            turn: 1,
+            at: next,
+            ..none
+        },
+        Turn::Shown(line, next) => PlayedTurn {
+            turn: 2,
+            agrees: line.agrees,
+            at: next,
+            last: line.last,
+            claim: line.claim,
+            state: line.state,
+            ..none
+        },
     }
 }
 
@@ -97,25 +98,21 @@ fn is_taken(turn: Turn, call: u8) -> bool
 fn put_data(state: &mut [u8], setup: Setup)
     ensures { state.new ≡ data_laid state.old setup }
 {
-    let txt = setup.txt;
-    let strings = txt.bytes;
-    let len = txt.len;
+    let len = setup.txt.len;
     let port = setup.port;
-    wire::buffer::put(state, layout::TXT, &strings);
+    put(state, layout::TXT, &setup.txt.bytes);
     let tail = [(len / 256 % 256) as u8, (len % 256) as u8];
-    wire::buffer::put(state, layout::TXT + MOST_TXT, &tail);
+    put(state, layout::TXT + MOST_TXT, &tail);
     let bytes = [(port / 256 % 256) as u8, (port % 256) as u8];
-    wire::buffer::put(state, layout::PORT, &bytes);
+    put(state, layout::PORT, &bytes);
 }
 
 // Writes the state after a call over the bytes of the one before it: no call changes more of a set-up than its TXT strings and its port.
 fn put_state(state: &mut [u8], after: State)
     ensures { Lays state.old after state.new }
 {
-    let setup = after.setup;
-    let progress = after.progress;
-    put_data(state, setup);
-    capi_responder::encoder::put_progress(state, progress);
+    put_data(state, after.setup);
+    capi_responder::encoder::put_progress(state, after.progress);
 }
 
 // Plays the event at an offset of a trace to the responder in lent bytes.
@@ -126,12 +123,8 @@ pub fn kurgashel_play(state: &mut [u8], trace: &[u8], at: usize) -> PlayedTurn
         return no_state(at);
     }
     let played = playing::play(trace, at, capi_responder::codec::read_state(state));
-    let turn = played.turn;
-    let call = played.refusal;
-    if is_taken(turn, call) {
-        let after = played.state;
-        put_state(state, after);
-        return turn_numbers(turn, call, at);
+    if is_taken(played.turn, played.refusal) {
+        put_state(state, played.state);
     }
-    turn_numbers(turn, call, at)
+    turn_numbers(played.turn, played.refusal, at)
 }

@@ -11,7 +11,7 @@ ghost use Rattle.capi_responder.specs.codec.Codec.{setup_of, decode};
 use crate::layout;
 use claims::holds::{Address, Hold, Holds};
 use claims::records::{Own, RECORDS, Set, index_of, record_at, set_of};
-use claims::{ClaimState, Multicast, Multicasts, Progress, When};
+use claims::{ClaimState, Multicast, Multicasts, Progress};
 use own::records::{Label, MOST_LABEL, MOST_SERVICE, MOST_TXT, Service, Setup, Strings};
 use responder::{State, blank_state};
 use wire::buffer::put;
@@ -134,19 +134,19 @@ fn claim_at(b: &[u8], at: usize) -> ClaimState
 }
 
 // A time that is set or not: a flag, and the time behind it.
-fn when_at(b: &[u8], at: usize) -> When
+fn when_at(b: &[u8], at: usize) -> Option<u64>
     requires { at + 1 < state_size }
     ensures { result ≡ when_at b.now at }
 {
     if flag(b, at) {
-        When::At(be64(b, at + 1))
+        Some(be64(b, at + 1))
     } else {
-        When::Never
+        None
     }
 }
 
 // When an own record was last multicast.
-fn sent_at(b: &[u8], o: Own) -> When
+fn sent_at(b: &[u8], o: Own) -> Option<u64>
     ensures { result ≡ sent_at b.now o }
 {
     when_at(b, layout::MULTICASTS + index_of(o) * layout::CASE_SIZE)
@@ -155,7 +155,7 @@ fn sent_at(b: &[u8], o: Own) -> When
 fn multicasts_at(b: &[u8]) -> Multicasts
     ensures { result ≡ multicasts_at b.now }
 {
-    let never = Multicast { last: When::Never };
+    let never = Multicast { last: None };
     let mut of = [never; RECORDS];
     for i in 0..RECORDS {
         let last = sent_at(b, record_at(i));

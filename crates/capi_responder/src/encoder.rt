@@ -13,7 +13,7 @@ ghost use Rattle.capi_responder.specs.encoder.Laid.{Laid};
 use crate::layout;
 use claims::holds::{Hold, Holds};
 use claims::records::{Own, RECORDS, Set, is_in, record_at};
-use claims::{ClaimState, Multicasts, Progress, When, sent_of};
+use claims::{ClaimState, Multicasts, Progress, sent_of};
 
 // Lays `s` over `out` from index `at` on.
 fn put(out: &mut [u8], at: usize, s: &[u8])
@@ -92,22 +92,16 @@ fn claim_due(c: ClaimState) -> u64
     }
 }
 
-fn when_flag(w: When) -> u8
+fn when_flag(w: Option<u64>) -> u8
     ensures { result ≡ when_flag w }
 {
-    match w {
-        When::Never => 0,
-        When::At(_) => 1,
-    }
+    if w.is_some() { 1 } else { 0 }
 }
 
-fn when_time(w: When) -> u64
+fn when_time(w: Option<u64>) -> u64
     ensures { result ≡ when_time w }
 {
-    match w {
-        When::Never => 0,
-        When::At(time) => time,
-    }
+    w.unwrap_or(0)
 }
 
 fn put_claim(out: &mut [u8], at: usize, c: ClaimState)
@@ -117,7 +111,7 @@ fn put_claim(out: &mut [u8], at: usize, c: ClaimState)
     put_case(out, at, claim_tag(c), claim_due(c));
 }
 
-fn put_when(out: &mut [u8], at: usize, w: When)
+fn put_when(out: &mut [u8], at: usize, w: Option<u64>)
     requires { at + layout.case_size ≤ length out.old }
     ensures { Laid out.old at (when_bytes w) out.new × Fits64 (when_time w) }
 {

@@ -5,7 +5,7 @@ ghost use Rattle.capi_responder.specs.state.Told.{claim_number, next_step};
 
 use crate::codec::read_progress;
 use claims::due::next_due;
-use claims::{When, state_number};
+use claims::state_number;
 
 // Whether a step is due at all, and when.
 #[repr(C)]
@@ -32,10 +32,10 @@ pub fn kurgashel_due(state: &[u8]) -> NextStep
     ensures { result ≡ next_step state.now }
 {
     match next_due(read_progress(state)) {
-        When::Never => NextStep {
+        None => NextStep {
             due: false,
             time: 0,
         },
-        When::At(time) => NextStep { due: true, time },
+        Some(time) => NextStep { due: true, time },
     }
 }

@@ -9,8 +9,8 @@ ghost use Rattle.trace.specs.reading.Events.{data_at, check_of};
 ghost use Rattle.capi_trace.specs.Numbers.{event_of, no_event, step_of, checked_of, told_by, written_of, written_by, out_by};
 
 use claims::holds::Address;
-use trace::reading::{Checked, Event, Step};
-use trace::writing::Written;
+use trace::reading::Event;
+use trace::writing::Unwritten;
 
 // An event of a trace: 12 or 0; the kind of its record, 0 at the trace's end or where it is refused; the offset behind it, or that of the refusal; the time; of
 // a packet the halves of its source address, its port and draws; of an update the port; the claim and its state; and how many bytes it brings.
@@ -39,79 +39,6 @@ pub struct TraceAnswer {
     pub at: usize,
 }
 
-// An event by its numbers, or a kind that there is not.
-#[derive(Clone, Copy)]
-pub enum Told {
-    Event(Event),
-    Unknown,
-}
-
-// The numbers of an event that brings so many bytes, with the offset behind it.
-fn event_of(event: Event, at: usize, length: usize) -> TraceEvent
-    ensures { result ≡ event_of event at length }
-{
-    let mut r = TraceEvent {
-        refusal: 0,
-        kind: 0,
-        at,
-        time: 0,
-        high: 0,
-        low: 0,
-        port: 0,
-        draw: 0,
-        hold: 0,
-        claim: 0,
-        state: 0,
-        length,
-    };
-    match event {
-        Event::Tick(time) => {
-            r.kind = 1;
-            r.time = time;
-            r
-        }
-        Event::Packet {
-            time,
-            from,
-            port,
-            draw,
-            hold,
-        } => {
-            r.kind = 2;
-            r.time = time;
-            r.high = from.high;
-            r.low = from.low;
-            r.port = port;
-            r.draw = draw;
-            r.hold = hold;
-            r
-        }
-        Event::Claim { last, claim, state } => {
-            r.kind = 4;
-            r.time = last;
-            r.claim = claim;
-            r.state = state;
-            r
-        }
-        Event::Stop(time) => {
-            r.kind = 6;
-            r.time = time;
-            r
-        }
-        Event::Port { time, port } => {
-            r.kind = 7;
-            r.time = time;
-            r.port = port;
-            r
-        }
-        Event::Txt(time) => {
-            r.kind = 8;
-            r.time = time;
-            r
-        }
-    }
-}
-
 // An event of no kind: the trace's end, or its refusal.
 fn no_event(refusal: u8, at: usize) -> TraceEvent
     ensures { result ≡ no_event refusal at }
@@ -132,17 +59,73 @@ fn no_event(refusal: u8, at: usize) -> TraceEvent
     }
 }
 
+// The numbers of an event that brings so many bytes, with the offset behind it.
+fn event_of(event: Event, at: usize, length: usize) -> TraceEvent
+    ensures { result ≡ event_of event at length }
+{
+    let none = no_event(0, at);
+    match event {
+        Event::Tick(time) => TraceEvent {
+            kind: 1,
+            time,
+            length,
+            ..none
+        },
+        Event::Packet {
+            time,
+            from,
+            port,
+            draw,
+            hold,
+        } => TraceEvent {
+            kind: 2,
+            time,
+            high: from.high,
+            low: from.low,
+            port,
+            draw,
+            hold,
+            length,
+            ..none
+        },
+        Event::Claim { last, claim, state } => TraceEvent {
+            kind: 4,
+            time: last,
+            claim,
+            state,
+            length,
+            ..none
+        },
+        Event::Stop(time) => TraceEvent {
+            kind: 6,
+            time,
+            length,
+            ..none
+        },
+        Event::Port { time, port } => TraceEvent {
+            kind: 7,
+            time,
+            port,
+            length,
+            ..none
+        },
+        Event::Txt(time) => TraceEvent {
+            kind: 8,
+            time,
+            length,
+            ..none
+        },
+    }
+}
+
 // The event at an offset, which is the trace's start or the offset behind another event.
 pub fn kurgashel_trace_next(trace: &[u8], at: usize) -> TraceEvent
     ensures { result ≡ step_of at (step_at trace.now at) }
 {
     match trace::reading::next(trace, at) {
-        Step::Found(entry) => {
-            let event = entry.event;
-            event_of(event, entry.next, entry.len)
-        }
-        Step::End => no_event(0, at),
-        Step::Refused(offset) => no_event(wire::refusals::TRACE, offset),
+        Ok(Some(entry)) => event_of(entry.event, entry.next, entry.len),
+        Ok(None) => no_event(0, at),
+        Err(refused) => no_event(wire::refusals::TRACE, refused.at),
     }
 }
 
@@ -159,18 +142,18 @@ pub fn kurgashel_trace_check(trace: &[u8]) -> TraceAnswer
     ensures { result ≡ checked_of (check_of trace.now) (length trace.now) }
 {
     match trace::reading::check(trace) {
-        Checked::Read => TraceAnswer {
+        Ok(()) => TraceAnswer {
             refusal: 0,
             at: trace.len(),
         },
-        Checked::Refused(offset) => TraceAnswer {
+        Err(refused) => TraceAnswer {
             refusal: wire::refusals::TRACE,
-            at: offset,
+            at: refused.at,
         },
     }
 }
 
-// The event of a kind with its numbers.
+// The event of a kind with its numbers, none for a kind that there is not.
 fn told_by(
     kind: u8,
     time: u64,
@@ -181,44 +164,44 @@ fn told_by(
     hold: u64,
     claim: u64,
     state: u64,
-) -> Told
+) -> Option<Event>
     ensures { result ≡ told_by kind time high low port draw hold claim state }
 {
     match kind {
-        1 => Told::Event(Event::Tick(time)),
-        2 => Told::Event(Event::Packet {
+        1 => Some(Event::Tick(time)),
+        2 => Some(Event::Packet {
             time,
             from: Address { high, low },
             port,
             draw,
             hold,
         }),
-        4 => Told::Event(Event::Claim {
+        4 => Some(Event::Claim {
             last: time,
             claim,
             state,
         }),
-        6 => Told::Event(Event::Stop(time)),
-        7 => Told::Event(Event::Port { time, port }),
-        8 => Told::Event(Event::Txt(time)),
-        _ => Told::Unknown,
+        6 => Some(Event::Stop(time)),
+        7 => Some(Event::Port { time, port }),
+        8 => Some(Event::Txt(time)),
+        _ => None,
     }
 }
 
 // The answer of the writer in numbers.
-fn written_of(w: Written) -> TraceAnswer
+fn written_of(w: Result<usize, Unwritten>) -> TraceAnswer
     ensures { result ≡ written_of w }
 {
     match w {
-        Written::End(next) => TraceAnswer {
+        Ok(next) => TraceAnswer {
             refusal: 0,
             at: next,
         },
-        Written::Unfit(offset) => TraceAnswer {
+        Err(Unwritten::Unfit { at }) => TraceAnswer {
             refusal: wire::refusals::TRACE,
-            at: offset,
+            at,
         },
-        Written::NoRoom => TraceAnswer {
+        Err(Unwritten::NoRoom) => TraceAnswer {
             refusal: wire::refusals::BUFFER,
             at: 0,
         },
@@ -244,11 +227,8 @@ pub fn kurgashel_trace_write<'o, 'b>(
     ensures out { out.new ≡ out_by out.old at (told_by kind time high low port draw hold claim state) bytes.now }
 {
     match told_by(kind, time, high, low, port, draw, hold, claim, state) {
-        Told::Event(event) => {
-            let w = trace::writing::write(out, at, event, bytes);
-            written_of(w)
-        }
-        Told::Unknown => TraceAnswer {
+        Some(event) => written_of(trace::writing::write(out, at, event, bytes)),
+        None => TraceAnswer {
             refusal: wire::refusals::TRACE,
             at,
         },

@@ -1,4 +1,5 @@
 -- What a tick sends for a held query: exactly the records that it asked for, that are due then and have no cause. Assumes nothing.
+use Rattle.std.specs.Prelude.{Option, Some, None}
 use Prim.Native.Nat.{ℕ, ◌+◌, ◌≤◌}
 use mathlib.Core.Path.{◌≡◌, refl, sym, ap, ◌∙◌}
 use mathlib.Core.Bool.{Bool, true, false, not, ◌&&◌, ◌||◌, and-true}
@@ -23,8 +24,6 @@ use Rattle.claims.specs.declared.records.Claim.{Claim}
 use Rattle.claims.specs.declared.records.Claim.TheVariants.{Instance, Host}
 use Rattle.claims.specs.declared.records.Own.{Own}
 use Rattle.claims.specs.declared.records.Set.{Set}
-use Rattle.claims.specs.declared.When.{When}
-use Rattle.claims.specs.declared.When.TheVariants.{Never, At}
 use Rattle.claims.specs.declared.Progress.{Progress}
 use Rattle.claims.specs.declared.holds.Hold.{Hold}
 use Rattle.claims.specs.declared.holds.Place.{Place}
@@ -43,9 +42,9 @@ use Rattle.causes.specs.Statement.{answers_in, is_wanted_by, wanted_by, Step, wa
 use Rattle.causes.proofs.Exactly.{picked_same, answers_back, right_setup}
 
 -- a time that has come is a time
-come : (w : When) (now : ℕ) → due_by w now ≡ true → (due : ℕ) × (w ≡ At due) × (due ≤ now)
-come Never now e = let z : ◌≡◌ {A = ℕ} 0 1 = cc in absurd (omega arith)
-come (At due) now e = (due, refl, leb-true due now e)
+come : (w : Option ℕ) (now : ℕ) → due_by w now ≡ true → (due : ℕ) × (w ≡ Some due) × (due ≤ now)
+come None now e = let z : ◌≡◌ {A = ℕ} 0 1 = cc in absurd (omega arith)
+come (Some due) now e = (due, refl, leb-true due now e)
 
 -- nothing is picked where no test holds
 none-picked : {A : Type 0} (f g : A → Bool) (xs : List A) → some_of f xs ≡ false → picked (λ x. f x && g x) xs ≡ []

@@ -1,5 +1,6 @@
 -- A record asked for is left out exactly for a cause of the specification: the packet of an accepted call is read back as the records that are due and have no
 -- cause. Assumes nothing.
+use Rattle.std.specs.Prelude.{Option, Some, None}
 use Prim.Native.Nat.{ℕ, ◌+◌, ◌≤◌}
 use mathlib.Core.Path.{◌≡◌, refl, sym, ap, subst, ◌∙◌}
 use mathlib.Core.Logic.{◌≢◌, ◌⊎◌, inl, inr}
@@ -32,8 +33,6 @@ use Rattle.claims.specs.answers.Held.{to_hold, hold_of, held_back}
 use Rattle.claims.specs.answers.Answers.{wanted_of, multicast_asks, set_reply, joined, judged_of}
 use Rattle.claims.specs.declared.answers.Facts.{Facts}
 use Rattle.claims.specs.declared.answers.Received.{Received}
-use Rattle.claims.specs.declared.When.{When}
-use Rattle.claims.specs.declared.When.TheVariants.{Never, At}
 use Rattle.claims.specs.declared.Progress.{Progress}
 use Rattle.claims.specs.declared.holds.Hold.{Hold}
 use Rattle.claims.specs.declared.records.Claim.TheVariants.{Instance, Host}
@@ -288,13 +287,13 @@ module _ (s : State) (a : Arrival) (l : Layout) (m : Message) (ok : Accepted s a
       ways (inr (inl x)) = to_asker x.0 x.1
       ways (inr (inr x)) = left_out x.0 x.1 x.2
 
-  marked-then : (o : Own) → sent_of o (receive_of s a).state.progress.sent ≡ cond (goes_now s a m o) (At a.time) (sent_of o s.progress.sent)
+  marked-then : (o : Own) → sent_of o (receive_of s a).state.progress.sent ≡ cond (goes_now s a m o) (Some a.time) (sent_of o s.progress.sent)
   unfolding marked_all
   marked-then o =
       ap (λ (p : Progress). sent_of o p.sent) left
       ∙ (receive-sent (coming_of a) f aaaa s.progress o
       ∙ (sent_each (λ p. marked (has p heard.answers) (sent_of p s.progress.sent) a.time) o
-      ∙ ap (λ (b : Bool). cond b (At a.time) (sent_of o s.progress.sent)) (goes_is o)))
+      ∙ ap (λ (b : Bool). cond b (Some a.time) (sent_of o s.progress.sent)) (goes_is o)))
 
   late : a.time ≤ last_time
   unfolding wrong_time
@@ -310,13 +309,13 @@ module _ (s : State) (a : Arrival) (l : Layout) (m : Message) (ok : Accepted s a
       ∙ by-held (λ b r. r.progress.reply ≡ set_reply (not b && is_wanted s a.time m Ptr) s.progress.reply (a.time + a.draw)) (λ e. sym (stays s.progress.reply))
       (λ e. simp (wanted_exactly s a.time m Ptr, after-exact a.time a.draw late (omega (arith, small.0))))
     where
-      stays : (w : When) → set_reply false w (a.time + a.draw) ≡ w
-      stays Never = refl
-      stays (At due) = refl
+      stays : (w : Option ℕ) → set_reply false w (a.time + a.draw) ≡ w
+      stays None = refl
+      stays (Some due) = refl
 
   -- what is kept is what the message says
   abbrev kept_to : ℕ → Hold
-  kept_to due = record { from = a.from; due = At due; asked = each (λ o. is_asked s.setup o m); known = each (λ o. is_known s.setup o m) }
+  kept_to due = record { from = a.from; due = Some due; asked = each (λ o. is_asked s.setup o m); known = each (λ o. is_known s.setup o m) }
 
   kept-is : is_held_back s a m ≡ true → hold_of (coming_of a) f ≡ kept_of s a m
   unfolding facts_of response_facts query_facts

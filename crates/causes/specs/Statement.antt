@@ -1,7 +1,7 @@
 -- What a packet received brings out of a responder (specification, 'Which answers go out' and 'Held queries'), said of an accepted call: of the message that its
 -- bytes are read as, and of the bytes that the call sends, read back; and what a tick sends for a held query. Proved in proofs/Exactly.antt and
 -- proofs/Answered.antt under the names that the comments give. Assumes nothing.
-use Rattle.std.specs.Prelude.{ℕ, ◌+◌, ◌≤◌, ◌≡◌, ◌≢◌, Bool, true, false, cond, not, ◌&&◌, ◌||◌, List, [], ◌∷◌, ◌++◌, map, eqb}
+use Rattle.std.specs.Prelude.{ℕ, ◌+◌, ◌≤◌, ◌≡◌, ◌≢◌, Bool, true, false, cond, not, ◌&&◌, ◌||◌, List, [], ◌∷◌, ◌++◌, map, eqb, Some}
 use Rattle.wire.specs.Lists.{some}
 use Rattle.wire.specs.case_folding.Fold.{same_name}
 use Rattle.wire.specs.message.Message.{Record, Message, is_response}
@@ -12,7 +12,6 @@ use Rattle.claims.specs.records.Sets.{picked}
 use Rattle.claims.specs.Time.{multicast_gap, recently, sent_of}
 use Rattle.claims.specs.Claims.{held_now, claim_of}
 use Rattle.claims.specs.holds.Holds.{no_hold, hold_at, held_of, some_from, some_free, knowing}
-use Rattle.claims.specs.declared.When.TheVariants.{At}
 use Rattle.claims.specs.declared.holds.Hold.{Hold}
 use Rattle.claims.specs.declared.holds.Place.{Place}
 use Rattle.claims.specs.declared.records.Claim.TheVariants.{Instance, Host}
@@ -84,7 +83,7 @@ pub data OneWay (multicast unicast cause : Bool) : Type 0 where
 abbrev pub kept_of : State → Arrival → Message → Hold
 kept_of s a m = record {
   from = a.from;
-  due = At (a.time + a.hold);
+  due = Some (a.time + a.hold);
   asked = each (λ o. is_asked s.setup o m);
   known = each (λ o. is_known s.setup o m);
 }
@@ -112,7 +111,7 @@ pub record Exactly (s : State) (a : Arrival) (m : Message) : Type 0 where
   -- of a message that is not held, each record that is due goes one way
   pub one_way : is_held_back s a m ≡ false → (o : Own) → is_due s m o ≡ true → OneWay (wanted_now s a m o) (unicast_now s a m o) (has_cause s a.time m o)
   -- what goes to all counts as multicast then; what goes to the asker does not
-  pub marks : (o : Own) → sent_of o (receive_of s a).state.progress.sent ≡ cond (goes_now s a m o) (At a.time) (sent_of o s.progress.sent)
+  pub marks : (o : Own) → sent_of o (receive_of s a).state.progress.sent ≡ cond (goes_now s a m o) (Some a.time) (sent_of o s.progress.sent)
   -- a message that is held is the last of the held queries; any other is none, and a query's known answers go to those of its address
   pub holds :
       held_of (receive_of s a).state.progress.holds
@@ -143,7 +142,7 @@ pub data Step (s : State) (t : Tick) (place : Place) : Type 0 where
   -- it is due, and the tick sends its answers, in one packet
   answered :
       (due : ℕ)
-      → (hold_at place s.progress.holds).due ≡ At due
+      → (hold_at place s.progress.holds).due ≡ Some due
       → due ≤ t.time
       → hold_at place (tick_of s t).state.progress.holds ≡ no_hold
       → answers_in (ticked_packet s t) ≡ map (own_record s.setup (response_style 0)) (wanted_by s t.time (hold_at place s.progress.holds))
@@ -151,7 +150,7 @@ pub data Step (s : State) (t : Tick) (place : Place) : Type 0 where
   -- "One with nothing to send is taken and passed."
   passed :
       (due : ℕ)
-      → (hold_at place s.progress.holds).due ≡ At due
+      → (hold_at place s.progress.holds).due ≡ Some due
       → due ≤ t.time
       → hold_at place (tick_of s t).state.progress.holds ≡ no_hold
       → wanted_by s t.time (hold_at place s.progress.holds) ≡ []

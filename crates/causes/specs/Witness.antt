@@ -1,13 +1,12 @@
 -- Calls to which the theorems apply, so that they are not about nothing: a holder of both names is asked for its address, with the address as a known answer; and
 -- it is asked so with the TC bit, holds the query, and answers it at its step. Proved in proofs/Witness.antt. Assumes nothing.
-use Rattle.std.specs.Prelude.{ℕ, ◌≡◌, true, false, [], ◌∷◌}
+use Rattle.std.specs.Prelude.{ℕ, ◌≡◌, true, false, [], ◌∷◌, Some, None}
 use Rattle.wire.specs.message.Message.{Message}
 use Rattle.own.specs.records.Records.{own_name, own_rdata}
 use Rattle.claims.specs.Time.{never_sent, marked_all}
 use Rattle.claims.specs.records.Sets.{only}
 use Rattle.claims.specs.declared.records.Own.TheVariants.{A}
 use Rattle.claims.specs.declared.ClaimState.TheVariants.{Held}
-use Rattle.claims.specs.declared.When.TheVariants.{Never, At}
 use Rattle.claims.specs.holds.Holds.{no_hold, no_holds, hold_at}
 use Rattle.claims.specs.declared.holds.Place.TheVariants.{Fourth}
 use Rattle.writer.specs.own_packets.Packets.{packet_of}
@@ -24,7 +23,7 @@ use Rattle.causes.specs.Plain.{is_replied}
 abbrev pub holder : State
 holder = record {
   setup = sample;
-  progress = record { instance = Held; host = Held; sent = never_sent; reply = Never; holds = no_holds; updated = Never; draw = 0; last = 0 };
+  progress = record { instance = Held; host = Held; sent = never_sent; reply = None; holds = no_holds; updated = None; draw = 0; last = 0 };
 }
 
 -- the query, and the call that is handed its packet
@@ -52,7 +51,7 @@ qu_query = query_of 0 0x8001 59
 abbrev pub announced : State
 announced = record {
   setup = sample;
-  progress = record { instance = Held; host = Held; sent = marked_all (only A) never_sent 0; reply = Never; holds = no_holds; updated = Never; draw = 0; last = 0 };
+  progress = record { instance = Held; host = Held; sent = marked_all (only A) never_sent 0; reply = None; holds = no_holds; updated = None; draw = 0; last = 0 };
 }
 
 abbrev pub qu_asked : ℕ → Arrival
@@ -123,6 +122,6 @@ pub record Witness : Type 0 where
   pub held : Accepted holder (asked_with 512 59) (layout_of false truncated) truncated
   pub held_back : is_held_back holder (asked_with 512 59) truncated ≡ true
   pub accepted : tick_refusal holding (tick 450) ≡ 0
-  pub due : (hold_at Fourth holding.progress.holds).due ≡ At 450
+  pub due : (hold_at Fourth holding.progress.holds).due ≡ Some 450
   pub answers : wanted_by holding 450 (hold_at Fourth holding.progress.holds) ≡ A ∷ []
   pub gone : hold_at Fourth (tick_of holding (tick 450)).state.progress.holds ≡ no_hold

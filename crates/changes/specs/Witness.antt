@@ -1,13 +1,12 @@
 -- Calls to which the theorems apply, so that they are not about nothing: a holder of both names stops; it takes a new TXT, 6,000 ms later a new port, and then
 -- announces again. Proved in proofs/Witness.antt. Assumes nothing.
-use Rattle.std.specs.Prelude.{ℕ, ◌≡◌, false, List, [], ◌∷◌, length, eqb}
+use Rattle.std.specs.Prelude.{ℕ, ◌≡◌, false, List, [], ◌∷◌, length, eqb, None}
 use Rattle.own.specs.changes.Changes.{NewData, new_port, new_txt}
 use Rattle.claims.specs.Time.{never_sent}
 use Rattle.claims.specs.holds.Holds.{no_holds}
 use Rattle.claims.specs.declared.records.Own.TheVariants.{Ptr, Srv, Txt, A}
 use Rattle.claims.specs.declared.ClaimState.TheVariants.{Held, Waiting, Probing2, Lost}
 use Rattle.claims.specs.declared.ClaimState.{ClaimState}
-use Rattle.claims.specs.declared.When.TheVariants.{Never}
 use Rattle.roundtrip.specs.Cases.{sample}
 use Rattle.roundtrip.specs.Writable.{Each}
 use Rattle.responder.specs.Handed.{Tick}
@@ -21,7 +20,7 @@ use Rattle.changes.specs.Statement.{held_records, Other}
 abbrev pub state_with : ClaimState → State
 state_with c = record {
   setup = sample;
-  progress = record { instance = c; host = Held; sent = never_sent; reply = Never; holds = no_holds; updated = Never; draw = 100; last = 0 };
+  progress = record { instance = c; host = Held; sent = never_sent; reply = None; holds = no_holds; updated = None; draw = 100; last = 0 };
 }
 
 abbrev pub holder : State

@@ -2,7 +2,8 @@
 // set-up is handed on in a way that its rules refuse.
 ghost use Rattle.std.specs.Prelude.{◌≡◌, length};
 ghost use Rattle.console_text.specs.hex.Bytes.{bytes_of};
-ghost use Rattle.console_responder.specs.Forms.{filled_with, label_told, service_told, strings_told, exactly, setup_told, is_bytes_of, is_aaaa, are_names, is_start};
+ghost use Rattle.console_responder.specs.Forms.{filled_with, label_told, service_told, strings_told, exactly, setup_told};
+ghost use Rattle.console_responder.specs.Forms.{is_bytes_of, is_aaaa, are_names, is_start};
 ghost use Rattle.console_responder.specs.Lines.{unstarted, after_start};
 
 use console_calls::output::{bad_line, only, refused};

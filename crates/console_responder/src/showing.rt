@@ -1,7 +1,7 @@
 // What calls show: what they send; and the calls that only show what is held: `claims`, the times and states of the responder; `holds`, its held queries; and
 // `out AT LEN` and `unicast AT LEN`, a part of an out buffer.
 use claims::holds::{Address, Hold, Holds, is_taken};
-use claims::{ClaimState, When};
+use claims::ClaimState;
 use console_calls::output::{self, bad_line, bytes, finish, first, only, refused, word};
 use console_text::fields::{has_arguments, is_number, number};
 use console_text::lines::front;
@@ -87,10 +87,10 @@ fn claim(rt: &impl Print, text: &mut [u8; 4096], used: usize, c: ClaimState) -> 
 }
 
 // Adds a time that is set or not, behind its word: the PTR reply, ` reply DUE`, or the last update, ` updated TIME`.
-fn when(rt: &impl Print, text: &mut [u8; 4096], used: usize, name: &[u8], w: When) -> usize {
+fn when(rt: &impl Print, text: &mut [u8; 4096], used: usize, name: &[u8], w: Option<u64>) -> usize {
     match w {
-        When::At(time) => timed(rt, text, used, name, time),
-        When::Never => untimed(rt, text, used, name),
+        Some(time) => timed(rt, text, used, name, time),
+        None => untimed(rt, text, used, name),
     }
 }
 
@@ -120,7 +120,7 @@ fn address_bytes(a: Address) -> [u8; 16] {
 
 // Adds a held query: ` FROM DUE`; a free place adds nothing.
 fn hold(rt: &impl Print, text: &mut [u8; 4096], used: usize, h: Hold) -> usize {
-    let When::At(time) = h.due else {
+    let Some(time) = h.due else {
         return used;
     };
     let used = bytes(rt, text, used, &address_bytes(h.from));

@@ -1,10 +1,11 @@
 // The call `record SIZE`, with events behind it: `trace TRACE`, their trace; `refused 12 OFFSET` for a value that its field cannot hold; or `refused 3`
 // where the trace has more bytes than SIZE.
 use crate::showing::refused_at;
-use crate::telling::{Telling, Told, bytes_told, event_at};
+use crate::telling::{Told, bytes_told, event_at};
 use console_calls::output::{bad_line, bytes, finish, first, refused};
 use console_text::fields::{is_number, number};
-use trace::writing::{Size, Written};
+use console_text::lines::{arguments, front};
+use trace::writing::{Unfit, size_of, write};
 
 // The index of the first event's word.
 const FIRST: usize = 2;
@@ -12,107 +13,77 @@ const FIRST: usize = 2;
 // The most bytes of a trace that a line can tell: each field of `txt NOW TXT` with one byte takes 9 characters, with its space, and 28 bytes.
 const MOST_TRACE: usize = 131072;
 
-// The sum, or the greatest number.
-fn sum(a: usize, b: usize) -> usize {
-    if usize::MAX - a < b {
-        return usize::MAX;
-    }
-    a + b
-}
-
 // Whether the fields of a line behind its size are events.
 fn are_events(line: &[u8]) -> bool {
-    let last = console_text::lines::arguments(line);
+    let last = arguments(line);
     let mut at = FIRST;
-    let mut left = line.len();
-    while 0 < left {
-        left -= 1;
+    for _ in 0..line.len() {
         if last < at {
             return true;
         }
-        match event_at(line, at) {
-            Telling::Event(told) => {
-                at = told.next;
-            }
-            Telling::Malformed => {
-                return false;
-            }
-        }
+        let Some(told) = event_at(line, at) else {
+            return false;
+        };
+        at = told.next;
     }
     last < at
 }
 
 // The size of an event that a line tells.
-fn size_told(line: &[u8], told: Told) -> Size {
+fn size_told(line: &[u8], told: Told) -> Result<usize, Unfit> {
     let mut start = [0u8; 1];
     let n = bytes_told(line, told.bytes, &mut start);
-    let event = told.event;
-    trace::writing::size_of(event, n)
+    size_of(told.event, n)
 }
 
-// The size of the trace of the events that a line tells, or the offset of the first record that a value does not fit.
-fn trace_size(line: &[u8]) -> Size {
-    let last = console_text::lines::arguments(line);
+// The size of the trace of the events that a line tells, or how far behind its start the first record lies that a value does not fit.
+fn trace_size(line: &[u8]) -> Result<usize, Unfit> {
+    let last = arguments(line);
     let mut at = FIRST;
-    let mut size = 0;
-    let mut left = line.len();
-    while 0 < left {
-        left -= 1;
+    let mut size: usize = 0;
+    for _ in 0..line.len() {
         if last < at {
-            return Size::Bytes(size);
+            break;
         }
-        match event_at(line, at) {
-            Telling::Event(told) => {
-                at = told.next;
-                match size_told(line, told) {
-                    Size::Bytes(n) => {
-                        size = sum(size, n);
-                    }
-                    Size::Unfit(offset) => {
-                        return Size::Unfit(sum(size, offset));
-                    }
-                }
+        let Some(told) = event_at(line, at) else {
+            break;
+        };
+        at = told.next;
+        match size_told(line, told) {
+            Ok(n) => {
+                size = size.saturating_add(n);
             }
-            Telling::Malformed => {
-                return Size::Bytes(size);
+            Err(unfit) => {
+                return Err(Unfit {
+                    behind: size.saturating_add(unfit.behind),
+                });
             }
         }
     }
-    Size::Bytes(size)
+    Ok(size)
 }
 
-// Writes an event that a line tells, and tells the offset behind it.
+// Writes an event that a line tells, and tells the offset behind it; where it is not written, that at which it would stand.
 fn written(line: &[u8], told: Told, out: &mut [u8], to: usize) -> usize {
     let mut data = [0u8; 20000];
     let n = bytes_told(line, told.bytes, &mut data);
-    let event = told.event;
-    match trace::writing::write(out, to, event, console_text::lines::front(&data, n)) {
-        Written::End(next) => next,
-        Written::Unfit(_) => to,
-        Written::NoRoom => to,
-    }
+    write(out, to, told.event, front(&data, n)).unwrap_or(to)
 }
 
 // Writes the trace of the events that a line tells, and tells its length.
 fn write_all(line: &[u8], out: &mut [u8]) -> usize {
-    let last = console_text::lines::arguments(line);
+    let last = arguments(line);
     let mut at = FIRST;
     let mut to = 0;
-    let mut left = line.len();
-    while 0 < left {
-        left -= 1;
+    for _ in 0..line.len() {
         if last < at {
-            return to;
+            break;
         }
-        match event_at(line, at) {
-            Telling::Event(told) => {
-                at = told.next;
-                to = written(line, told, out, to);
-            }
-            Telling::Malformed => {
-                return to;
-            }
-        }
+        let Some(told) = event_at(line, at) else {
+            break;
+        };
+        at = told.next;
+        to = written(line, told, out, to);
     }
     to
 }
@@ -125,20 +96,17 @@ fn recorded(line: &[u8], size: usize, rt: &impl Print, text: &mut [u8; 4096]) {
     let mut out = [0u8; MOST_TRACE];
     let n = write_all(line, &mut out);
     let used = first(rt, text, b"trace");
-    let used = bytes(rt, text, used, console_text::lines::front(&out, n));
+    let used = bytes(rt, text, used, front(&out, n));
     finish(rt, text, used);
 }
 
 // `record SIZE ..`
 pub fn record(line: &[u8], rt: &impl Print, text: &mut [u8; 4096]) {
-    if !is_number(line, 1) {
-        return bad_line(rt, text);
-    }
-    if !are_events(line) {
+    if !is_number(line, 1) || !are_events(line) {
         return bad_line(rt, text);
     }
     match trace_size(line) {
-        Size::Bytes(size) => recorded(line, size, rt, text),
-        Size::Unfit(offset) => refused_at(offset, rt, text),
+        Ok(size) => recorded(line, size, rt, text),
+        Err(unfit) => refused_at(unfit.behind, rt, text),
     }
 }

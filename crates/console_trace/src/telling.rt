@@ -2,21 +2,17 @@
 // `port NOW PORT` and `txt NOW TXT`.
 use claims::holds::Address;
 use console_text::fields::{are_bytes, is_number, number};
+use console_text::hex::{fill, is_bytes};
+use console_text::lines::{field, front};
+use responder::address::address_of;
 use trace::reading::Event;
 
-// An event with the index of the field behind it, and that of the field with the bytes that it brings, 0 where it brings none.
+// An event with the index of the field behind it, and that of the field with the bytes that it brings, if it brings any.
 #[derive(Clone, Copy)]
 pub struct Told {
     pub event: Event,
     pub next: usize,
-    pub bytes: usize,
-}
-
-// What stands in a line from a field on.
-#[derive(Clone, Copy)]
-pub enum Telling {
-    Event(Told),
-    Malformed,
+    pub bytes: Option<usize>,
 }
 
 // No line has so many fields.
@@ -24,70 +20,49 @@ const MOST_FIELDS: usize = 65536;
 
 // Whether a field is bytes, so many of them.
 fn is_bytes_of(field: &[u8], n: usize) -> bool {
-    if !console_text::hex::is_bytes(field) {
-        return false;
-    }
     let mut first = [0u8; 1];
-    console_text::hex::fill(field, &mut first) == n
+    is_bytes(field) && fill(field, &mut first) == n
 }
 
 // Whether a field is the address of a sender: 4 bytes of IPv4, or 16.
 fn is_address(field: &[u8]) -> bool {
-    if is_bytes_of(field, 4) {
-        return true;
-    }
-    is_bytes_of(field, 16)
+    is_bytes_of(field, 4) || is_bytes_of(field, 16)
 }
 
 // The address that a field tells.
 fn address(field: &[u8]) -> Address {
     let mut bytes = [0u8; 16];
-    let n = console_text::hex::fill(field, &mut bytes);
-    responder::address::address_of(console_text::lines::front(&bytes, n))
+    let n = fill(field, &mut bytes);
+    address_of(front(&bytes, n))
 }
 
 // Whether the field with an index and the two behind it are numbers.
 fn are_numbers(line: &[u8], first: usize) -> bool {
-    if MOST_FIELDS < first {
-        return false;
-    }
-    if !is_number(line, first) {
-        return false;
-    }
-    if !is_number(line, first + 1) {
-        return false;
-    }
-    is_number(line, first + 2)
+    first <= MOST_FIELDS
+        && is_number(line, first)
+        && is_number(line, first + 1)
+        && is_number(line, first + 2)
 }
 
 // An event that brings no bytes, with the index of the field behind it.
-fn alone(event: Event, next: usize) -> Telling {
-    Telling::Event(Told {
+fn alone(event: Event, next: usize) -> Option<Told> {
+    Some(Told {
         event,
         next,
-        bytes: 0,
+        bytes: None,
     })
 }
 
 // `recv NOW FROM PORT DRAW HOLD PACKET`, its word at an index.
-fn packet(line: &[u8], at: usize) -> Telling {
-    if MOST_FIELDS < at {
-        return Telling::Malformed;
+fn packet(line: &[u8], at: usize) -> Option<Told> {
+    if MOST_FIELDS < at || !is_number(line, at + 1) {
+        return None;
     }
-    if !is_number(line, at + 1) {
-        return Telling::Malformed;
+    let from = field(line, at + 2);
+    if !is_address(from) || !are_numbers(line, at + 3) || !are_bytes(line, at + 6) {
+        return None;
     }
-    let from = console_text::lines::field(line, at + 2);
-    if !is_address(from) {
-        return Telling::Malformed;
-    }
-    if !are_numbers(line, at + 3) {
-        return Telling::Malformed;
-    }
-    if !are_bytes(line, at + 6) {
-        return Telling::Malformed;
-    }
-    Telling::Event(Told {
+    Some(Told {
         event: Event::Packet {
             time: number(line, at + 1),
             from: address(from),
@@ -96,17 +71,14 @@ fn packet(line: &[u8], at: usize) -> Telling {
             hold: number(line, at + 5),
         },
         next: at + 7,
-        bytes: at + 6,
+        bytes: Some(at + 6),
     })
 }
 
 // `claim LAST K STATE`
-fn claim(line: &[u8], at: usize) -> Telling {
-    if MOST_FIELDS < at {
-        return Telling::Malformed;
-    }
-    if !are_numbers(line, at + 1) {
-        return Telling::Malformed;
+fn claim(line: &[u8], at: usize) -> Option<Told> {
+    if MOST_FIELDS < at || !are_numbers(line, at + 1) {
+        return None;
     }
     alone(
         Event::Claim {
@@ -119,15 +91,9 @@ fn claim(line: &[u8], at: usize) -> Telling {
 }
 
 // `port NOW PORT`
-fn port(line: &[u8], at: usize) -> Telling {
-    if MOST_FIELDS < at {
-        return Telling::Malformed;
-    }
-    if !is_number(line, at + 1) {
-        return Telling::Malformed;
-    }
-    if !is_number(line, at + 2) {
-        return Telling::Malformed;
+fn port(line: &[u8], at: usize) -> Option<Told> {
+    if MOST_FIELDS < at || !is_number(line, at + 1) || !is_number(line, at + 2) {
+        return None;
     }
     alone(
         Event::Port {
@@ -139,66 +105,45 @@ fn port(line: &[u8], at: usize) -> Telling {
 }
 
 // `txt NOW TXT`
-fn txt(line: &[u8], at: usize) -> Telling {
-    if MOST_FIELDS < at {
-        return Telling::Malformed;
+fn txt(line: &[u8], at: usize) -> Option<Told> {
+    if MOST_FIELDS < at || !is_number(line, at + 1) || !are_bytes(line, at + 2) {
+        return None;
     }
-    if !is_number(line, at + 1) {
-        return Telling::Malformed;
-    }
-    if !are_bytes(line, at + 2) {
-        return Telling::Malformed;
-    }
-    Telling::Event(Told {
+    Some(Told {
         event: Event::Txt(number(line, at + 1)),
         next: at + 3,
-        bytes: at + 2,
+        bytes: Some(at + 2),
     })
 }
 
 // `tick NOW` or `stop NOW`
-fn timed(line: &[u8], at: usize) -> Telling {
-    if MOST_FIELDS < at {
-        return Telling::Malformed;
-    }
-    if !is_number(line, at + 1) {
-        return Telling::Malformed;
+fn timed(line: &[u8], at: usize) -> Option<Told> {
+    if MOST_FIELDS < at || !is_number(line, at + 1) {
+        return None;
     }
     let time = number(line, at + 1);
-    if wire::expansion::same_bytes(console_text::lines::field(line, at), b"tick") {
-        return alone(Event::Tick(time), at + 2);
+    match field(line, at) {
+        b"tick" => alone(Event::Tick(time), at + 2),
+        _ => alone(Event::Stop(time), at + 2),
     }
-    alone(Event::Stop(time), at + 2)
 }
 
 // The event whose word is the field with an index.
-pub(crate) fn event_at(line: &[u8], at: usize) -> Telling {
-    let word = console_text::lines::field(line, at);
-    if wire::expansion::same_bytes(word, b"tick") {
-        return timed(line, at);
+pub(crate) fn event_at(line: &[u8], at: usize) -> Option<Told> {
+    match field(line, at) {
+        b"tick" | b"stop" => timed(line, at),
+        b"recv" => packet(line, at),
+        b"claim" => claim(line, at),
+        b"port" => port(line, at),
+        b"txt" => txt(line, at),
+        _ => None,
     }
-    if wire::expansion::same_bytes(word, b"recv") {
-        return packet(line, at);
-    }
-    if wire::expansion::same_bytes(word, b"claim") {
-        return claim(line, at);
-    }
-    if wire::expansion::same_bytes(word, b"stop") {
-        return timed(line, at);
-    }
-    if wire::expansion::same_bytes(word, b"port") {
-        return port(line, at);
-    }
-    if wire::expansion::same_bytes(word, b"txt") {
-        return txt(line, at);
-    }
-    Telling::Malformed
 }
 
 // Lays the bytes of a field over the start of a buffer, and tells how many there are: none where the event brings none.
-pub(crate) fn bytes_told(line: &[u8], field: usize, out: &mut [u8]) -> usize {
-    if field == 0 {
-        return 0;
+pub(crate) fn bytes_told(line: &[u8], index: Option<usize>, out: &mut [u8]) -> usize {
+    match index {
+        Some(index) => fill(field(line, index), out),
+        None => 0,
     }
-    console_text::hex::fill(console_text::lines::field(line, field), out)
 }

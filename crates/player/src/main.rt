@@ -6,11 +6,12 @@
 ghost use Rattle.std.specs.Prelude.{◌≤◌, length};
 
 use console_calls::output::{finish, first, word};
+use console_responder::setup::{is_start, told};
+use console_text::fields::number;
 use itoa::Buffer;
 use playing::{Line, Turn};
 use responder::{Answer, State};
 use std::io::Read;
-use trace::reading::Checked;
 
 // The most bytes of the input: there is no heap, and the trace is checked as a whole before anything is printed.
 const MOST_INPUT: usize = 4194304;
@@ -59,9 +60,7 @@ fn read_all(from: &mut impl Read, input: &mut [u8], start: usize) -> usize
     ensures { result ≤ length input.new }
 {
     let mut filled = start;
-    let mut turns = u64::MAX;
-    while 0 < turns {
-        turns -= 1;
+    for _ in 0..u64::MAX {
         let next = refill(from, input, filled);
         if next == filled {
             return filled;
@@ -79,29 +78,26 @@ fn time(rt: &impl Print, text: &mut [u8; 4096], last: u64) -> usize {
 
 // Adds the claim by its number.
 fn claim(rt: &impl Print, text: &mut [u8; 4096], used: usize, k: u64) -> usize {
-    if k == 0 {
-        return word(rt, text, used, b"instance");
-    }
-    word(rt, text, used, b"host")
+    let name: &[u8] = if k == 0 { b"instance" } else { b"host" };
+    word(rt, text, used, name)
 }
 
 // Adds the state by its number.
 fn state(rt: &impl Print, text: &mut [u8; 4096], used: usize, number: u64) -> usize {
-    match number {
-        0 => word(rt, text, used, b"waiting"),
-        1 => word(rt, text, used, b"probing"),
-        2 => word(rt, text, used, b"deferred"),
-        3 => word(rt, text, used, b"held"),
-        _ => word(rt, text, used, b"lost"),
-    }
+    let name: &[u8] = match number {
+        0 => b"waiting",
+        1 => b"probing",
+        2 => b"deferred",
+        3 => b"held",
+        _ => b"lost",
+    };
+    word(rt, text, used, name)
 }
 
 // Adds the verdict.
 fn verdict(rt: &impl Print, text: &mut [u8; 4096], used: usize, agrees: bool) -> usize {
-    if agrees {
-        return word(rt, text, used, b"ok");
-    }
-    word(rt, text, used, b"bad")
+    let name: &[u8] = if agrees { b"ok" } else { b"bad" };
+    word(rt, text, used, name)
 }
 
 // Prints a line.
@@ -117,19 +113,11 @@ fn show(line: Line, rt: &impl Print, text: &mut [u8; 4096]) {
 fn play(trace: &[u8], begun: State, rt: &impl Print, text: &mut [u8; 4096]) {
     let mut state = begun;
     let mut at = 0;
-    let mut left = trace.len();
-    while 0 < left {
-        left -= 1;
+    for _ in 0..trace.len() {
         let played = playing::play(trace, at, state);
         state = played.state;
-        let turn = played.turn;
-        match turn {
-            Turn::End => {
-                left = 0;
-            }
-            Turn::Refused(_) => {
-                left = 0;
-            }
+        match played.turn {
+            Turn::End | Turn::Refused(_) => return,
             Turn::Called(next) => {
                 at = next;
             }
@@ -144,25 +132,18 @@ fn play(trace: &[u8], begun: State, rt: &impl Print, text: &mut [u8; 4096]) {
 // Plays a trace to a responder that has begun, where the trace is read.
 fn checked(trace: &[u8], begun: State, rt: &(impl Print + Eprint), text: &mut [u8; 4096]) {
     match trace::reading::check(trace) {
-        Checked::Read => play(trace, begun, rt, text),
-        Checked::Refused(offset) => refused_at(rt, offset),
+        Ok(()) => play(trace, begun, rt, text),
+        Err(refused) => refused_at(rt, refused.at),
     }
 }
 
 // Starts a responder by the first line, and plays the trace to it.
 fn run(line: &[u8], trace: &[u8], rt: &(impl Print + Eprint), text: &mut [u8; 4096]) {
-    if MOST_LINE < line.len() {
+    if MOST_LINE < line.len() || !is_start(line) {
         return bad_line(rt);
     }
-    if !console_responder::setup::is_start(line) {
-        return bad_line(rt);
-    }
-    let setup = console_responder::setup::told(line);
-    let time = console_text::fields::number(line, 1);
-    let draw = console_text::fields::number(line, 2);
-    let started = responder::start(setup, time, draw);
-    let answer = started.answer;
-    match answer {
+    let started = responder::start(told(line), number(line, 1), number(line, 2));
+    match started.answer {
         Answer::Refused(n) => refused(rt, n),
         _ => checked(trace, started.state, rt, text),
     }
@@ -170,13 +151,10 @@ fn run(line: &[u8], trace: &[u8], rt: &(impl Print + Eprint), text: &mut [u8; 40
 
 // The line and the trace of an input.
 fn split(input: &[u8], rt: &(impl Print + Eprint), text: &mut [u8; 4096]) {
-    let size = input.len();
-    let end = console_text::scan::find(input, b'\n');
-    if size <= end {
+    let Some(end) = input.iter().position(|b| *b == b'\n') else {
         return bad_line(rt);
-    }
-    let next = end + 1;
-    run(&input[..end], &input[next..], rt, text)
+    };
+    run(&input[..end], &input[end + 1..], rt, text)
 }
 
 // Reads the input behind the word of a start, and plays what it says.

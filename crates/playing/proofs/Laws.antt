@@ -7,22 +7,19 @@ use borrow.Author.Tests.{le-leb}
 use lib.ListN.{length, take, drop, replicate}
 use lib.Seq.{sets, take_at}
 use Rattle.wire.proofs.octets.Sets.{filled}
+use Rattle.std.specs.Prelude.{Some, Ok}
 use Rattle.responder.specs.declared.State.{State}
-use Rattle.trace.specs.reading.Reading.{step_at}
+use Rattle.trace.specs.reading.Reading.{Step, step_at}
 use Rattle.trace.specs.reading.Events.{packet, port, txt, occurrence, data_in, data_of, data_at}
 use Rattle.trace.specs.writing.Sizes.{is_wide, size_for, source_size, packet_size, can_be_written}
 use Rattle.trace.specs.declared.reading.Event.{Event}
 use Rattle.trace.specs.declared.reading.Event.TheVariants as event
 use Rattle.trace.specs.declared.reading.Entry.{Entry}
-use Rattle.trace.specs.declared.reading.Step.{Step}
-use Rattle.trace.specs.declared.reading.Step.TheVariants.{Found}
-use Rattle.trace.specs.declared.writing.Size.TheVariants as size
 use Rattle.trace.proofs.writing.Fitting.{number_fits, packet_fits}
 use Rattle.trace.proofs.Numbers.{Bytes}
 use Rattle.trace.proofs.ReadBack.{both, sized}
 use Rattle.trace.proofs.EventsWritten.{wrote}
-use Rattle.playing.specs.Playing.{port_fits, turn_of, played_by, played_at}
-use Rattle.playing.specs.declared.Turn.TheVariants as turn
+use Rattle.playing.specs.Playing.{port_fits, played_by, played_at}
 
 -- an event that can be written
 pub fits-port : (v : Event) (bytes : List ℕ) → can_be_written (occurrence v bytes) ≡ true → port_fits v ≡ true
@@ -35,7 +32,7 @@ fits-port (event.Claim last k state) bytes e = refl
 fits-port (event.Stop time) bytes e = refl
 fits-port (event.Port time p) bytes e =
     let known = sized (size_for (event.Port time p) 0) (both (is_wide (port time p)) _ e).1 in
-    le-leb p 65535 (number_fits p (size.Bytes 11) known.0 known.1).0
+    le-leb p 65535 (number_fits p (Ok 11) known.0 known.1).0
 fits-port (event.Txt time) bytes e = refl
 
 -- bytes that were laid over a buffer with room for them
@@ -60,21 +57,12 @@ same_bytes_lem (event.Txt time) bytes e n en out eo =
 
 -- what stands at an offset
 module _ (p : List ℕ) (at : ℕ) (s : Step) (es : s ≡ step_at p at) where
-  pub data_found : (e : Entry) → s ≡ Found e → data_at p at ≡ data_in p e
+  pub data_found : (e : Entry) → s ≡ Ok (Some e) → data_at p at ≡ data_in p e
   data_found e q = ap (data_of p) (sym es ∙ q)
 
-  pub found_fits : Bytes p → (e : Entry) → s ≡ Found e → can_be_written (occurrence e.event (data_at p at)) ≡ true
+  pub found_fits : Bytes p → (e : Entry) → s ≡ Ok (Some e) → can_be_written (occurrence e.event (data_at p at)) ≡ true
   found_fits b e q = ap (λ (l : List ℕ). can_be_written (occurrence e.event l)) (data_found e q) ∙ (wrote p b at e (sym es ∙ q)).fits
 
   pub played_of : (state : State) (q : Step) → s ≡ q → played_by p state q ≡ played_at p at state
   unfolding played_at
   played_of state q eq = ap (played_by p state) (sym eq ∙ es)
-
--- an event that is no record of a claim
-pub called : (state : State) (v : Event) (next : ℕ) → ((last k number : ℕ) → v ≡ event.Claim last k number → ⊥) → turn.Called next ≡ turn_of state v next
-called state (event.Tick time) next h = refl
-called state (event.Packet time from p draw hold) next h = refl
-called state (event.Claim last k number) next h = absurd (h last k number refl)
-called state (event.Stop time) next h = refl
-called state (event.Port time p) next h = refl
-called state (event.Txt time) next h = refl

@@ -2,18 +2,16 @@
 -- of the events before it, refused ones passed. Assumes nothing.
 use mathlib.Core.Path.{◌≡◌, refl, sym, ap, ◌∙◌}
 use mathlib.Core.List.{List, [], ◌∷◌, ◌++◌}
-use mathlib.Core.Option.{Option, none, some}
 use Prim.Native.Nat.{ℕ, zero, suc, ◌-◌, ◌<◌}
 use native.Mathlib.Omega.{arith}
 use lib.ListN.{length}
+use Rattle.std.specs.Prelude.{Option, Some, None, Ok, Err}
 use Rattle.responder.specs.Runs.{Call, run}
 use Rattle.responder.specs.declared.State.{State}
-use Rattle.trace.specs.reading.Reading.{step_at}
+use Rattle.trace.specs.reading.Reading.{Step, step_at}
 use Rattle.trace.specs.reading.Events.{Occurrence, tick, packet, claim, stop, port, txt, occurrence, data_in, Reading, within, read_from, reading_of}
 use Rattle.trace.specs.declared.reading.Event.{Event}
 use Rattle.trace.specs.declared.reading.Event.TheVariants as event
-use Rattle.trace.specs.declared.reading.Step.{Step}
-use Rattle.trace.specs.declared.reading.Step.TheVariants.{End, Found, Refused}
 use Rattle.trace.proofs.reading.Placed.{placed}
 use Rattle.trace.proofs.reading.Unrolled.{unroll}
 use Rattle.playing.specs.Playing.{call_of, state_by, state_behind, turn_of, played_by, played_at}
@@ -24,8 +22,8 @@ use Rattle.playing.specs.declared.Line.{Line}
 
 -- a run over the calls of one event, and of those behind it
 run_by : (s : State) (c : Option Call) (cs : List Call) → run s (with_call c cs) ≡ run (state_by s c) cs
-run_by s none cs = refl
-run_by s (some c) cs = refl
+run_by s None cs = refl
+run_by s (Some c) cs = refl
 
 -- the theorem: the line of what is recorded of a claim is compared with the state of the run over the calls before it
 pub line_state : (os : List Occurrence) (s : State) (last k number : ℕ) (rest : List Occurrence)
@@ -68,14 +66,14 @@ module _ (p : List ℕ) where
       go : (x : Step) → step_at p at ≡ x → ((to : ℕ) (t : State) → length p - to < n → played_lines n p to t ≡ lines_of t (read_from p to).events)
           → on_by (λ (next : ℕ). played_lines n p next (played_by p s (step_at p at)).state) (played_by p s (step_at p at)).turn
           ≡ lines_of s (within p (read_from p) x).events
-      go End ex rest = ap (λ (y : Step). on_by (λ (next : ℕ). played_lines n p next (played_by p s y).state) (played_by p s y).turn) ex
-      go (Found e) ex rest =
+      go (Ok None) ex rest = ap (λ (y : Step). on_by (λ (next : ℕ). played_lines n p next (played_by p s y).state) (played_by p s y).turn) ex
+      go (Ok (Some e)) ex rest =
           let o = occurrence e.event (data_in p e) in
           let place = placed p at e ex in
           ap (λ (y : Step). on_by (λ (next : ℕ). played_lines n p next (played_by p s y).state) (played_by p s y).turn) ex
           ∙ turned s e.event (data_in p e) e.next (λ (next : ℕ). played_lines n p next (state_behind s o))
           ∙ ap (with_line s o) (rest e.next (state_behind s o) (omega arith))
-      go (Refused offset) ex rest = ap (λ (y : Step). on_by (λ (next : ℕ). played_lines n p next (played_by p s y).state) (played_by p s y).turn) ex
+      go (Err r) ex rest = ap (λ (y : Step). on_by (λ (next : ℕ). played_lines n p next (played_by p s y).state) (played_by p s y).turn) ex
 
   -- the theorem: the lines of playing a trace are those of its events
   pub lines_of-trace : (s : State) → played_lines (suc (length p)) p 0 s ≡ lines_of s (reading_of p).events

@@ -1,7 +1,6 @@
 -- The lines that playing a trace shows, and the states that they are compared with: those of the responder's run over the calls before (specification, 'Traces').
 -- Assumes nothing: these are definitions.
-use Rattle.std.specs.Prelude.{ℕ, zero, suc, ◌-◌, List, [], ◌∷◌, length}
-use Rattle.std.proofs.Math.Option.{Option, none, some}
+use Rattle.std.specs.Prelude.{ℕ, zero, suc, List, [], ◌∷◌, Option, Some, None}
 use Rattle.responder.specs.Runs.{Call}
 use Rattle.responder.specs.declared.State.{State}
 use Rattle.trace.specs.reading.Events.{Occurrence, tick, packet, claim, stop, port, txt}
@@ -12,8 +11,8 @@ use Rattle.playing.specs.declared.Turn.TheVariants as turn
 
 -- the calls that a list of events records
 abbrev pub with_call : Option Call → List Call → List Call
-with_call none cs = cs
-with_call (some c) cs = c ∷ cs
+with_call None cs = cs
+with_call (Some c) cs = c ∷ cs
 
 unfoldable pub calls_of : List Occurrence → List Call
 calls_of [] = []

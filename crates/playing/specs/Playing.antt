@@ -1,7 +1,6 @@
 -- Playing a trace (specification, 'Traces': "a player that is handed the setup, start time and start draw apart, runs the trace, on past refused calls, and checks
 -- each kind 4 against the responder"). Assumes nothing: these are definitions.
-use Rattle.std.specs.Prelude.{ℕ, List, [], ◌∷◌, Bool, true, cond, ◌&&◌, eqb, leb}
-use Rattle.std.proofs.Math.Option.{Option, none, some}
+use Rattle.std.specs.Prelude.{ℕ, List, Bool, true, cond, ◌&&◌, eqb, leb, Option, Some, None, Ok, Err}
 use Rattle.own.specs.changes.Changes.{NewData, new_port, new_txt}
 use Rattle.claims.specs.Claims.{state_number}
 use Rattle.claims.specs.declared.holds.Address.{Address}
@@ -11,13 +10,10 @@ use Rattle.responder.specs.Calls.{refusal_of}
 use Rattle.responder.specs.Runs.{Call, received, ticked, stopped, updated, answer_to, state_after}
 use Rattle.responder.specs.declared.Answer.{Answer}
 use Rattle.responder.specs.declared.State.{State}
-use Rattle.trace.specs.reading.Reading.{step_at}
+use Rattle.trace.specs.reading.Reading.{Step, step_at}
 use Rattle.trace.specs.reading.Events.{Occurrence, tick, packet, claim, stop, port, txt, occurrence, data_in}
 use Rattle.trace.specs.declared.reading.Event.{Event}
 use Rattle.trace.specs.declared.reading.Event.TheVariants as event
-use Rattle.trace.specs.declared.reading.Step.{Step}
-use Rattle.trace.specs.declared.reading.Step.TheVariants.{End, Found, Refused}
-use Rattle.playing.specs.declared.Line.{Line}
 use Rattle.playing.specs.declared.Turn.{Turn}
 use Rattle.playing.specs.declared.Turn.TheVariants as turn
 use Rattle.playing.specs.declared.Made.{Made}
@@ -49,16 +45,16 @@ update_of time new = record { time = time; room = room; new = new }
 
 -- the call that an event records; what is recorded of a claim is none
 abbrev pub call_of : Occurrence → Option Call
-call_of (tick time) = some (ticked (tick_of time))
-call_of (packet time from p draw hold bytes) = some (received (arrival_of time from p draw hold bytes))
-call_of (claim last k state) = none
-call_of (stop time) = some (stopped (tick_of time))
-call_of (port time p) = some (updated (update_of time (new_port p)))
-call_of (txt time bytes) = some (updated (update_of time (new_txt bytes)))
+call_of (tick time) = Some (ticked (tick_of time))
+call_of (packet time from p draw hold bytes) = Some (received (arrival_of time from p draw hold bytes))
+call_of (claim last k state) = None
+call_of (stop time) = Some (stopped (tick_of time))
+call_of (port time p) = Some (updated (update_of time (new_port p)))
+call_of (txt time bytes) = Some (updated (update_of time (new_txt bytes)))
 
 abbrev pub state_by : State → Option Call → State
-state_by s none = s
-state_by s (some c) = state_after s c
+state_by s None = s
+state_by s (Some c) = state_after s c
 
 -- the state behind an event; a refused call leaves it
 abbrev pub state_behind : State → Occurrence → State
@@ -66,8 +62,8 @@ state_behind s o = state_by s (call_of o)
 
 -- the refusal number of its call, 0 where it is taken or none is made
 abbrev pub refusal_by : State → Option Call → ℕ
-refusal_by s none = 0
-refusal_by s (some c) = refusal_of (answer_to s c)
+refusal_by s None = 0
+refusal_by s (Some c) = refusal_of (answer_to s c)
 
 abbrev pub refusal_behind : State → Occurrence → ℕ
 refusal_behind s o = refusal_by s (call_of o)
@@ -103,13 +99,13 @@ turn_of s (event.Port time p) next = turn.Called next
 turn_of s (event.Txt time) next = turn.Called next
 
 abbrev pub played_by : List ℕ → State → Step → Played
-played_by p s End = record { turn = turn.End; refusal = 0; state = s }
-played_by p s (Found e) = record {
+played_by p s (Ok None) = record { turn = turn.End; refusal = 0; state = s }
+played_by p s (Ok (Some e)) = record {
   turn = turn_of s e.event e.next;
   refusal = refusal_behind s (occurrence e.event (data_in p e));
   state = state_behind s (occurrence e.event (data_in p e));
 }
-played_by p s (Refused offset) = record { turn = turn.Refused offset; refusal = 0; state = s }
+played_by p s (Err r) = record { turn = turn.Refused r.at; refusal = 0; state = s }
 
 -- the event at an offset, played to a responder
 unfoldable pub played_at : List ℕ → ℕ → State → Played

@@ -14,7 +14,7 @@ ghost use Rattle.playing.specs.Playing.{arrival_of, tick_of, update_of, made_wit
 use claims::ClaimState;
 use claims::holds::Address;
 use responder::{Answer, State};
-use trace::reading::{Event, Step};
+use trace::reading::Event;
 
 // The length of the out buffers.
 const ROOM: usize = writer::own_packets::LEAST_OUT;
@@ -74,24 +74,18 @@ pub fn state_number(c: ClaimState) -> u64
 fn number_in(state: State, claim: u64) -> u64
     ensures { result ≡ number_in state claim }
 {
-    let progress = state.progress;
     if claim == 0 {
-        let instance = progress.instance;
-        return state_number(instance);
+        state_number(state.progress.instance)
+    } else {
+        state_number(state.progress.host)
     }
-    let host = progress.host;
-    state_number(host)
 }
 
 // Whether a responder agrees with what was recorded of a claim: its last time and the claim's state.
 pub fn agrees(state: State, last: u64, claim: u64, number: u64) -> bool
     ensures { result ≡ agrees_with state last claim number }
 {
-    let progress = state.progress;
-    if progress.last != last {
-        return false;
-    }
-    number_in(state, claim) == number
+    state.progress.last == last && number_in(state, claim) == number
 }
 
 fn refusal_of(answer: Answer) -> u8
@@ -120,8 +114,7 @@ fn tick(state: State, time: u64) -> Made
 {
     let mut out = [0u8; ROOM];
     let after = responder::tick(state, time, &mut out);
-    let answer = after.answer;
-    made_with(answer, after.state)
+    made_with(after.answer, after.state)
 }
 
 fn receive(
@@ -149,8 +142,7 @@ fn receive(
         &mut out,
         &mut unicast,
     );
-    let answer = after.answer;
-    made_with(answer, after.state)
+    made_with(after.answer, after.state)
 }
 
 fn stop(state: State, time: u64) -> Made
@@ -158,8 +150,7 @@ fn stop(state: State, time: u64) -> Made
 {
     let mut out = [0u8; ROOM];
     let after = responder::changes::stop(state, time, &mut out);
-    let answer = after.answer;
-    made_with(answer, after.state)
+    made_with(after.answer, after.state)
 }
 
 fn update_port(state: State, time: u64, port: u64) -> Made
@@ -168,8 +159,7 @@ fn update_port(state: State, time: u64, port: u64) -> Made
 {
     let mut out = [0u8; ROOM];
     let after = responder::changes::update_port(state, time, port as u16, &mut out);
-    let answer = after.answer;
-    made_with(answer, after.state)
+    made_with(after.answer, after.state)
 }
 
 fn update_txt(state: State, time: u64, txt: &[u8]) -> Made
@@ -177,8 +167,7 @@ fn update_txt(state: State, time: u64, txt: &[u8]) -> Made
 {
     let mut out = [0u8; ROOM];
     let after = responder::changes::update_txt(state, time, txt, &mut out);
-    let answer = after.answer;
-    made_with(answer, after.state)
+    made_with(after.answer, after.state)
 }
 
 // What comes of an event with the bytes that it brings.
@@ -243,23 +232,21 @@ pub fn play(trace: &[u8], at: usize, state: State) -> Played
     ensures { result ≡ played_at trace.now at state }
 {
     match trace::reading::next(trace, at) {
-        Step::Found(entry) => {
-            let event = entry.event;
-            let call = behind_at(trace, at, state, event);
-            let after = call.state;
+        Ok(Some(entry)) => {
+            let call = behind_at(trace, at, state, entry.event);
             Played {
-                turn: turn_of(state, event, entry.next),
+                turn: turn_of(state, entry.event, entry.next),
                 refusal: call.refusal,
-                state: after,
+                state: call.state,
             }
         }
-        Step::End => Played {
+        Ok(None) => Played {
             turn: Turn::End,
             refusal: 0,
             state,
         },
-        Step::Refused(offset) => Played {
-            turn: Turn::Refused(offset),
+        Err(refused) => Played {
+            turn: Turn::Refused(refused.at),
             refusal: 0,
             state,
         },

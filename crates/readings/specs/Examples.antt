@@ -1,6 +1,6 @@
 -- What the starred readings speak of: the specification's example "dock.local" with the address 10.0.0.7, messages about it, and one entry of a cache.
 -- Assumes nothing: these are definitions.
-use Rattle.std.specs.Prelude.{ℕ, ◌-◌, List, [], ◌∷◌, ◌++◌, false, length, replicate}
+use Rattle.std.specs.Prelude.{ℕ, ◌-◌, List, [], ◌∷◌, ◌++◌, false, length, replicate, None}
 use Rattle.wire.specs.message.Message.{Record, Message}
 use Rattle.own.specs.declared.records.Setup.{Setup}
 use Rattle.own.specs.records.Setups.{tcp, local}
@@ -9,7 +9,6 @@ use Rattle.claims.specs.records.Own.{own_type}
 use Rattle.claims.specs.Time.{never_sent}
 use Rattle.claims.specs.declared.records.Own.{Own}
 use Rattle.claims.specs.declared.ClaimState.TheVariants.{Held}
-use Rattle.claims.specs.declared.When.TheVariants.{Never}
 use Rattle.claims.specs.declared.Progress.{Progress}
 use Rattle.writer.specs.own_packets.Packets.{packet_of}
 use Rattle.claims.specs.holds.Holds.{no_holds}
@@ -49,9 +48,9 @@ holding = record {
   instance = Held;
   host = Held;
   sent = never_sent;
-  reply = Never;
+  reply = None;
   holds = no_holds;
-  updated = Never;
+  updated = None;
   draw = 0;
   last = 0;
 }

@@ -1,6 +1,6 @@
 -- Instance labels at every bound of RFC 3629's table, and what a start and a state with one are refused as: evaluated over the definitions that the contracts
 -- of `own` and `responder` cite. Assumes nothing.
-use Rattle.std.specs.Prelude.{ℕ, ◌-◌, ◌≡◌, refl, Bool, true, false, ◌&&◌, ◌||◌, List, [], ◌∷◌, ◌++◌, length, replicate}
+use Rattle.std.specs.Prelude.{ℕ, ◌-◌, ◌≡◌, refl, Bool, true, false, ◌&&◌, ◌||◌, List, [], ◌∷◌, ◌++◌, length, replicate, None}
 use Rattle.wire.specs.rdata.Rdata.{strings_fill}
 use Rattle.wire.specs.expansion.Equal.{same_bytes}
 use Rattle.wire.specs.message.Layout.{list_from, and_then, message_at}
@@ -10,7 +10,6 @@ use Rattle.own.specs.declared.records.Setup.{Setup}
 use Rattle.claims.specs.Refusals.{multicasts_kept, holds_kept, kept, wrong_time}
 use Rattle.claims.specs.records.Sets.{every_of}
 use Rattle.claims.specs.declared.ClaimState.TheVariants.{Held}
-use Rattle.claims.specs.declared.When.TheVariants.{Never}
 use Rattle.responder.specs.declared.State.{State}
 use Rattle.responder.specs.Refusals.{wrong_state, start_refusal, receive_refusal, tick_refusal}
 use Rattle.readings.specs.Examples.{example}
@@ -104,7 +103,7 @@ called l = record {
 }
 
 abbrev pub holding : List ℕ → State
-holding l = record { setup = called l; progress = lived Held Never Never 0 0 }
+holding l = record { setup = called l; progress = lived Held None None 0 0 }
 
 -- a label with a line feed
 abbrev pub feed : List ℕ

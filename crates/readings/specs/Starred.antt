@@ -1,6 +1,6 @@
 -- Specification, 'Corner readings': the twelve starred ones as one table, evaluated by a single statement. Each row is about the definitions that the
 -- contracts cite. Assumes nothing.
-use Rattle.std.specs.Prelude.{◌≡◌, refl, [], ◌∷◌, true, pos, negsuc, replicate}
+use Rattle.std.specs.Prelude.{◌≡◌, refl, [], ◌∷◌, true, pos, negsuc, replicate, Some, None}
 use Rattle.wire.specs.case_folding.Fold.{same_name}
 use Rattle.wire.specs.name_pieces.Pieces.{piece_at}
 use Rattle.wire.specs.names.Names.{read_from, from_run, name_at}
@@ -20,7 +20,6 @@ use Rattle.facts.specs.tiebreak.Lists.{own_record, list_under}
 use Rattle.claims.specs.records.Sets.{picked, some_of, every_of, at_once, records_of}
 use Rattle.claims.specs.declared.records.Claim.TheVariants.{Host}
 use Rattle.claims.specs.declared.records.Own.TheVariants.{Ptr, A}
-use Rattle.claims.specs.declared.When.TheVariants.{Never, At}
 use Rattle.claims.specs.Refusals.{multicasts_kept, holds_kept, kept, wrong_time}
 use Rattle.claims.specs.Time.{after_ms, marked_all}
 use Rattle.claims.specs.answers.Answers as answers
@@ -50,8 +49,8 @@ Starred =
     -- "{A} before {A, AAAA} with the same A."
     × (number_of (tie (own_record 1 address ∷ []) (own_record 1 address ∷ (own_record 28 (replicate 16 0) ∷ []))) ≡ negsuc 0)
     -- "Known PTR TTL 2250 omits, 2249 doesn't.": no reply is set, or one at now plus the draw
-    × ((receive_of holder (asked Ptr 2250)).state.progress.reply ≡ Never)
-    × ((receive_of holder (asked Ptr 2249)).state.progress.reply ≡ At 20)
+    × ((receive_of holder (asked Ptr 2250)).state.progress.reply ≡ None)
+    × ((receive_of holder (asked Ptr 2249)).state.progress.reply ≡ Some 20)
     -- "A at 60 omits, at 59 doesn't.": nothing is sent, or the record goes out at once
     × (received_packet holder (asked A 60) ≡ [])
     × (received_packet holder (asked A 59) ≡ announcement)

@@ -1,6 +1,6 @@
 -- Questions that want unicast (RFC 6762, section 5.4), and the own probe, which wants it: evaluated over the definitions that the contracts of `claims`, `responder`
 -- and `writer` cite. Assumes nothing.
-use Rattle.std.specs.Prelude.{ℕ, ◌≡◌, refl, true, false, List, [], ◌∷◌, ◌++◌}
+use Rattle.std.specs.Prelude.{ℕ, ◌≡◌, refl, true, false, List, [], ◌∷◌, ◌++◌, Some, None}
 use Rattle.wire.specs.name_pieces.Pieces.{piece_at}
 use Rattle.wire.specs.names.Names.{read_from, from_run, name_at}
 use Rattle.wire.specs.rdata.Rdata.{form_in, strings_fill, rdata_in, rdata_at}
@@ -23,7 +23,6 @@ use Rattle.claims.specs.holds.Holds.{no_holds}
 use Rattle.claims.specs.declared.records.Claim.TheVariants.{Host}
 use Rattle.claims.specs.declared.records.Own.TheVariants.{A, Ptr}
 use Rattle.claims.specs.declared.ClaimState.TheVariants.{Held}
-use Rattle.claims.specs.declared.When.TheVariants.{Never, At}
 use Rattle.facts.specs.probe.Probe.{is_probe}
 use Rattle.facts.specs.tiebreak.Lists.{list_under}
 use Rattle.facts.specs.Facts.{is_asked, is_asked_as, is_known, theirs_later, query_facts, facts_of}
@@ -52,7 +51,7 @@ query bit = (0x12 ∷ 0x34 ∷ 0 ∷ 0 ∷ 0 ∷ 1 ∷ 0 ∷ 0 ∷ 0 ∷ 0 ∷ 0
 
 -- it comes at a time to a responder that multicast its address at 5,000
 abbrev pub told : State
-told = handed Held (At 5000) Never 0 0
+told = handed Held (Some 5000) None 0 0
 
 abbrev pub at : ℕ → ℕ → Arrival
 at time bit = record {
@@ -77,18 +76,18 @@ Unicast =
     -- "Our own probes now set the bit, 00 ff 80 01 in the 44-byte case"
     (probe_packet example Host ≡ probe)
     -- "the 249 ms case is for a probe without the bit": omitted, and at 250 ms sent; one with the bit is answered at once, to the asker
-    × (has A (holds.receive_of (lived Held (At 5000) Never 0 0) (coming 5249) (asks_a true) false).answers ≡ false)
-    × (has A (holds.receive_of (lived Held (At 5000) Never 0 0) (coming 5249) (asks_a true) false).unicast ≡ false)
-    × (has A (holds.receive_of (lived Held (At 5000) Never 0 0) (coming 5250) (asks_a true) false).answers ≡ true)
-    × (has A (holds.receive_of (lived Held (At 5000) Never 0 0) (coming 5249) (wants_a true) false).answers ≡ false)
-    × (has A (holds.receive_of (lived Held (At 5000) Never 0 0) (coming 5249) (wants_a true) false).unicast ≡ true)
+    × (has A (holds.receive_of (lived Held (Some 5000) None 0 0) (coming 5249) (asks_a true) false).answers ≡ false)
+    × (has A (holds.receive_of (lived Held (Some 5000) None 0 0) (coming 5249) (asks_a true) false).unicast ≡ false)
+    × (has A (holds.receive_of (lived Held (Some 5000) None 0 0) (coming 5250) (asks_a true) false).answers ≡ true)
+    × (has A (holds.receive_of (lived Held (Some 5000) None 0 0) (coming 5249) (wants_a true) false).answers ≡ false)
+    × (has A (holds.receive_of (lived Held (Some 5000) None 0 0) (coming 5249) (wants_a true) false).unicast ≡ true)
     -- "goes to the asker by unicast if it was multicast less than a quarter of its TTL ago, else by multicast", and one never multicast by multicast
-    × (has A (holds.receive_of (lived Held (At 5000) Never 0 0) (coming 34999) (wants_a false) false).unicast ≡ true)
-    × (has A (holds.receive_of (lived Held (At 5000) Never 0 0) (coming 34999) (wants_a false) false).answers ≡ false)
-    × (has A (holds.receive_of (lived Held (At 5000) Never 0 0) (coming 35000) (wants_a false) false).unicast ≡ false)
-    × (has A (holds.receive_of (lived Held (At 5000) Never 0 0) (coming 35000) (wants_a false) false).answers ≡ true)
-    × (has A (holds.receive_of (lived Held Never Never 0 0) (coming 5000) (wants_a false) false).unicast ≡ false)
-    × (has A (holds.receive_of (lived Held Never Never 0 0) (coming 5000) (wants_a false) false).answers ≡ true)
+    × (has A (holds.receive_of (lived Held (Some 5000) None 0 0) (coming 34999) (wants_a false) false).unicast ≡ true)
+    × (has A (holds.receive_of (lived Held (Some 5000) None 0 0) (coming 34999) (wants_a false) false).answers ≡ false)
+    × (has A (holds.receive_of (lived Held (Some 5000) None 0 0) (coming 35000) (wants_a false) false).unicast ≡ false)
+    × (has A (holds.receive_of (lived Held (Some 5000) None 0 0) (coming 35000) (wants_a false) false).answers ≡ true)
+    × (has A (holds.receive_of (lived Held None None 0 0) (coming 5000) (wants_a false) false).unicast ≡ false)
+    × (has A (holds.receive_of (lived Held None None 0 0) (coming 5000) (wants_a false) false).answers ≡ true)
     × (answers.quarter_ttl Ptr ≡ 1125000)
     -- "Unicast answers carry the query's ID": to the asker with its ID, or to all with 0
     × (unicast_packet told (at 5001 0x80) ≡ address 0x12 0x34)

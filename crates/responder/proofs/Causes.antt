@@ -1,4 +1,5 @@
 -- What the claims' rules want of a message's facts is what the specification says of the message itself. Assumes nothing.
+use Rattle.std.specs.Prelude.{Option, Some, None}
 use Prim.Native.Nat.{ℕ, ◌-◌}
 use mathlib.Core.Path.{◌≡◌, refl, ap, ◌∙◌}
 use mathlib.Core.Logic.{◌⊎◌, inl, inr}
@@ -15,8 +16,6 @@ use Rattle.claims.specs.answers.Answers as answers
 use Rattle.claims.specs.answers.Answers.{asks_of, gap_of, gap_for, quarter_ttl, wanted_of, asked_by, multicast_asks, unicast_asks}
 use Rattle.claims.specs.Time.{recently, sent_of}
 use Rattle.claims.specs.Claims.{held_now, claim_of}
-use Rattle.claims.specs.declared.When.{When}
-use Rattle.claims.specs.declared.When.TheVariants.{Never, At}
 use Rattle.claims.specs.declared.answers.Facts.{Facts}
 use Rattle.claims.proofs.records.Sets.{has-each}
 use Rattle.facts.specs.probe.Probe.{is_probe}
@@ -61,9 +60,9 @@ module _ (s : State) (time : ℕ) (m : Message) where
     unfolding has_cause multicast_asks
     omit_is o = simp (known_is o, gap_is (claim_for o))
 
-    no_gap : (w : When) → recently w time 0 ≡ false
-    no_gap Never = refl
-    no_gap (At t) = le-ltb (time - t) 0 (omega arith)
+    no_gap : (w : Option ℕ) → recently w time 0 ≡ false
+    no_gap None = refl
+    no_gap (Some t) = le-ltb (time - t) 0 (omega arith)
 
     asker_omits : (o : Own) → answers.is_omitted s.progress (unicast_asks s.progress f time) time o ≡ is_known s.setup o m
     unfolding unicast_asks

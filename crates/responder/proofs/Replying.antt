@@ -16,8 +16,8 @@ use Rattle.wire.specs.message.Message.{Question, Message}
 use Rattle.wire.specs.message.Layout.{Item, Listing, listing, cut, list_from, question_read, question_at, record_at, Reads, read, refused, and_then, sections_of, wrong_length, wrong_header, message_at}
 use Rattle.wire.specs.message.Readable.{message_in}
 use Rattle.wire.specs.declared.message.QuestionAt.{QuestionAt}
-use Rattle.wire.specs.declared.message.QuestionRead.{QuestionRead}
-use Rattle.wire.specs.declared.message.QuestionRead.TheVariants as q
+use Rattle.std.specs.Prelude.{Option, Some, None}
+use Rattle.wire.specs.declared.refusals.Refusal.TheVariants.{Length, Header}
 use Rattle.wire.specs.declared.message.Layout.{Layout}
 use Rattle.wire.proofs.message.Cursor.{Step, step, done, QuestionHere, question-here, question-never_malformed, question-met, Sections, sections}
 use Rattle.wire.proofs.message.Walk.{layout_shows}
@@ -62,7 +62,7 @@ message_begins p = go (wrong_length p) (wrong_header p)
         then_begins p (list_from (record_at p) (word16 p 8) b) _ (λ ns c.
         then_begins p (list_from (record_at p) (word16 p 10) c) _ (λ ar e. (refl, refl)))))
 
-    go : (a b : Bool) → BeginsIf p (cond a (refused 4) (cond b (refused 5) (sections_of p)))
+    go : (a b : Bool) → BeginsIf p (cond a (refused Length) (cond b (refused Header) (sections_of p)))
     go true b = tt
     go false true = tt
     go false false = sections_begin
@@ -125,13 +125,13 @@ module _ (setup : Setup) (set : Set) where
         ∙ none-for known.0.id known.0.questions
         (λ e. h (sym (section_length (question_at p) l.questions.count l.questions.at known.0.questions l.answers.at parts.questions) ∙ e)))
 
-    module _ (one : l.questions.count ≡ 1) (a : QuestionRead) (is : a ≡ question_read p l.questions.at) where
-      pub unbroken : a ≡ q.Malformed → Replies 0 out
+    module _ (one : l.questions.count ≡ 1) (a : Option QuestionAt) (is : a ≡ question_read p l.questions.at) where
+      pub unbroken : a ≡ None → Replies 0 out
       unbroken e =
           absurd
           (question-never_malformed p l.questions.count l.questions.at known.0.questions l.answers.at parts.questions (omega (arith, one)) a is e)
 
-      module _ (f : QuestionAt) (found : a ≡ q.Found f) (e : Expanded) (opened : e ≡ expanded (name_at p f.name)) (bs : List ℕ)
+      module _ (f : QuestionAt) (found : a ≡ Some f) (e : Expanded) (opened : e ≡ expanded (name_at p f.name)) (bs : List ℕ)
           (part : bs ≡ take f.span.len (drop 0 e.bytes)) where
         module _ (s : Step (question_at p) l.questions.count l.questions.at known.0.questions l.answers.at)
             (k : QuestionHere p l.questions.at s.head s.next) (same-fields : k.fields ≡ f)

@@ -5,6 +5,9 @@ use mathlib.Core.Bool.{false}
 use mathlib.Core.List.{List}
 use borrow.Author.Tests.{eq-eqb, ne_eqb}
 use lib.Dec.{eqb}
+use Rattle.std.specs.Prelude.{Result, Ok, Err}
+use Rattle.wire.specs.refusals.Numbers.{number_of, refused_by}
+use Rattle.wire.specs.declared.refusals.Refusal.{Refusal}
 use Rattle.wire.specs.message.Message.{Message}
 use Rattle.wire.specs.message.Layout.{read, message_at}
 use Rattle.wire.specs.message.Readable.{message_in}
@@ -21,7 +24,7 @@ use Rattle.claims.specs.declared.answers.Received as heard
 use Rattle.facts.specs.Facts.{facts_of}
 use Rattle.writer.specs.own_packets.Own.{response_packet, laid_over}
 use Rattle.responder.specs.Handed.{Arrival, coming_of, Tick}
-use Rattle.responder.specs.Refusals.{start_refusal, receive_refusal, tick_refusal}
+use Rattle.responder.specs.Refusals.{start_tests, start_refusal, receive_refusal, tick_tests}
 use Rattle.responder.specs.Calls.{refusal_of, length_of, unicast_length_of, answer_with, blank, start_of, heard_by, heard_of, reply_to, brought_back}
 use Rattle.responder.specs.Calls.{received_packet, unicast_packet, receive_of, Receives}
 use Rattle.responder.specs.Calls.{walked_of, ticked_packet, tick_of, Ticks}
@@ -33,11 +36,12 @@ use Rattle.responder.specs.declared.Started.{Started}
 use Rattle.responder.specs.declared.Received.{Received}
 use Rattle.responder.specs.declared.Ticked.{Ticked}
 use Rattle.responder.proofs.Refusals.{start-number, call-number, call_length, call-reply}
+use Rattle.responder.proofs.Refusing.{number-refused, number-accepted, start-is, tick-is}
 use Rattle.responder.proofs.Sending.{Wrote, Sends}
 
 -- ---- a start
 
-module _ (setup : Setup) (time draw : ℕ) {n : ℕ} (is : n ≡ start_refusal setup time draw) where
+module _ (setup : Setup) (time draw : ℕ) {u : Result (Unit {0}) Refusal} (is : u ≡ refused_by (start_tests setup time draw)) where
   abbrev Starts : Started → Type 0
   Starts r = (r ≡ start_of setup time draw) × (refusal_of r.answer ≡ start_refusal setup time draw)
 
@@ -45,14 +49,16 @@ module _ (setup : Setup) (time draw : ℕ) {n : ℕ} (is : n ≡ start_refusal s
   numbered : (r : Started) → r ≡ start_of setup time draw → Starts r
   numbered r e = (e, ap (λ (x : Started). refusal_of x.answer) e ∙ start-number setup time draw)
 
-  pub start-refused : (n ≡ 0 → ⊥) → (s : State) → s ≡ blank → Starts (record { answer = Refused n; state = s })
+  pub start-refused : {refusal : Refusal} {n : ℕ} → u ≡ Err refusal → n ≡ number_of refusal → (s : State) → s ≡ blank → Starts (record { answer = Refused n; state = s })
   unfolding start_of
-  start-refused z s b = numbered _ (simp (← is, ne_eqb n 0 z, b))
+  start-refused {n = n} e m s b =
+      let z = number-refused (start_tests setup time draw) (start-is setup time draw) is e m in
+      numbered _ (simp (← z.0, ne_eqb n 0 z.1, b))
 
-  pub starts : n ≡ 0 → (progress : Progress) → progress ≡ claims.begun_at time draw
+  pub starts : u ≡ Ok tt → (progress : Progress) → progress ≡ claims.begun_at time draw
       → Starts (record { answer = Quiet; state = record { setup = setup; progress = progress } })
   unfolding start_of
-  starts z progress e = numbered _ (simp (← is, z, e))
+  starts z progress e = let n = number-accepted (start_tests setup time draw) (start-is setup time draw) is z in numbered _ (simp (← n, e))
 
 -- ---- a packet received
 
@@ -97,7 +103,7 @@ module _ (s : State) (a : Arrival) (out back : List ℕ) where
 
 -- ---- a tick
 
-module _ (s : State) (t : Tick) (out : List ℕ) {n : ℕ} (is : n ≡ tick_refusal s t) where
+module _ (s : State) (t : Tick) (out : List ℕ) {u : Result (Unit {0}) Refusal} (is : u ≡ refused_by (tick_tests s t)) where
   ticked-numbered : (r : Ticked) (o : List ℕ) → r ≡ tick_of s t → o ≡ laid_over (ticked_packet s t) out → Ticks s t out r o
   ticked-numbered r o e f = record {
     answers = e;
@@ -106,16 +112,21 @@ module _ (s : State) (t : Tick) (out : List ℕ) {n : ℕ} (is : n ≡ tick_refu
     sent = ap (λ (x : Ticked). length_of x.answer) e ∙ call_length s (ticked t);
   }
 
-  pub tick-refused : (n ≡ 0 → ⊥) → Ticks s t out (record { answer = Refused n; more = false; state = s }) out
+  pub tick-refused : {refusal : Refusal} {n : ℕ} → u ≡ Err refusal → n ≡ number_of refusal → Ticks s t out (record { answer = Refused n; more = false; state = s }) out
   unfolding tick_of ticked_packet
-  tick-refused h = let z : eqb n 0 ≡ false = ne_eqb n 0 h in ticked-numbered _ _ (simp (← is, z)) (simp (← is, z))
+  tick-refused {n = n} e m =
+      let h = number-refused (tick_tests s t) (tick-is s t) is e m in
+      let z : eqb n 0 ≡ false = ne_eqb n 0 h.1 in
+      ticked-numbered _ _ (simp (← h.0, z)) (simp (← h.0, z))
 
   pub ticks :
       (w : walked.Ticked) (k : ℕ) (o : List ℕ) (a : Answer)
-      → n ≡ 0
+      → u ≡ Ok tt
       → w ≡ walked_of s t.time
       → Sends s.setup w.output out k o
       → a ≡ answer_with k 0
       → Ticks s t out (record { answer = a; more = w.more; state = record { setup = s.setup; progress = w.progress } }) o
   unfolding tick_of ticked_packet
-  ticks w k o a z d h x = ticked-numbered _ _ (simp (← is, z, ← d, x, h.0)) (simp (← is, z, ← d, h.1))
+  ticks w k o a z d h x =
+      let n = number-accepted (tick_tests s t) (tick-is s t) is z in
+      ticked-numbered _ _ (simp (← n, ← d, x, h.0)) (simp (← n, ← d, h.1))

@@ -1,12 +1,11 @@
 -- A start, a packet received and a tick (specification, 'Refusal numbers', 'A claim's life', 'Which answers go out'): the answer, the state after the call and
 -- the packet that it sends, put together from what the parts below say. Assumes nothing: these are definitions.
-use Rattle.std.specs.Prelude.{ℕ, Bool, false, cond, List, [], ◌∷◌, length, replicate, eqb, ◌≡◌}
+use Rattle.std.specs.Prelude.{ℕ, Bool, false, cond, List, [], ◌∷◌, length, replicate, eqb, ◌≡◌, None}
 use Rattle.wire.specs.message.Message.{Question, Message}
 use Rattle.wire.specs.message.Layout.{Reads, read, refused, message_at}
 use Rattle.own.specs.declared.records.Setup.{Setup}
 use Rattle.claims.specs.Claims as claims
 use Rattle.claims.specs.declared.ClaimState.TheVariants.{Lost}
-use Rattle.claims.specs.declared.When.TheVariants.{Never}
 use Rattle.claims.specs.Time.{never_sent}
 use Rattle.claims.specs.records.Sets.{no_record}
 use Rattle.claims.specs.declared.records.Set.{Set}
@@ -94,9 +93,9 @@ blank = record {
     instance = Lost;
     host = Lost;
     sent = never_sent;
-    reply = Never;
+    reply = None;
     holds = no_holds;
-    updated = Never;
+    updated = None;
     draw = 0;
     last = 0;
   };

@@ -1,11 +1,9 @@
 -- The data of a run (specification, 'Stops and updates'): "a dock's data are those after its last update taken". What each call sends is written of the data
 -- after it. Assumes nothing: these are definitions.
-use Rattle.std.specs.Prelude.{ℕ, ◌+◌, ◌≤◌, cond, List, [], ◌∷◌, ◌++◌, eqb}
+use Rattle.std.specs.Prelude.{ℕ, ◌+◌, ◌≤◌, cond, List, [], ◌∷◌, ◌++◌, eqb, Option, Some, None}
 use Rattle.wire.specs.message.Message.{Question}
 use Rattle.own.specs.declared.records.Setup.{Setup}
 use Rattle.own.specs.changes.Changes.{NewData, revised}
-use Rattle.claims.specs.declared.When.{When}
-use Rattle.claims.specs.declared.When.TheVariants.{Never, At}
 use Rattle.claims.specs.declared.records.Claim.{Claim}
 use Rattle.claims.specs.declared.records.Set.{Set}
 use Rattle.writer.specs.own_packets.Own.{response_packet, probe_packet, plain_packet}
@@ -47,10 +45,10 @@ update_times s (stopped t ∷ cs) = update_times (state_after s (stopped t)) cs
 update_times s (updated u ∷ cs) =
     cond (eqb (update_refusal s u) 0) (u.time ∷ update_times (state_after s (updated u)) cs) (update_times (state_after s (updated u)) cs)
 
-abbrev pub LateAfter : When → ℕ → Type 0
-LateAfter Never time = Unit {0}
-LateAfter (At last) time = last + 6000 ≤ time
+abbrev pub LateAfter : Option ℕ → ℕ → Type 0
+LateAfter None time = Unit {0}
+LateAfter (Some last) time = last + 6000 ≤ time
 
-pub data Apart : When → List ℕ → Type 0 where
-  none : {last : When} → Apart last []
-  next : {last : When} {time : ℕ} {times : List ℕ} → LateAfter last time → Apart (At time) times → Apart last (time ∷ times)
+pub data Apart : Option ℕ → List ℕ → Type 0 where
+  none : {last : Option ℕ} → Apart last []
+  next : {last : Option ℕ} {time : ℕ} {times : List ℕ} → LateAfter last time → Apart (Some time) times → Apart last (time ∷ times)

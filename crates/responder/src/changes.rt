@@ -3,14 +3,16 @@
 ghost use Rattle.std.specs.Prelude.{◌≡◌, length};
 ghost use Rattle.own.specs.changes.Changes.{new_port, new_txt};
 ghost use Rattle.responder.specs.Handed.{Tick};
-ghost use Rattle.responder.specs.changes.Changes.{Update, refusal_to, Stops, UpdatesTo, Updates};
+ghost use Rattle.wire.specs.refusals.Numbers.{refused_by};
+ghost use Rattle.responder.specs.changes.Changes.{Update, update_tests, Stops, UpdatesTo, Updates};
 
-use crate::{Answer, State, answer_with, length_of, send, state_refused, tick_refusal};
+use crate::{Answer, State, admit_tick, answer_with, length_of, send, state_refused};
 use claims::changes::{self, Change};
 use claims::refusal_tests;
 use claims::steps::Output;
 use own::records::Setup;
 use own::setups::check_setup;
+use wire::refusals::Refusal;
 use writer::own_packets::{self, LEAST_OUT};
 
 #[derive(Clone, Copy)]
@@ -30,10 +32,9 @@ pub fn stop(state: State, time: u64, out: &mut [u8]) -> Stopped
     ensures { (let t : Tick = record { time = time; room = length out.old } in
         Stops state t out.old result out.new) }
 {
-    let refusal = tick_refusal(state, time, out.len());
-    if refusal != 0 {
+    if let Err(refusal) = admit_tick(state, time, out.len()) {
         return Stopped {
-            answer: Answer::Refused(refusal),
+            answer: Answer::Refused(refusal.number()),
             state,
         };
     }
@@ -49,40 +50,36 @@ pub fn stop(state: State, time: u64, out: &mut [u8]) -> Stopped
     }
 }
 
-// The refusal of an update to a set-up, 0 for none.
-fn update_refusal(state: State, time: u64, new: Setup, room: usize) -> u8
-    ensures { result ≡ refusal_to state time room new }
+// The refusal of an update to a set-up, if it is refused.
+fn admit_update(state: State, time: u64, new: Setup, room: usize) -> Result<(), Refusal>
+    ensures { result ≡ refused_by (update_tests state time room new) }
 {
     let progress = state.progress;
     if refusal_tests::time_refused(progress, time) {
-        return wire::refusals::TIME;
+        return Err(Refusal::Time);
     }
     if room < LEAST_OUT {
-        return wire::refusals::BUFFER;
+        return Err(Refusal::Buffer);
     }
-    if state_refused(state) {
-        return wire::refusals::SETUP;
-    }
-    if !check_setup(new) {
-        return wire::refusals::SETUP;
+    if state_refused(state) || !check_setup(new) {
+        return Err(Refusal::Setup);
     }
     if changes::lost_refused(progress) {
-        return wire::refusals::LOST;
+        return Err(Refusal::Lost);
     }
     if changes::too_soon_refused(progress, time) {
-        return wire::refusals::TOO_SOON;
+        return Err(Refusal::TooSoon);
     }
-    0
+    Ok(())
 }
 
 // An update to a set-up, of the record that it changes.
 fn update(state: State, time: u64, change: Change, new: Setup, out: &mut [u8]) -> Updated
     ensures { UpdatesTo state time change new out.old result out.new }
 {
-    let refusal = update_refusal(state, time, new, out.len());
-    if refusal != 0 {
+    if let Err(refusal) = admit_update(state, time, new, out.len()) {
         return Updated {
-            answer: Answer::Refused(refusal),
+            answer: Answer::Refused(refusal.number()),
             state,
         };
     }

@@ -7,22 +7,26 @@ pub mod address;
 pub mod changes;
 
 ghost use Rattle.std.specs.Prelude.{◌≡◌, List, ℕ, length, ◌||◌};
+ghost use Rattle.wire.specs.refusals.Numbers.{refused_by};
 ghost use Rattle.wire.specs.message.Message.{Message};
 ghost use Rattle.wire.specs.message.Layout.{read, message_at, read_of};
 ghost use Rattle.wire.specs.message.Readable.{message_in};
 ghost use Rattle.writer.specs.own_packets.Own.{length_of, refusal, laid_over};
 ghost use Rattle.responder.specs.Handed.{Arrival, Tick};
-ghost use Rattle.responder.specs.Refusals.{small_buffer, wrong_state, start_refusal, tick_refusal, admitted};
+ghost use Rattle.responder.specs.Refusals.{small_buffer, wrong_state, start_tests, start_refusal, tick_tests, admitted};
 ghost use Rattle.responder.specs.Calls.{refusal_of, answer_with, blank, packet_for, plain_for, reply_to, heard_by, start_of, Receives, Ticks};
 
 use claims::answers::{self, Coming, Facts};
 use claims::holds::Address;
 use claims::records::Set;
 use claims::steps::Output;
-use claims::{ClaimState, Progress, When, refusal_tests};
+use claims::{ClaimState, Progress, refusal_tests};
 use own::records::{Label, Service, Setup, Strings};
 use own::setups::check_setup;
-use wire::message::{Layout, MDNS_PORT, MessageRead, QuestionRead};
+use wire::message::{Layout, MDNS_PORT, question_at, read_from};
+use wire::names::expand;
+use wire::rdata::part;
+use wire::refusals::Refusal;
 use writer::own_packets::{self, LEAST_OUT, Written};
 
 // A responder: what it was set up with, and all that changes in it.
@@ -96,29 +100,29 @@ pub fn blank_state() -> State
             instance: ClaimState::Lost,
             host: ClaimState::Lost,
             sent: claims::never_sent(),
-            reply: When::Never,
+            reply: None,
             holds: claims::holds::no_holds(),
-            updated: When::Never,
+            updated: None,
             draw: 0,
             last: 0,
         },
     }
 }
 
-// The refusal of a start, 0 for none.
-fn start_refusal(setup: Setup, time: u64, draw: u64) -> u8
-    ensures { result ≡ start_refusal setup time draw }
+// The refusal of a start, if it is refused.
+fn admit_start(setup: Setup, time: u64, draw: u64) -> Result<(), Refusal>
+    ensures { result ≡ refused_by (start_tests setup time draw) }
 {
     if refusal_tests::start_time_refused(time) {
-        return wire::refusals::TIME;
+        return Err(Refusal::Time);
     }
     if refusal_tests::start_draw_refused(draw) {
-        return wire::refusals::DRAW;
+        return Err(Refusal::Draw);
     }
     if !check_setup(setup) {
-        return wire::refusals::SETUP;
+        return Err(Refusal::Setup);
     }
-    0
+    Ok(())
 }
 
 // Begins a responder, whose first probes wait for the draw.
@@ -126,18 +130,17 @@ pub fn start(setup: Setup, time: u64, draw: u64) -> Started
     ensures answer { result ≡ start_of setup time draw }
     ensures number { refusal_of result.answer ≡ start_refusal setup time draw }
 {
-    let refusal = start_refusal(setup, time, draw);
-    if refusal != 0 {
-        return Started {
-            answer: Answer::Refused(refusal),
+    match admit_start(setup, time, draw) {
+        Ok(()) => Started {
+            answer: Answer::Quiet,
+            state: State {
+                setup,
+                progress: claims::start(time, draw),
+            },
+        },
+        Err(refusal) => Started {
+            answer: Answer::Refused(refusal.number()),
             state: blank_state(),
-        };
-    }
-    Started {
-        answer: Answer::Quiet,
-        state: State {
-            setup,
-            progress: claims::start(time, draw),
         },
     }
 }
@@ -197,22 +200,20 @@ fn plain_reply(setup: Setup, set: Set, packet: &[u8], l: Layout, out: &mut [u8])
     if questions.count != 1 {
         return 0;
     }
-    match wire::message::question_at(packet, questions.at) {
-        QuestionRead::Found(q) => {
-            let name = wire::names::expand(packet, q.name);
-            let span = q.span;
-            length_of(own_packets::plain_reply(
-                setup,
-                set,
-                l.id,
-                wire::rdata::part(&name.bytes, 0, span.len),
-                q.rtype,
-                q.class,
-                out,
-            ))
-        }
-        QuestionRead::Malformed => 0,
-    }
+    let Some(q) = question_at(packet, questions.at) else {
+        return 0;
+    };
+    let name = expand(packet, q.name);
+    let span = q.span;
+    length_of(own_packets::plain_reply(
+        setup,
+        set,
+        l.id,
+        part(&name.bytes, 0, span.len),
+        q.rtype,
+        q.class,
+        out,
+    ))
 }
 
 // Writes what goes to where a message came from, if anything, and gives its length.
@@ -236,7 +237,7 @@ fn rooms_refused(room: usize, unicastroom: usize) -> bool
     room < LEAST_OUT || unicastroom < LEAST_OUT
 }
 
-// Where the sections of a packet received lie, or the refusal of the call.
+// Where the sections of a packet received lie, or the call's refusal.
 fn admit(
     state: State,
     time: u64,
@@ -247,30 +248,26 @@ fn admit(
     packet: &[u8],
     room: usize,
     unicastroom: usize,
-) -> MessageRead
+) -> Result<Layout, Refusal>
     ensures { (let p : List ℕ = packet.now in
         let a : Arrival =
         record { time = time; from = from; port = port; draw = draw; hold = hold; packet = p; room = room; unicastroom = unicastroom } in
         result ≡ read_of (admitted state a)) }
 {
     if refusal_tests::time_refused(state.progress, time) {
-        return MessageRead::Refused(wire::refusals::TIME);
+        return Err(Refusal::Time);
     }
     if refusal_tests::draws_refused(draw, hold) {
-        return MessageRead::Refused(wire::refusals::DRAW);
+        return Err(Refusal::Draw);
     }
     if rooms_refused(room, unicastroom) {
-        return MessageRead::Refused(wire::refusals::BUFFER);
+        return Err(Refusal::Buffer);
     }
-    match wire::message::read_from(packet, port) {
-        MessageRead::Read(l) => {
-            if state_refused(state) {
-                return MessageRead::Refused(wire::refusals::SETUP);
-            }
-            MessageRead::Read(l)
-        }
-        MessageRead::Refused(n) => MessageRead::Refused(n),
+    let l = read_from(packet, port)?;
+    if state_refused(state) {
+        return Err(Refusal::Setup);
     }
+    Ok(l)
 }
 
 // What a message that came by a port does to the claims, and which records go out for it.
@@ -321,7 +318,7 @@ pub fn receive(
         out.len(),
         unicast.len(),
     ) {
-        MessageRead::Read(l) => {
+        Ok(l) => {
             let setup = state.setup;
             let facts = facts::facts(packet, l, setup);
             let coming = Coming {
@@ -341,27 +338,27 @@ pub fn receive(
                 },
             }
         }
-        MessageRead::Refused(n) => Received {
-            answer: Answer::Refused(n),
+        Err(refusal) => Received {
+            answer: Answer::Refused(refusal.number()),
             state,
         },
     }
 }
 
-// The refusal of a tick, 0 for none.
-fn tick_refusal(state: State, time: u64, room: usize) -> u8
-    ensures { (let t : Tick = record { time = time; room = room } in result ≡ tick_refusal state t) }
+// The refusal of a tick, if it is refused.
+fn admit_tick(state: State, time: u64, room: usize) -> Result<(), Refusal>
+    ensures { (let t : Tick = record { time = time; room = room } in result ≡ refused_by (tick_tests state t)) }
 {
     if refusal_tests::time_refused(state.progress, time) {
-        return wire::refusals::TIME;
+        return Err(Refusal::Time);
     }
     if room < LEAST_OUT {
-        return wire::refusals::BUFFER;
+        return Err(Refusal::Buffer);
     }
     if state_refused(state) {
-        return wire::refusals::SETUP;
+        return Err(Refusal::Setup);
     }
-    0
+    Ok(())
 }
 
 // Walks the due steps, and writes the packet of the first that sends.
@@ -369,10 +366,9 @@ pub fn tick(state: State, time: u64, out: &mut [u8]) -> Ticked
     ensures { (let t : Tick = record { time = time; room = length out.old } in
         Ticks state t out.old result out.new) }
 {
-    let refusal = tick_refusal(state, time, out.len());
-    if refusal != 0 {
+    if let Err(refusal) = admit_tick(state, time, out.len()) {
         return Ticked {
-            answer: Answer::Refused(refusal),
+            answer: Answer::Refused(refusal.number()),
             more: false,
             state,
         };

@@ -3,12 +3,12 @@
 use mathlib.Core.Path.{◌≡◌, refl, sym, ap, ◌∙◌}
 use mathlib.Core.List.{List, [], ◌∷◌, ◌++◌}
 use mathlib.Core.Bool.{Bool, true, ◌&&◌}
-use mathlib.Core.Option.{Option, none, some}
 use Prim.Native.Nat.{ℕ, zero, suc}
 use native.Mathlib.Omega.{arith}
 use borrow.Author.Tests.{ltb-true}
 use lib.ListN.{length, take, drop, set}
 use lib.Dec.{ltb}
+use Rattle.std.specs.Prelude.{Option, Some, None}
 use Rattle.claims.specs.declared.holds.Address.{Address}
 use Rattle.trace.specs.records.Numbers.{bytes64}
 use Rattle.trace.specs.records.Records.{record_at}
@@ -62,11 +62,11 @@ pub written : trace_of events ≡ bytes
 unfolding trace_of pieces_over bytes64 events silent asking bytes
 written = refl
 
-pub is_read_lem : reading_of bytes ≡ record { events = events; fault = none }
+pub is_read_lem : reading_of bytes ≡ record { events = events; fault = None }
 is_read_lem = ap reading_of (sym written) ∙ read_back events writable
 
 -- the same by evaluation alone, from the bytes
-evaluated : reading_of bytes ≡ record { events = events; fault = none }
+evaluated : reading_of bytes ≡ record { events = events; fault = None }
 unfolding read_from at_most step_at with_data pieces_at is_piece record_at all_zero data_from events silent asking bytes
 evaluated = refl
 
@@ -86,7 +86,7 @@ pub bytes_are : Bytes bytes
 unfolding are_bytes bytes
 bytes_are = all-bytes bytes refl
 
-no_fault : (reading_of bytes).fault ≡ none
+no_fault : (reading_of bytes).fault ≡ None
 no_fault = ap (λ (x : Reading). x.fault) is_read_lem
 
 -- the theorems on it
@@ -103,23 +103,23 @@ all_of-it = all-stand bytes no_fault
 fault : List ℕ → Option ℕ
 fault p = (reading_of p).fault
 
-cut_short : fault (take 165 bytes) ≡ some 157
+cut_short : fault (take 165 bytes) ≡ Some 157
 unfolding fault read_from at_most step_at with_data pieces_at is_piece record_at all_zero bytes
 cut_short = refl
 
-unknown_kind : fault (set bytes 9 9) ≡ some 9
+unknown_kind : fault (set bytes 9 9) ≡ Some 9
 unfolding fault read_from at_most step_at with_data pieces_at is_piece record_at all_zero bytes
 unknown_kind = refl
 
-no_such_claim : fault (set bytes 18 2) ≡ some 9
+no_such_claim : fault (set bytes 18 2) ≡ Some 9
 unfolding fault read_from at_most step_at with_data pieces_at is_piece record_at all_zero bytes
 no_such_claim = refl
 
-padding : fault (set bytes 50 1) ≡ some 34
+padding : fault (set bytes 50 1) ≡ Some 34
 unfolding fault read_from at_most step_at with_data pieces_at is_piece record_at all_zero bytes
 padding = refl
 
-owed_at_the_end : fault (take 34 bytes) ≡ some 34
+owed_at_the_end : fault (take 34 bytes) ≡ Some 34
 unfolding fault read_from at_most step_at with_data pieces_at is_piece record_at all_zero bytes
 owed_at_the_end = refl
 

@@ -9,12 +9,13 @@ use borrow.Author.Tests.{eqb-true}
 use lib.ListN.{length, drop}
 use lib.Seq.{drop-cons}
 use lib.Dec.{eqb}
+use Rattle.std.proofs.lemmas.Option.{none-some, same_Some}
+use Rattle.std.specs.Prelude.{Some, None}
 use Rattle.wire.specs.octets.Octets.{byte_at, word16, word32}
 use Rattle.trace.specs.records.Numbers.{word64, without, bytes16, bytes64}
 use Rattle.trace.specs.records.Records.{kind_of}
 use Rattle.trace.specs.declared.records.Kind.{Kind}
 use Rattle.trace.specs.declared.records.Kind.TheVariants as kind
-use Rattle.trace.proofs.records.Standing.{never}
 
 -- every element is a byte
 abbrev pub Bytes : List ℕ → Type 0
@@ -101,34 +102,22 @@ kind_byte kind.Source = 5
 kind_byte kind.Stop = 6
 kind_byte kind.Port = 7
 kind_byte kind.Txt = 8
-kind_byte kind.Unknown = 0
-
-abbrev pub is_known : Kind → Bool
-is_known kind.Tick = true
-is_known kind.Packet = true
-is_known kind.Piece = true
-is_known kind.Claim = true
-is_known kind.Source = true
-is_known kind.Stop = true
-is_known kind.Port = true
-is_known kind.Txt = true
-is_known kind.Unknown = false
 
 by_tests : (b : ℕ) (t1 : Bool) → eqb b 1 ≡ t1 → (t2 : Bool) → eqb b 2 ≡ t2 → (t3 : Bool) → eqb b 3 ≡ t3 → (t4 : Bool) → eqb b 4 ≡ t4
     → (t5 : Bool) → eqb b 5 ≡ t5 → (t6 : Bool) → eqb b 6 ≡ t6 → (t7 : Bool) → eqb b 7 ≡ t7 → (t8 : Bool) → eqb b 8 ≡ t8 → (k : Kind)
-    → cond t1 kind.Tick (cond t2 kind.Packet (cond t3 kind.Piece (cond t4 kind.Claim
-    (cond t5 kind.Source (cond t6 kind.Stop (cond t7 kind.Port (cond t8 kind.Txt kind.Unknown))))))) ≡ k
-    → (is_known k ≡ true) → b ≡ kind_byte k
-by_tests b true e1 t2 e2 t3 e3 t4 e4 t5 e5 t6 e6 t7 e7 t8 e8 k e w = eqb-true b 1 e1 ∙ ap kind_byte e
-by_tests b false e1 true e2 t3 e3 t4 e4 t5 e5 t6 e6 t7 e7 t8 e8 k e w = eqb-true b 2 e2 ∙ ap kind_byte e
-by_tests b false e1 false e2 true e3 t4 e4 t5 e5 t6 e6 t7 e7 t8 e8 k e w = eqb-true b 3 e3 ∙ ap kind_byte e
-by_tests b false e1 false e2 false e3 true e4 t5 e5 t6 e6 t7 e7 t8 e8 k e w = eqb-true b 4 e4 ∙ ap kind_byte e
-by_tests b false e1 false e2 false e3 false e4 true e5 t6 e6 t7 e7 t8 e8 k e w = eqb-true b 5 e5 ∙ ap kind_byte e
-by_tests b false e1 false e2 false e3 false e4 false e5 true e6 t7 e7 t8 e8 k e w = eqb-true b 6 e6 ∙ ap kind_byte e
-by_tests b false e1 false e2 false e3 false e4 false e5 false e6 true e7 t8 e8 k e w = eqb-true b 7 e7 ∙ ap kind_byte e
-by_tests b false e1 false e2 false e3 false e4 false e5 false e6 false e7 true e8 k e w = eqb-true b 8 e8 ∙ ap kind_byte e
-by_tests b false e1 false e2 false e3 false e4 false e5 false e6 false e7 false e8 k e w = never (ap is_known e ∙ w)
+    → cond t1 (Some kind.Tick) (cond t2 (Some kind.Packet) (cond t3 (Some kind.Piece) (cond t4 (Some kind.Claim)
+    (cond t5 (Some kind.Source) (cond t6 (Some kind.Stop) (cond t7 (Some kind.Port) (cond t8 (Some kind.Txt) None))))))) ≡ Some k
+    → b ≡ kind_byte k
+by_tests b true e1 t2 e2 t3 e3 t4 e4 t5 e5 t6 e6 t7 e7 t8 e8 k e = eqb-true b 1 e1 ∙ ap kind_byte (same_Some _ _ e)
+by_tests b false e1 true e2 t3 e3 t4 e4 t5 e5 t6 e6 t7 e7 t8 e8 k e = eqb-true b 2 e2 ∙ ap kind_byte (same_Some _ _ e)
+by_tests b false e1 false e2 true e3 t4 e4 t5 e5 t6 e6 t7 e7 t8 e8 k e = eqb-true b 3 e3 ∙ ap kind_byte (same_Some _ _ e)
+by_tests b false e1 false e2 false e3 true e4 t5 e5 t6 e6 t7 e7 t8 e8 k e = eqb-true b 4 e4 ∙ ap kind_byte (same_Some _ _ e)
+by_tests b false e1 false e2 false e3 false e4 true e5 t6 e6 t7 e7 t8 e8 k e = eqb-true b 5 e5 ∙ ap kind_byte (same_Some _ _ e)
+by_tests b false e1 false e2 false e3 false e4 false e5 true e6 t7 e7 t8 e8 k e = eqb-true b 6 e6 ∙ ap kind_byte (same_Some _ _ e)
+by_tests b false e1 false e2 false e3 false e4 false e5 false e6 true e7 t8 e8 k e = eqb-true b 7 e7 ∙ ap kind_byte (same_Some _ _ e)
+by_tests b false e1 false e2 false e3 false e4 false e5 false e6 false e7 true e8 k e = eqb-true b 8 e8 ∙ ap kind_byte (same_Some _ _ e)
+by_tests b false e1 false e2 false e3 false e4 false e5 false e6 false e7 false e8 k e = absurd (none-some k e)
 
-pub byte_of-kind : (b : ℕ) (k : Kind) → kind_of b ≡ k → is_known k ≡ true → b ≡ kind_byte k
-byte_of-kind b k e w =
-    by_tests b (eqb b 1) refl (eqb b 2) refl (eqb b 3) refl (eqb b 4) refl (eqb b 5) refl (eqb b 6) refl (eqb b 7) refl (eqb b 8) refl k e w
+pub byte_of-kind : (b : ℕ) (k : Kind) → kind_of b ≡ Some k → b ≡ kind_byte k
+byte_of-kind b k e =
+    by_tests b (eqb b 1) refl (eqb b 2) refl (eqb b 3) refl (eqb b 4) refl (eqb b 5) refl (eqb b 6) refl (eqb b 7) refl (eqb b 8) refl k e

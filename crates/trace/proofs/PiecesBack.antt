@@ -8,10 +8,10 @@ use lib.ListN.{length, take, drop, replicate, length-drop, length-append, length
 use lib.Seq.{take_at, drop_at, drop-drop, length-take-le}
 use lib.Dec.{leb}
 use borrow.Author.Tests.{leb-true, leb-false}
+use Rattle.std.specs.Prelude.{Ok}
 use Rattle.trace.specs.reading.Reading.{all_zero, pieces_of, padding_at, is_padded, is_piece, pieces_at}
 use Rattle.trace.specs.reading.Events.{in_piece, data_from}
 use Rattle.trace.specs.writing.Bytes.{piece_of, pieces_over}
-use Rattle.trace.specs.declared.reading.Pieces.TheVariants as pieces
 use Rattle.trace.proofs.reading.Owed.{pieces_more}
 use Rattle.trace.proofs.reading.Gathered.{in_piece_most, in_piece_rest}
 use Rattle.trace.proofs.writing.Laid.{length-piece_of}
@@ -72,9 +72,9 @@ module _ {p : List ℕ} {at : ℕ} (bytes : List ℕ) {more : List ℕ} (s : Sta
   stands_piece = ap (is_padded p at (length bytes)) (piece_read (take 16 bytes) (length-first bytes) s) ∙ padded (leb (length bytes) 16) refl
 
 pub pieces_back : (k : ℕ) (bytes : List ℕ) {p : List ℕ} {at : ℕ} {rest : List ℕ} → k ≡ pieces_of (length bytes) → Stands p at (pieces_over k bytes) rest
-    → (pieces_at k p at (length bytes) ≡ pieces.End (at + 17 * k)) × (data_from k p at (length bytes) ≡ bytes)
+    → (pieces_at k p at (length bytes) ≡ Ok (at + 17 * k)) × (data_from k p at (length bytes) ≡ bytes)
 unfolding pieces_over pieces_at data_from
-pieces_back zero [] {p} {at} e s = (ap pieces.End (omega arith), refl)
+pieces_back zero [] {p} {at} e s = (ap Ok (omega arith), refl)
 pieces_back zero (b ∷ bs) e s = absurd (omega arith)
 pieces_back (suc k) bytes {p} {at} {rest} e s =
     let first = front (piece_of (take 16 bytes)) (pieces_over k (drop 16 bytes)) s in
@@ -84,7 +84,7 @@ pieces_back (suc k) bytes {p} {at} {rest} e s =
     let ke : k ≡ pieces_of (length (drop 16 bytes)) = omega (arith, pieces_more (length bytes) more, fewer) in
     let known = pieces_back k (drop 16 bytes) ke others in (
       simp (stands_piece bytes first)
-          (ap (pieces_at k p (at + 17)) (sym fewer) ∙ known.0 ∙ ap pieces.End (omega arith)),
+          (ap (pieces_at k p (at + 17)) (sym fewer) ∙ known.0 ∙ ap Ok (omega arith)),
       ap (λ (l : List ℕ). l ++ data_from k p (at + 17) (length bytes - 16)) (carried bytes first)
           ∙ ap (λ (n : ℕ). take 16 bytes ++ data_from k p (at + 17) n) (sym fewer)
           ∙ ap (λ (l : List ℕ). take 16 bytes ++ l) known.1

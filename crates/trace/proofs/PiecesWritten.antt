@@ -8,6 +8,8 @@ use borrow.Author.Tests.{ltb-true, eqb-true}
 use lib.ListN.{length, take, drop, replicate, length-drop, take-append-drop, drop_of_length-le}
 use lib.Seq.{take_all, take_at, drop_at, take-add, drop-drop, length-take-le}
 use lib.Dec.{ltb, eqb}
+use Rattle.std.specs.Prelude.{Option, Some, None, Ok}
+use Rattle.trace.specs.reading.Reading.{refused}
 use Rattle.wire.specs.octets.Octets.{byte_at}
 use Rattle.trace.specs.records.Records.{record_at}
 use Rattle.trace.specs.reading.Reading.{all_zero, pieces_of, padding_at, is_padded, is_piece, pieces_at}
@@ -15,16 +17,10 @@ use Rattle.trace.specs.reading.Events.{in_piece, data_from}
 use Rattle.trace.specs.writing.Bytes.{piece_of, pieces_over}
 use Rattle.trace.specs.declared.records.Record.{Record}
 use Rattle.trace.specs.declared.records.Record.TheVariants as is
-use Rattle.trace.specs.declared.reading.Pieces.{Pieces}
-use Rattle.trace.specs.declared.reading.Pieces.TheVariants as pieces
 use Rattle.trace.proofs.records.Standing.{stand, never}
 use Rattle.trace.proofs.reading.Owed.{pieces_more, piece_whole}
-use Rattle.trace.proofs.reading.Placed.{pieces_end}
+use Rattle.trace.proofs.reading.Placed.{pieces_end, not-refused}
 use Rattle.trace.proofs.Numbers.{next_byte, byte_of-kind}
-
-abbrev pub is_end : Pieces → Bool
-is_end (pieces.End m) = true
-is_end (pieces.Refused m) = false
 
 pub moved : (p : List ℕ) (i j : ℕ) → i ≡ j → drop i p ≡ drop j p
 moved p i j e = ap (λ (k : ℕ). drop k p) e
@@ -48,16 +44,16 @@ all-zeros (b ∷ bs) e =
 
 module _ (p : List ℕ) (at left : ℕ) where
   -- a piece that can stand: its kind, and its padding
-  piece_by : (r : Record) → record_at p at ≡ r → is_padded p at left r ≡ true → (byte_at p at ≡ 3) × (all_zero (padding_at p at left) ≡ true)
-  piece_by is.Piece e h = (byte_of-kind (byte_at p at) _ (stand p at is.Piece e refl).kind refl, h)
-  piece_by (is.Tick time) e h = never h
-  piece_by (is.Packet time port draw len) e h = never h
-  piece_by (is.Claim last claim state) e h = never h
-  piece_by (is.Source from hold) e h = never h
-  piece_by (is.Stop time) e h = never h
-  piece_by (is.Port time port) e h = never h
-  piece_by (is.Txt time len) e h = never h
-  piece_by is.Malformed e h = never h
+  piece_by : (r : Option Record) → record_at p at ≡ r → is_padded p at left r ≡ true → (byte_at p at ≡ 3) × (all_zero (padding_at p at left) ≡ true)
+  piece_by (Some is.Piece) e h = (byte_of-kind (byte_at p at) _ (stand p at is.Piece e).kind, h)
+  piece_by (Some (is.Tick time)) e h = never h
+  piece_by (Some (is.Packet time port draw len)) e h = never h
+  piece_by (Some (is.Claim last claim state)) e h = never h
+  piece_by (Some (is.Source from hold)) e h = never h
+  piece_by (Some (is.Stop time)) e h = never h
+  piece_by (Some (is.Port time port)) e h = never h
+  piece_by (Some (is.Txt time len)) e h = never h
+  piece_by None e h = never h
 
   module _ (b : is_piece p at left ≡ true) where
     whole : at + 17 ≤ length p
@@ -121,7 +117,7 @@ module _ (p : List ℕ) (at left : ℕ) where
         (ap (take 16) same ∙ take_all 16 carried short, ap (drop 16) same ∙ drop_of_length-le carried short ∙ sym gone)
     data_by k others ek none false e = (take_at carried others 16 (body_by false e).1, drop_at carried others 16 (body_by false e).1)
 
-pub pieces_written : (k : ℕ) (p : List ℕ) (at left n : ℕ) → k ≡ pieces_of left → at ≤ length p → pieces_at k p at left ≡ pieces.End n
+pub pieces_written : (k : ℕ) (p : List ℕ) (at left n : ℕ) → k ≡ pieces_of left → at ≤ length p → pieces_at k p at left ≡ Ok n
     → drop at p ≡ pieces_over k (data_from k p at left) ++ drop n p
 unfolding pieces_at pieces_over data_from carried
 pieces_written zero p at left n ek h e = moved p at n (omega (arith, (pieces_end p 0 at left n h e).0))
@@ -129,8 +125,8 @@ pieces_written (suc k) p at left n ek h e =
     go (is_piece p at left) refl e
     (λ w q. pieces_written k p (at + 17) (left - 16) n (omega (arith, pieces_more left (omega arith))) w q)
   where
-    go : (b : Bool) → is_piece p at left ≡ b → cond b (pieces_at k p (at + 17) (left - 16)) (pieces.Refused at) ≡ pieces.End n
-        → (at + 17 ≤ length p → pieces_at k p (at + 17) (left - 16) ≡ pieces.End n
+    go : (b : Bool) → is_piece p at left ≡ b → cond b (pieces_at k p (at + 17) (left - 16)) (refused at) ≡ Ok n
+        → (at + 17 ≤ length p → pieces_at k p (at + 17) (left - 16) ≡ Ok n
         → drop (at + 17) p ≡ pieces_over k (data_from k p (at + 17) (left - 16)) ++ drop n p)
         → drop at p ≡ pieces_over (suc k) (data_from (suc k) p at left) ++ drop n p
     go true eb q rest =
@@ -143,4 +139,4 @@ pieces_written (suc k) p at left n ek h e =
         ∙ sym (append_assoc (piece_of x) (pieces_over k others) (drop n p))
         ∙ ap (λ (y : List ℕ). (piece_of y ++ pieces_over k others) ++ drop n p) (sym split.0)
         ∙ ap (λ (y : List ℕ). (piece_of (take 16 (x ++ others)) ++ pieces_over k y) ++ drop n p) (sym split.1)
-    go false eb q rest = never (ap is_end q)
+    go false eb q rest = not-refused q

@@ -2,12 +2,14 @@
 use mathlib.Core.Path.{◌≡◌, refl, sym, ap, ◌∙◌}
 use mathlib.Core.List.{List, [], ◌∷◌, ◌++◌}
 use mathlib.Core.Bool.{Bool, true, false, cond, ◌&&◌}
-use mathlib.Core.Option.{none}
 use Prim.Native.Nat.{ℕ, ◌+◌, ◌*◌, ◌<◌, ◌≤◌}
 use native.Mathlib.Omega.{arith}
 use borrow.Author.Tests.{ltb-true, eqb-true}
 use lib.ListN.{length, drop, length-drop}
 use lib.Dec.{eqb}
+use Rattle.std.specs.Prelude.{Option, Some, None, Result, Ok, Err}
+use Rattle.trace.specs.reading.Reading.{refused}
+use Rattle.trace.specs.declared.writing.Unfit.{Unfit}
 use Rattle.claims.specs.declared.holds.Address.{Address}
 use Rattle.trace.specs.records.Numbers.{bytes16, bytes64}
 use Rattle.trace.specs.records.Records.{record_at}
@@ -20,9 +22,6 @@ use Rattle.trace.specs.declared.records.Record.TheVariants as is
 use Rattle.trace.specs.declared.reading.Event.{Event}
 use Rattle.trace.specs.declared.reading.Event.TheVariants as event
 use Rattle.trace.specs.declared.reading.Entry.{Entry}
-use Rattle.trace.specs.declared.reading.Step.TheVariants.{Found, Refused}
-use Rattle.trace.specs.declared.writing.Size.{Size}
-use Rattle.trace.specs.declared.writing.Size.TheVariants as size
 use Rattle.trace.proofs.records.Standing.{never}
 use Rattle.trace.proofs.reading.Begun.{step_of, step_end}
 use Rattle.trace.proofs.reading.Unrolled.{unroll}
@@ -36,7 +35,7 @@ use Rattle.trace.proofs.PiecesBack.{length-pieces, pieces_back}
 -- the event that stands at `at`, with `rest` behind it
 pub record Back (p : List ℕ) (at : ℕ) (o : Occurrence) (rest : List ℕ) : Type 0 where
   pub entry : Entry
-  pub step : step_at p at ≡ Found entry
+  pub step : step_at p at ≡ Ok (Some entry)
   pub same : occurrence entry.event (data_in p entry) ≡ o
   pub next : drop entry.next p ≡ rest
 
@@ -48,20 +47,20 @@ both false b e = never e
 wide : (n : ℕ) → fits64 n ≡ true → n < 18446744073709551616
 wide n e = ltb-true n 18446744073709551616 e
 
-pub sized : (s : Size) → is_size s ≡ true → (n : ℕ) × (s ≡ size.Bytes n)
-sized (size.Bytes n) e = (n, refl)
-sized (size.Unfit o) e = never e
+pub sized : (s : Result ℕ Unfit) → is_size s ≡ true → (n : ℕ) × (s ≡ Ok n)
+sized (Ok n) e = (n, refl)
+sized (Err u) e = never e
 
 module _ {p : List ℕ} {at : ℕ} {rest : List ℕ} where
   in_trace : (b : ℕ) (x : List ℕ) → Stands p at (b ∷ x) rest → at < length p
   in_trace b x s = omega (arith, stands.within (b ∷ x) s (omega arith))
 
-  begun : (b : ℕ) (x : List ℕ) → Stands p at (b ∷ x) rest → (r : Record) → record_at p at ≡ r → step_at p at ≡ step_with p at r
+  begun : (b : ℕ) (x : List ℕ) → Stands p at (b ∷ x) rest → (r : Option Record) → record_at p at ≡ r → step_at p at ≡ step_with p at r
   begun b x s r e = sym (step_of p at (record_at p at) refl r e (in_trace b x s))
 
 -- an event that brings bytes
 data_back : {p : List ℕ} {rest : List ℕ} (v : Event) (first : ℕ) (bytes : List ℕ) → Stands p first (pieces_for bytes) rest
-    → (with_data p v first (length bytes) ≡ Found (record { event = v; first = first; len = length bytes; next = first + 17 * pieces_of (length bytes) }))
+    → (with_data p v first (length bytes) ≡ Ok (Some (record { event = v; first = first; len = length bytes; next = first + 17 * pieces_of (length bytes) })))
     × (data_from (pieces_of (length bytes)) p first (length bytes) ≡ bytes) × (drop (first + 17 * pieces_of (length bytes)) p ≡ rest)
 unfolding with_data
 data_back {p} {rest} v first bytes s =
@@ -74,9 +73,9 @@ data_back {p} {rest} v first bytes s =
 -- the records of a packet, behind that of its source or without one
 packet_back : {p : List ℕ} {at : ℕ} {rest : List ℕ} (time : ℕ) (from : Address) (q draw hold : ℕ) (bytes : List ℕ) → time < 18446744073709551616
     → Stands p at (packet_bytes time q draw bytes) rest
-    → (record_at p at ≡ is.Packet time q draw (length bytes))
+    → (record_at p at ≡ Some (is.Packet time q draw (length bytes)))
     × (with_data p (event.Packet time from q draw hold) (at + 14) (length bytes)
-    ≡ Found (record { event = event.Packet time from q draw hold; first = at + 14; len = length bytes; next = at + 14 + 17 * pieces_of (length bytes) }))
+    ≡ Ok (Some (record { event = event.Packet time from q draw hold; first = at + 14; len = length bytes; next = at + 14 + 17 * pieces_of (length bytes) })))
     × (data_from (pieces_of (length bytes)) p (at + 14) (length bytes) ≡ bytes) × (drop (at + 14 + 17 * pieces_of (length bytes)) p ≡ rest)
 packet_back {p} {at} time from q draw hold bytes h s =
     let numbers = headed 2 time ++ packet_numbers q draw (length bytes) in
@@ -110,7 +109,7 @@ module _ {p : List ℕ} {at : ℕ} {rest : List ℕ} (time : ℕ) (from : Addres
           len = length bytes;
           next = at + 14 + 17 * pieces_of (length bytes);
         };
-        step = begun 2 _ s (is.Packet time q draw (length bytes)) known.0 ∙ known.1;
+        step = begun 2 _ s _ known.0 ∙ known.1;
         same = λ i. packet time (is-usual.0 i) q draw (is-usual.1 i) (known.2 i);
         next = known.3;
       }
@@ -129,8 +128,8 @@ module _ {p : List ℕ} {at : ℕ} {rest : List ℕ} (time : ℕ) (from : Addres
           next = at + 19 + 14 + 17 * pieces_of (length bytes);
         };
         step =
-            begun 5 _ s (is.Source from hold) first
-            ∙ ap (λ (b : Bool). cond b (Refused at) (behind_source p (at + 19) from hold (record_at p (at + 19)))) u
+            begun 5 _ s _ first
+            ∙ ap (λ (b : Bool). cond b (refused at) (behind_source p (at + 19) from hold (record_at p (at + 19)))) u
             ∙ ap (behind_source p (at + 19) from hold) known.0
             ∙ known.1;
         same = ap (packet time from q draw hold) known.2;
@@ -185,7 +184,7 @@ event_back (txt time bytes) w {p} {at} s =
 
 -- a list of events, wherever its trace stands and ends the whole
 from_back : (os : List Occurrence) → all_can_be_written os ≡ true → (p : List ℕ) (at : ℕ) → drop at p ≡ trace_of os
-    → read_from p at ≡ record { events = os; fault = none }
+    → read_from p at ≡ record { events = os; fault = None }
 unfolding all_can_be_written trace_of
 from_back [] w p at e =
     let past : length p ≤ at = omega (arith, length-drop at p, ap length e) in
@@ -197,5 +196,5 @@ from_back (o ∷ os) w p at e =
     unroll p at ∙ ap (within p (read_from p)) known.step ∙ (λ i. record { events = known.same i ∷ (rest i).events; fault = (rest i).fault })
 
 -- the theorem: the trace of events that can be written is read as those events, with no refusal
-pub read_back : (os : List Occurrence) → all_can_be_written os ≡ true → reading_of (trace_of os) ≡ record { events = os; fault = none }
+pub read_back : (os : List Occurrence) → all_can_be_written os ≡ true → reading_of (trace_of os) ≡ record { events = os; fault = None }
 read_back os w = from_back os w (trace_of os) 0 refl

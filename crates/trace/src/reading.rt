@@ -6,8 +6,10 @@ ghost use Rattle.trace.specs.records.Records.{record_at};
 ghost use Rattle.trace.specs.reading.Reading.{all_zero, pieces_of, is_usual, is_piece, pieces_at, alone_step, with_data, behind_source, step_at};
 ghost use Rattle.trace.specs.reading.Events.{in_piece, data_from, data_at, check_of};
 
-use crate::records;
-use crate::records::Record;
+use crate::records::{
+    CLAIM_SIZE, PACKET_SIZE, PIECE_BYTES, PIECE_SIZE, PORT_SIZE, Record, SOURCE_SIZE, STOP_SIZE,
+    TICK_SIZE, TXT_SIZE, record_at,
+};
 use claims::holds::Address;
 
 // An event with its numbers: the calls that were made on a responder, and a claim's state as it then was. The bytes of a packet and of TXT stand beside it.
@@ -46,84 +48,46 @@ pub struct Entry {
     pub next: usize,
 }
 
-// What stands at an offset: the trace's end, an event, or the offset of the refusal.
+// The refusal of a trace, with the offset of the first record that is malformed or cannot stand where it does.
 #[derive(Clone, Copy)]
-pub enum Step {
-    End,
-    Found(Entry),
-    Refused(usize),
-}
-
-// Where pieces end, or the offset of the first that cannot stand.
-#[derive(Clone, Copy)]
-pub enum Pieces {
-    End(usize),
-    Refused(usize),
-}
-
-// Whether a trace as a whole is read, or the offset of its refusal.
-#[derive(Clone, Copy)]
-pub enum Checked {
-    Read,
-    Refused(usize),
+pub struct Refused {
+    pub at: usize,
 }
 
 // Whether all bytes are zero.
 fn all_zero(s: &[u8]) -> bool
     ensures { result ≡ all_zero s.now }
 {
-    let mut i = 0;
-    while i < s.len() {
-        if s[i] != 0 {
-            return false;
-        }
-        i += 1;
-    }
-    true
+    s.iter().all(|b| *b == 0)
 }
 
 // Whether a source is one that is not told.
 pub fn is_usual(from: Address, hold: u64) -> bool
     ensures { result ≡ is_usual from hold }
 {
-    if from.high != 0 {
-        return false;
-    }
-    if from.low != 0 {
-        return false;
-    }
-    hold == USUAL_HOLD
+    from.high == 0 && from.low == 0 && hold == USUAL_HOLD
 }
 
 // Whether a piece stands at an offset, where so many bytes are owed; behind the last of them it is padded with zeros.
 fn is_piece(trace: &[u8], at: usize, left: usize) -> bool
     ensures { result ≡ is_piece trace.now at left }
 {
-    match records::record_at(trace, at) {
-        Record::Piece => {
-            if records::PIECE_BYTES <= left {
-                return true;
-            }
-            let from = at + 1 + left;
-            let end = at + records::PIECE_SIZE;
-            all_zero(&trace[from..end])
-        }
-        _ => false,
+    let Some(record) = record_at(trace, at) else {
+        return false;
+    };
+    let Record::Piece = record else {
+        return false;
+    };
+    if PIECE_BYTES <= left {
+        return true;
     }
+    let from = at + 1 + left;
+    let end = at + PIECE_SIZE;
+    all_zero(&trace[from..end])
 }
 
-// What is left of bytes behind one piece more.
-fn behind(left: usize) -> usize
-    ensures { result ≡ left - 16 }
-{
-    if left < records::PIECE_BYTES {
-        return 0;
-    }
-    left - records::PIECE_BYTES
-}
-
-// The pieces of so many bytes, from an offset on.
-fn pieces_end(trace: &[u8], first: usize, len: usize) -> Pieces
+// Where the pieces of so many bytes end, from an offset on.
+fn pieces_end(trace: &[u8], first: usize, len: usize) -> Result<usize, Refused>
     requires { first ≤ length trace.now }
     ensures { result ≡ pieces_at (pieces_of len) trace.now first len }
 {
@@ -131,36 +95,42 @@ fn pieces_end(trace: &[u8], first: usize, len: usize) -> Pieces
     let mut left = len;
     while 0 < left {
         if !is_piece(trace, at, left) {
-            return Pieces::Refused(at);
+            return Err(Refused { at });
         }
-        at += records::PIECE_SIZE;
-        left = behind(left);
+        at += PIECE_SIZE;
+        left = left.saturating_sub(PIECE_BYTES);
     }
-    Pieces::End(at)
+    Ok(at)
 }
 
 // An event with the pieces that it owes.
-fn with_data(trace: &[u8], event: Event, first: usize, len: usize) -> Step
+fn with_data(trace: &[u8], event: Event, first: usize, len: usize) -> Result<Option<Entry>, Refused>
     requires { first ≤ length trace.now }
     ensures { result ≡ with_data trace.now event first len }
 {
-    match pieces_end(trace, first, len) {
-        Pieces::End(next) => Step::Found(Entry {
-            event,
-            first,
-            len,
-            next,
-        }),
-        Pieces::Refused(offset) => Step::Refused(offset),
-    }
+    let next = pieces_end(trace, first, len)?;
+    Ok(Some(Entry {
+        event,
+        first,
+        len,
+        next,
+    }))
 }
 
 // The packet behind the record of its source.
-fn behind_source(trace: &[u8], at: usize, from: Address, hold: u64) -> Step
+fn behind_source(
+    trace: &[u8],
+    at: usize,
+    from: Address,
+    hold: u64,
+) -> Result<Option<Entry>, Refused>
     requires { at ≤ length trace.now }
     ensures { result ≡ behind_source trace.now at from hold (record_at trace.now at) }
 {
-    match records::record_at(trace, at) {
+    let Some(record) = record_at(trace, at) else {
+        return Err(Refused { at });
+    };
+    match record {
         Record::Packet {
             time,
             port,
@@ -175,34 +145,37 @@ fn behind_source(trace: &[u8], at: usize, from: Address, hold: u64) -> Step
                 draw,
                 hold,
             },
-            at + records::PACKET_SIZE,
+            at + PACKET_SIZE,
             len,
         ),
-        _ => Step::Refused(at),
+        _ => Err(Refused { at }),
     }
 }
 
 // An event without bytes.
-fn alone(event: Event, next: usize) -> Step
+fn alone(event: Event, next: usize) -> Result<Option<Entry>, Refused>
     ensures { result ≡ alone_step event next }
 {
-    Step::Found(Entry {
+    Ok(Some(Entry {
         event,
         first: next,
         len: 0,
         next,
-    })
+    }))
 }
 
 // The event at an offset, which is the trace's start or behind another event. At the trace's end and past it there is none.
-pub fn next(trace: &[u8], at: usize) -> Step
+pub fn next(trace: &[u8], at: usize) -> Result<Option<Entry>, Refused>
     ensures { result ≡ step_at trace.now at }
 {
     if trace.len() <= at {
-        return Step::End;
+        return Ok(None);
     }
-    match records::record_at(trace, at) {
-        Record::Tick(time) => alone(Event::Tick(time), at + records::TICK_SIZE),
+    let Some(record) = record_at(trace, at) else {
+        return Err(Refused { at });
+    };
+    match record {
+        Record::Tick(time) => alone(Event::Tick(time), at + TICK_SIZE),
         Record::Packet {
             time,
             port,
@@ -217,28 +190,22 @@ pub fn next(trace: &[u8], at: usize) -> Step
                 draw,
                 hold: USUAL_HOLD,
             },
-            at + records::PACKET_SIZE,
+            at + PACKET_SIZE,
             len,
         ),
-        Record::Piece => Step::Refused(at),
+        Record::Piece => Err(Refused { at }),
         Record::Claim { last, claim, state } => {
-            alone(
-                Event::Claim { last, claim, state },
-                at + records::CLAIM_SIZE,
-            )
+            alone(Event::Claim { last, claim, state }, at + CLAIM_SIZE)
         }
         Record::Source { from, hold } => {
             if is_usual(from, hold) {
-                return Step::Refused(at);
+                return Err(Refused { at });
             }
-            behind_source(trace, at + records::SOURCE_SIZE, from, hold)
+            behind_source(trace, at + SOURCE_SIZE, from, hold)
         }
-        Record::Stop(time) => alone(Event::Stop(time), at + records::STOP_SIZE),
-        Record::Port { time, port } => alone(Event::Port { time, port }, at + records::PORT_SIZE),
-        Record::Txt { time, len } => {
-            with_data(trace, Event::Txt(time), at + records::TXT_SIZE, len)
-        }
-        Record::Malformed => Step::Refused(at),
+        Record::Stop(time) => alone(Event::Stop(time), at + STOP_SIZE),
+        Record::Port { time, port } => alone(Event::Port { time, port }, at + PORT_SIZE),
+        Record::Txt { time, len } => { with_data(trace, Event::Txt(time), at + TXT_SIZE, len) }
     }
 }
 
@@ -246,10 +213,7 @@ pub fn next(trace: &[u8], at: usize) -> Step
 pub fn in_piece(left: usize) -> usize
     ensures { result ≡ in_piece left }
 {
-    if left < records::PIECE_BYTES {
-        return left;
-    }
-    records::PIECE_BYTES
+    left.min(PIECE_BYTES)
 }
 
 // Lays the bytes of pieces over the start of a buffer, as far as it goes.
@@ -263,8 +227,8 @@ fn gather(trace: &[u8], first: usize, len: usize, out: &mut [u8])
         let from = at + 1;
         let end = from + in_piece(left);
         wire::buffer::put(out, len - left, &trace[from..end]);
-        at += records::PIECE_SIZE;
-        left = behind(left);
+        at += PIECE_SIZE;
+        left = left.saturating_sub(PIECE_BYTES);
     }
 }
 
@@ -274,32 +238,22 @@ pub fn bytes(trace: &[u8], at: usize, out: &mut [u8]) -> usize
     ensures out { out.new ≡ sets out.old 0 (data_at trace.now at) }
 {
     match next(trace, at) {
-        Step::Found(entry) => {
+        Ok(Some(entry)) => {
             gather(trace, entry.first, entry.len, out);
             entry.len
         }
-        Step::End => 0,
-        Step::Refused(_) => 0,
+        Ok(None) => 0,
+        Err(_) => 0,
     }
 }
 
 // Whether a whole trace is read.
-pub fn check(trace: &[u8]) -> Checked
+pub fn check(trace: &[u8]) -> Result<(), Refused>
     ensures { result ≡ check_of trace.now }
 {
     let mut at = 0;
-    while at < trace.len() {
-        match next(trace, at) {
-            Step::Found(entry) => {
-                at = entry.next;
-            }
-            Step::End => {
-                return Checked::Read;
-            }
-            Step::Refused(offset) => {
-                return Checked::Refused(offset);
-            }
-        }
+    while let Some(entry) = next(trace, at)? {
+        at = entry.next;
     }
-    Checked::Read
+    Ok(())
 }

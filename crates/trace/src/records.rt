@@ -4,19 +4,19 @@ ghost use Rattle.trace.specs.records.Numbers.{word64};
 ghost use Rattle.trace.specs.records.Records.{kind_of, size_of, claim_of, fields_at, record_at};
 
 use claims::holds::Address;
+use wire::octets::{be16, be32, byte};
 
-// The kinds of records.
+// The kinds of records, each with its byte.
 #[derive(Clone, Copy)]
 pub enum Kind {
-    Tick,
-    Packet,
-    Piece,
-    Claim,
-    Source,
-    Stop,
-    Port,
-    Txt,
-    Unknown,
+    Tick = 1,
+    Packet = 2,
+    Piece = 3,
+    Claim = 4,
+    Source = 5,
+    Stop = 6,
+    Port = 7,
+    Txt = 8,
 }
 
 // The bytes that a piece carries.
@@ -68,27 +68,26 @@ pub enum Record {
         time: u64,
         len: usize,
     },
-    Malformed,
 }
 
 // The kind that a byte says.
-fn kind_of(b: u8) -> Kind
+fn kind_of(b: u8) -> Option<Kind>
     ensures { result ≡ kind_of b }
 {
     match b {
-        1 => Kind::Tick,
-        2 => Kind::Packet,
-        3 => Kind::Piece,
-        4 => Kind::Claim,
-        5 => Kind::Source,
-        6 => Kind::Stop,
-        7 => Kind::Port,
-        8 => Kind::Txt,
-        _ => Kind::Unknown,
+        1 => Some(Kind::Tick),
+        2 => Some(Kind::Packet),
+        3 => Some(Kind::Piece),
+        4 => Some(Kind::Claim),
+        5 => Some(Kind::Source),
+        6 => Some(Kind::Stop),
+        7 => Some(Kind::Port),
+        8 => Some(Kind::Txt),
+        _ => None,
     }
 }
 
-// The size of a record of a kind, 0 for none.
+// The size of a record of a kind.
 fn size_of(kind: Kind) -> usize
     ensures { result ≡ size_of kind }
 {
@@ -101,7 +100,6 @@ fn size_of(kind: Kind) -> usize
         Kind::Stop => STOP_SIZE,
         Kind::Port => PORT_SIZE,
         Kind::Txt => TXT_SIZE,
-        Kind::Unknown => 0,
     }
 }
 
@@ -110,78 +108,71 @@ fn be64(trace: &[u8], at: usize) -> u64
     requires { at + 8 ≤ length trace.now }
     ensures { result ≡ word64 trace.now at }
 {
-    let high = wire::octets::be32(trace, at) as u64;
-    let low = wire::octets::be32(trace, at + 4) as u64;
+    let high = be32(trace, at) as u64;
+    let low = be32(trace, at + 4) as u64;
     high * 4294967296 + low
 }
 
 // The record of a claim's state, where both are in range.
-fn claim_of(last: u64, claim: u8, state: u8) -> Record
+fn claim_of(last: u64, claim: u8, state: u8) -> Option<Record>
     ensures { result ≡ claim_of last claim state }
 {
-    if 1 < claim {
-        return Record::Malformed;
+    if 1 < claim || 4 < state {
+        return None;
     }
-    if 4 < state {
-        return Record::Malformed;
-    }
-    Record::Claim {
+    Some(Record::Claim {
         last,
         claim: claim as u64,
         state: state as u64,
-    }
+    })
 }
 
-// The record of a kind that stands whole at an offset.
-fn fields(trace: &[u8], at: usize, kind: Kind) -> Record
+// The record of a kind that stands whole at an offset, where its numbers are in range.
+fn fields(trace: &[u8], at: usize, kind: Kind) -> Option<Record>
     requires { at + size_of kind ≤ length trace.now }
     ensures { result ≡ fields_at trace.now at kind }
 {
     match kind {
-        Kind::Tick => Record::Tick(be64(trace, at + 1)),
-        Kind::Packet => Record::Packet {
+        Kind::Tick => Some(Record::Tick(be64(trace, at + 1))),
+        Kind::Packet => Some(Record::Packet {
             time: be64(trace, at + 1),
-            port: wire::octets::be16(trace, at + 9) as u64,
-            draw: wire::octets::byte(trace, at + 11) as u64,
-            len: wire::octets::be16(trace, at + 12) as usize,
-        },
-        Kind::Piece => Record::Piece,
+            port: be16(trace, at + 9) as u64,
+            draw: byte(trace, at + 11) as u64,
+            len: be16(trace, at + 12) as usize,
+        }),
+        Kind::Piece => Some(Record::Piece),
         Kind::Claim => claim_of(
             be64(trace, at + 1),
-            wire::octets::byte(trace, at + 9),
-            wire::octets::byte(trace, at + 10),
+            byte(trace, at + 9),
+            byte(trace, at + 10),
         ),
-        Kind::Source => Record::Source {
+        Kind::Source => Some(Record::Source {
             from: Address {
                 high: be64(trace, at + 1),
                 low: be64(trace, at + 9),
             },
-            hold: wire::octets::be16(trace, at + 17) as u64,
-        },
-        Kind::Stop => Record::Stop(be64(trace, at + 1)),
-        Kind::Port => Record::Port {
+            hold: be16(trace, at + 17) as u64,
+        }),
+        Kind::Stop => Some(Record::Stop(be64(trace, at + 1))),
+        Kind::Port => Some(Record::Port {
             time: be64(trace, at + 1),
-            port: wire::octets::be16(trace, at + 9) as u64,
-        },
-        Kind::Txt => Record::Txt {
+            port: be16(trace, at + 9) as u64,
+        }),
+        Kind::Txt => Some(Record::Txt {
             time: be64(trace, at + 1),
-            len: wire::octets::be16(trace, at + 9) as usize,
-        },
-        Kind::Unknown => Record::Malformed,
+            len: be16(trace, at + 9) as usize,
+        }),
     }
 }
 
-// The record that stands at an offset, malformed where its kind is unknown, it is cut short or a number is out of range.
-pub fn record_at(trace: &[u8], at: usize) -> Record
+// The record that stands at an offset: none where its kind is unknown, it is cut short or a number is out of range.
+pub fn record_at(trace: &[u8], at: usize) -> Option<Record>
     ensures { result ≡ record_at trace.now at }
 {
-    let kind = kind_of(wire::octets::byte(trace, at));
+    let kind = kind_of(byte(trace, at))?;
     let size = size_of(kind);
-    if trace.len() < size {
-        return Record::Malformed;
-    }
-    if trace.len() - size < at {
-        return Record::Malformed;
+    if trace.len() < size || trace.len() - size < at {
+        return None;
     }
     fields(trace, at, kind)
 }

@@ -9,41 +9,26 @@ ghost use Rattle.trace.specs.writing.Bytes.{headed, piece_of, pieces_for, source
 ghost use Rattle.trace.specs.writing.Sizes.{source_size, packet_size, claim_size, size_for};
 ghost use Rattle.trace.specs.writing.Writing.{written_to, out_after};
 
-use crate::reading::Event;
-use crate::{reading, records};
+use crate::reading::{Event, is_usual};
+use crate::records::{
+    CLAIM_SIZE, Kind, PACKET_SIZE, PIECE_BYTES, PIECE_SIZE, PORT_SIZE, SOURCE_SIZE, STOP_SIZE,
+    TICK_SIZE, TXT_SIZE,
+};
 use claims::holds::Address;
+use wire::buffer::put;
 
-// The size of an event in a trace, or how far behind its start the record lies that a value does not fit.
+// A value that its field cannot hold: how far behind the event's start the record lies.
 #[derive(Clone, Copy)]
-pub enum Size {
-    Bytes(usize),
-    Unfit(usize),
+pub struct Unfit {
+    pub behind: usize,
 }
 
-// What writing answers: the offset behind the event, refusal 12 with its offset, or refusal 3.
+// Why an event is not written: refusal 12, with the offset of the record that a value does not fit, or refusal 3.
 #[derive(Clone, Copy)]
-pub enum Written {
-    End(usize),
-    Unfit(usize),
+pub enum Unwritten {
+    Unfit { at: usize },
     NoRoom,
 }
-
-// The bytes of the kinds.
-const TICK: u8 = 1;
-
-const PACKET: u8 = 2;
-
-const PIECE: u8 = 3;
-
-const CLAIM: u8 = 4;
-
-const SOURCE: u8 = 5;
-
-const STOP: u8 = 6;
-
-const PORT: u8 = 7;
-
-const TXT: u8 = 8;
 
 // The greatest numbers of 16 and of 8 bits.
 const MOST_16: u64 = 65535;
@@ -62,55 +47,43 @@ fn pieces_size(len: usize) -> usize
     requires { len < 65536 }
     ensures { result ≡ pieces_of len * 17 }
 {
-    (len + 15) / records::PIECE_BYTES * records::PIECE_SIZE
+    len.div_ceil(PIECE_BYTES) * PIECE_SIZE
 }
 
 // The size of the record of a source, which is left out where it is the usual one.
 fn source_size(from: Address, hold: u64) -> usize
     ensures { result ≡ source_size from hold }
 {
-    if reading::is_usual(from, hold) {
-        return 0;
-    }
-    records::SOURCE_SIZE
+    if is_usual(from, hold) { 0 } else { SOURCE_SIZE }
 }
 
 // The size of a packet's records behind that of its source, whose size is given.
-fn packet_size(source: usize, port: u64, draw: u64, len: usize) -> Size
+fn packet_size(source: usize, port: u64, draw: u64, len: usize) -> Result<usize, Unfit>
     requires { source < 20 }
     ensures { result ≡ packet_size source port draw len }
 {
-    if MOST_16 < port {
-        return Size::Unfit(source);
+    if MOST_16 < port || MOST_8 < draw || MOST_LEN < len {
+        return Err(Unfit { behind: source });
     }
-    if MOST_8 < draw {
-        return Size::Unfit(source);
-    }
-    if MOST_LEN < len {
-        return Size::Unfit(source);
-    }
-    Size::Bytes(source + records::PACKET_SIZE + pieces_size(len))
+    Ok(source + PACKET_SIZE + pieces_size(len))
 }
 
 // The size of a claim's record.
-fn claim_size(claim: u64, state: u64) -> Size
+fn claim_size(claim: u64, state: u64) -> Result<usize, Unfit>
     ensures { result ≡ claim_size claim state }
 {
-    if MOST_CLAIM < claim {
-        return Size::Unfit(0);
+    if MOST_CLAIM < claim || MOST_STATE < state {
+        return Err(Unfit { behind: 0 });
     }
-    if MOST_STATE < state {
-        return Size::Unfit(0);
-    }
-    Size::Bytes(records::CLAIM_SIZE)
+    Ok(CLAIM_SIZE)
 }
 
 // The size of an event that brings so many bytes.
-pub fn size_of(event: Event, len: usize) -> Size
+pub fn size_of(event: Event, len: usize) -> Result<usize, Unfit>
     ensures { result ≡ size_for event len }
 {
     match event {
-        Event::Tick(_) => Size::Bytes(records::TICK_SIZE),
+        Event::Tick(_) => Ok(TICK_SIZE),
         Event::Packet {
             time: _,
             from,
@@ -119,7 +92,7 @@ pub fn size_of(event: Event, len: usize) -> Size
             hold,
         } => {
             if MOST_16 < hold {
-                return Size::Unfit(0);
+                return Err(Unfit { behind: 0 });
             }
             packet_size(source_size(from, hold), port, draw, len)
         }
@@ -128,51 +101,27 @@ pub fn size_of(event: Event, len: usize) -> Size
             claim,
             state,
         } => claim_size(claim, state),
-        Event::Stop(_) => Size::Bytes(records::STOP_SIZE),
+        Event::Stop(_) => Ok(STOP_SIZE),
         Event::Port { time: _, port } => {
             if MOST_16 < port {
-                return Size::Unfit(0);
+                return Err(Unfit { behind: 0 });
             }
-            Size::Bytes(records::PORT_SIZE)
+            Ok(PORT_SIZE)
         }
         Event::Txt(_) => {
             if MOST_LEN < len {
-                return Size::Unfit(0);
+                return Err(Unfit { behind: 0 });
             }
-            Size::Bytes(records::TXT_SIZE + pieces_size(len))
+            Ok(TXT_SIZE + pieces_size(len))
         }
     }
-}
-
-// The eight bytes of a number.
-fn number_bytes(n: u64) -> [u8; 8]
-    ensures { result ≡ bytes64 n }
-{
-    let n1 = n / 256;
-    let n2 = n1 / 256;
-    let n3 = n2 / 256;
-    let n4 = n3 / 256;
-    let n5 = n4 / 256;
-    let n6 = n5 / 256;
-    let n7 = n6 / 256;
-    [
-        (n7 % 256) as u8,
-        (n6 % 256) as u8,
-        (n5 % 256) as u8,
-        (n4 % 256) as u8,
-        (n3 % 256) as u8,
-        (n2 % 256) as u8,
-        (n1 % 256) as u8,
-        (n % 256) as u8,
-    ]
 }
 
 // Lays a number of 64 bits over a buffer.
 fn put64(out: &mut [u8], at: usize, n: u64)
     ensures { out.new ≡ sets out.old at (bytes64 n) }
 {
-    let bytes = number_bytes(n);
-    wire::buffer::put(out, at, &bytes);
+    put(out, at, &n.to_be_bytes());
 }
 
 // Lays a number of 16 bits over a buffer.
@@ -180,8 +129,7 @@ fn put16(out: &mut [u8], at: usize, n: u64)
     requires { n < 65536 }
     ensures { out.new ≡ sets out.old at (bytes16 n) }
 {
-    let bytes = [(n / 256) as u8, (n % 256) as u8];
-    wire::buffer::put(out, at, &bytes);
+    put(out, at, &(n as u16).to_be_bytes());
 }
 
 // Lays a kind and the number of 64 bits behind it over a buffer.
@@ -189,8 +137,7 @@ fn put_headed(out: &mut [u8], at: usize, kind: u8, n: u64)
     requires { at + 9 ≤ length out.old }
     ensures { out.new ≡ sets out.old at (headed kind n) }
 {
-    let first = [kind];
-    wire::buffer::put(out, at, &first);
+    put(out, at, &[kind]);
     put64(out, at + 1, n);
 }
 
@@ -206,7 +153,7 @@ fn put_numbers(out: &mut [u8], at: usize, port: u64, draw: u64, len: usize)
         (len / 256) as u8,
         (len % 256) as u8,
     ];
-    wire::buffer::put(out, at, &bytes);
+    put(out, at, &bytes);
 }
 
 // Lays a claim and its state over a buffer.
@@ -215,7 +162,7 @@ fn put_claim(out: &mut [u8], at: usize, claim: u64, state: u64)
     ensures { out.new ≡ sets out.old at (claim ∷ state ∷ []) }
 {
     let bytes = [claim as u8, state as u8];
-    wire::buffer::put(out, at, &bytes);
+    put(out, at, &bytes);
 }
 
 // Lays the record of a source over a buffer.
@@ -224,7 +171,7 @@ fn put_source(out: &mut [u8], at: usize, from: Address, hold: u64)
     requires hold_bound { hold < 65536 }
     ensures { out.new ≡ sets out.old at (source_bytes from hold) }
 {
-    put_headed(out, at, SOURCE, from.high);
+    put_headed(out, at, Kind::Source as u8, from.high);
     put64(out, at + 9, from.low);
     put16(out, at + 17, hold);
 }
@@ -235,13 +182,12 @@ fn put_piece(out: &mut [u8], at: usize, bytes: &[u8])
     requires bytes_len_bound { length bytes.now ≤ 16 }
     ensures { out.new ≡ sets out.old at (piece_of bytes.now) }
 {
-    let kind = [PIECE];
-    let zeros = [0u8; records::PIECE_BYTES];
+    let zeros = [0u8; PIECE_BYTES];
     let n = bytes.len();
-    let padding = records::PIECE_BYTES - n;
-    wire::buffer::put(out, at, &kind);
-    wire::buffer::put(out, at + 1, bytes);
-    wire::buffer::put(out, at + 1 + n, &zeros[..padding]);
+    let padding = PIECE_BYTES - n;
+    put(out, at, &[Kind::Piece as u8]);
+    put(out, at + 1, bytes);
+    put(out, at + 1 + n, &zeros[..padding]);
 }
 
 // Lays the pieces of some bytes over a buffer.
@@ -250,12 +196,9 @@ fn put_pieces(out: &mut [u8], first: usize, bytes: &[u8])
     ensures { out.new ≡ sets out.old first (pieces_for bytes.now) }
 {
     let mut at = first;
-    let mut from = 0;
-    while from < bytes.len() {
-        let end = from + reading::in_piece(bytes.len() - from);
-        put_piece(out, at, &bytes[from..end]);
-        at += records::PIECE_SIZE;
-        from = end;
+    for piece in bytes.chunks(PIECE_BYTES) {
+        put_piece(out, at, piece);
+        at += PIECE_SIZE;
     }
 }
 
@@ -265,9 +208,9 @@ fn put_packet(out: &mut [u8], at: usize, time: u64, port: u64, draw: u64, bytes:
     requires port_bound { (port < 65536) × (draw < 256) × (length bytes.now < 65536) }
     ensures { out.new ≡ sets out.old at (packet_bytes time port draw bytes.now) }
 {
-    put_headed(out, at, PACKET, time);
+    put_headed(out, at, Kind::Packet as u8, time);
     put_numbers(out, at + 9, port, draw, bytes.len());
-    put_pieces(out, at + records::PACKET_SIZE, bytes);
+    put_pieces(out, at + PACKET_SIZE, bytes);
 }
 
 // Lays an update of TXT over a buffer.
@@ -276,18 +219,18 @@ fn put_txt(out: &mut [u8], at: usize, time: u64, bytes: &[u8])
     requires bytes_len_bound { length bytes.now < 65536 }
     ensures { out.new ≡ sets out.old at (txt_bytes time bytes.now) }
 {
-    put_headed(out, at, TXT, time);
+    put_headed(out, at, Kind::Txt as u8, time);
     put16(out, at + 9, bytes.len() as u64);
-    put_pieces(out, at + records::TXT_SIZE, bytes);
+    put_pieces(out, at + TXT_SIZE, bytes);
 }
 
 // Lays an event that fits over a buffer.
 fn put_event(out: &mut [u8], at: usize, event: Event, bytes: &[u8])
-    requires { (n : ℕ) × (size_for event (length bytes.now) ≡ Size.Bytes n) × (at + n ≤ length out.old) }
+    requires { (n : ℕ) × (size_for event (length bytes.now) ≡ Ok n) × (at + n ≤ length out.old) }
     ensures { out.new ≡ sets out.old at (bytes_of (occurrence event bytes.now)) }
 {
     match event {
-        Event::Tick(time) => put_headed(out, at, TICK, time),
+        Event::Tick(time) => put_headed(out, at, Kind::Tick as u8, time),
         Event::Packet {
             time,
             from,
@@ -295,42 +238,44 @@ fn put_event(out: &mut [u8], at: usize, event: Event, bytes: &[u8])
             draw,
             hold,
         } => {
-            if reading::is_usual(from, hold) {
+            if is_usual(from, hold) {
                 put_packet(out, at, time, port, draw, bytes);
-                return;
+            } else {
+                put_source(out, at, from, hold);
+                put_packet(out, at + SOURCE_SIZE, time, port, draw, bytes);
             }
-            put_source(out, at, from, hold);
-            put_packet(out, at + records::SOURCE_SIZE, time, port, draw, bytes);
         }
         Event::Claim { last, claim, state } => {
-            put_headed(out, at, CLAIM, last);
+            put_headed(out, at, Kind::Claim as u8, last);
             put_claim(out, at + 9, claim, state);
         }
-        Event::Stop(time) => put_headed(out, at, STOP, time),
+        Event::Stop(time) => put_headed(out, at, Kind::Stop as u8, time),
         Event::Port { time, port } => {
-            put_headed(out, at, PORT, time);
+            put_headed(out, at, Kind::Port as u8, time);
             put16(out, at + 9, port);
         }
         Event::Txt(time) => put_txt(out, at, time, bytes),
     }
 }
 
-// Writes an event, with the bytes of a packet or of TXT, into a buffer from an offset on.
-pub fn write(out: &mut [u8], at: usize, event: Event, bytes: &[u8]) -> Written
+// Writes an event, with the bytes of a packet or of TXT, into a buffer from an offset on, and tells the offset behind it.
+pub fn write(out: &mut [u8], at: usize, event: Event, bytes: &[u8]) -> Result<usize, Unwritten>
     ensures answer { result ≡ written_to out.old at event bytes.now }
     ensures out { out.new ≡ out_after out.old at event bytes.now }
 {
     if out.len() < at {
-        return Written::NoRoom;
+        return Err(Unwritten::NoRoom);
     }
     match size_of(event, bytes.len()) {
-        Size::Unfit(offset) => Written::Unfit(at + offset),
-        Size::Bytes(n) => {
+        Err(unfit) => Err(Unwritten::Unfit {
+            at: at + unfit.behind,
+        }),
+        Ok(n) => {
             if out.len() - at < n {
-                return Written::NoRoom;
+                return Err(Unwritten::NoRoom);
             }
             put_event(out, at, event, bytes);
-            Written::End(at + n)
+            Ok(at + n)
         }
     }
 }

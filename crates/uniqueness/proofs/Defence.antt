@@ -1,5 +1,6 @@
 -- A held claim answers a probe for its name with each of its records: to the asker where the record was multicast less than a quarter of its TTL ago, else to
 -- all, since a quarter of a TTL is more than the 250 ms for which a record may be left out. Assumes nothing.
+use Rattle.std.specs.Prelude.{Option, Some, None}
 use mathlib.Core.Path.{◌≡◌, refl, sym, ap, subst, ◌∙◌}
 use mathlib.Core.Logic.{◌⊎◌, inl, inr}
 use mathlib.Core.Bool.{Bool, true, false, ◌&&◌, ◌||◌}
@@ -18,8 +19,6 @@ use Rattle.claims.specs.Claims.{claim_of, held_now}
 use Rattle.claims.specs.records.Own.{own_type, claim_for, has}
 use Rattle.claims.specs.declared.records.Claim as own
 use Rattle.claims.specs.declared.records.Own.{Own}
-use Rattle.claims.specs.declared.When.{When}
-use Rattle.claims.specs.declared.When.TheVariants.{Never, At}
 use Rattle.wire.specs.Lists.{some as some_of}
 use Rattle.claims.specs.answers.Answers.{heard_for, wanted_of, unicast_asks, quarter_ttl, judged_of}
 use Rattle.claims.specs.declared.answers.Received as received
@@ -72,9 +71,9 @@ long_quarter k type r (a e) = omega arith
 long_quarter k type r (aaaa e) = omega arith
 
 -- what is not recent by a longer gap is not by a shorter one
-not-recent : (w : When) (now gap longer : ℕ) → gap ≤ longer → recently w now longer ≡ false → recently w now gap ≡ false
-not-recent Never now gap longer l h = refl
-not-recent (At u) now gap longer l h = le-ltb (now - u) gap (let z : longer ≤ now - u = ltb-false (now - u) longer h in omega arith)
+not-recent : (w : Option ℕ) (now gap longer : ℕ) → gap ≤ longer → recently w now longer ≡ false → recently w now gap ≡ false
+not-recent None now gap longer l h = refl
+not-recent (Some u) now gap longer l h = le-ltb (now - u) gap (let z : longer ≤ now - u = ltb-false (now - u) longer h in omega arith)
 
 module _ (x : State) (ok : valid_setup x.setup ≡ true) (arrival : Arrival) (port : arrival.port ≡ 5353) (t : Setup) (k : Claim) (type : ℕ) (d : List ℕ) where
   abbrev now : ℕ

@@ -1,4 +1,5 @@
 -- Our responder meets the laws of `link`, so demand 3 holds of it. Assumes nothing.
+use Rattle.std.specs.Prelude.{Option, Some}
 use mathlib.Core.Path.{◌≡◌, refl, sym, ap, subst, ◌∙◌}
 use mathlib.Core.Logic.{◌⊎◌, inl, inr}
 use mathlib.Core.Bool.{true}
@@ -10,8 +11,6 @@ use Rattle.wire.proofs.case_folding.Equal.{same_sym}
 use Rattle.own.specs.declared.records.Setup.{Setup}
 use Rattle.own.specs.records.Setups.{valid_setup}
 use Rattle.claims.specs.Claims.{due_of}
-use Rattle.claims.specs.declared.When.{When}
-use Rattle.claims.specs.declared.When.TheVariants.{At}
 use Rattle.claims.specs.declared.Progress.{Progress}
 use Rattle.claims.specs.steps.Steps.{steps, step_due}
 use Rattle.claims.specs.declared.steps.Step.{Step}
@@ -39,23 +38,23 @@ use Rattle.uniqueness.proofs.Defence.{defends}
 
 -- ---- the due steps
 
-due-among : (s : Step) (ss : List Step) (progress : Progress) (u : ℕ) → Among s ss → step_due s progress ≡ At u → Among u (due_times ss progress)
+due-among : (s : Step) (ss : List Step) (progress : Progress) (u : ℕ) → Among s ss → step_due s progress ≡ Some u → Among u (due_times ss progress)
 unfolding due_times
 due-among s [] progress u h e = absurd h
 due-among s (i ∷ is) progress u (inl q) e =
     in_append u (listed (step_due i progress)) (due_times is progress)
-    (subst (λ (w : When). Among u (listed w)) (sym (ap (λ (j : Step). step_due j progress) (sym q) ∙ e)) (inl refl))
+    (subst (λ (w : Option ℕ). Among u (listed w)) (sym (ap (λ (j : Step). step_due j progress) (sym q) ∙ e)) (inl refl))
 due-among s (i ∷ is) progress u (inr h) e = in_tail u (listed (step_due i progress)) (due_times is progress) (due-among s is progress u h e)
 
 among_steps : (k : Claim) → Among (OfClaim (own_claim k)) steps
 among_steps instance = inl refl
 among_steps host = inr (inl refl)
 
-due_in_lem : (x : State) (k : Claim) (u : ℕ) → due_of (claim_at x k) ≡ At u → Among u (due x)
+due_in_lem : (x : State) (k : Claim) (u : ℕ) → due_of (claim_at x k) ≡ Some u → Among u (due x)
 unfolding due
 due_in_lem x k u e = due-among (OfClaim (own_claim k)) steps x.progress u (among_steps k) e
 
-waiting_due : (c : ClaimState) (u : ℕ) → stage_of c ≡ law.waiting u → due_of c ≡ At u
+waiting_due : (c : ClaimState) (u : ℕ) → stage_of c ≡ law.waiting u → due_of c ≡ Some u
 waiting_due (Waiting v) u e = cc
 waiting_due (Probing1 v) u e = clash (cc)
 waiting_due (Probing2 v) u e = clash (cc)
@@ -65,7 +64,7 @@ waiting_due (Announced v) u e = clash (cc)
 waiting_due Held u e = clash (cc)
 waiting_due Lost u e = clash (cc)
 
-probing_due : (c : ClaimState) (i u : ℕ) → stage_of c ≡ law.probing i u → due_of c ≡ At u
+probing_due : (c : ClaimState) (i u : ℕ) → stage_of c ≡ law.probing i u → due_of c ≡ Some u
 probing_due (Waiting v) i u e = clash (cc)
 probing_due (Probing1 v) i u e = cc
 probing_due (Probing2 v) i u e = cc

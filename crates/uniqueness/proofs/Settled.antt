@@ -1,5 +1,6 @@
 -- The premise about due steps can be met: a sound state (any that an accepted call returns) is ticked at any time from its last one to 2^62, and after
 -- as many ticks in one millisecond as a tick walks steps, seven, nothing is due then. Assumes nothing.
+use Rattle.std.specs.Prelude.{Option, Some, None}
 use mathlib.Core.Path.{◌≡◌, refl, ap, subst, ◌∙◌}
 use mathlib.Core.Logic.{◌⊎◌, inl, inr}
 use mathlib.Core.Bool.{false}
@@ -11,8 +12,6 @@ use borrow.Author.Tests.{le-ltb, leb-false}
 use mathlib.Mathlib.Data.Bool.Basic.{or-eq-false-eq-eq-false-and-eq-false as neither}
 use Rattle.claims.specs.Time.{last_time, due_by}
 use Rattle.claims.specs.records.Sets.{some_of}
-use Rattle.claims.specs.declared.When.{When}
-use Rattle.claims.specs.declared.When.TheVariants.{Never, At}
 use Rattle.claims.specs.declared.Progress.{Progress}
 use Rattle.claims.specs.Refusals.{wrong_time}
 use Rattle.claims.specs.steps.Steps.{steps, step_due, more_due}
@@ -74,10 +73,10 @@ module _ (t : Tick) (time : t.time ≤ last_time) (long : 1452 ≤ t.room) where
   last-next x = rw (tick-last now x.setup.hasaaaa x.progress) (omega arith)
 
   -- nothing is due then
-  in_listed : (w : When) (u : ℕ) → Among u (listed w) → due_by w now ≡ false → now < u
-  in_listed Never u h e = absurd h
-  in_listed (At v) u (inl e) f = let l : now < v = leb-false v now f in omega arith
-  in_listed (At v) u (inr h) f = absurd h
+  in_listed : (w : Option ℕ) (u : ℕ) → Among u (listed w) → due_by w now ≡ false → now < u
+  in_listed None u h e = absurd h
+  in_listed (Some v) u (inl e) f = let l : now < v = leb-false v now f in omega arith
+  in_listed (Some v) u (inr h) f = absurd h
 
   none-due : (ss : List Step) (progress : Progress) → some_of (λ s. due_by (step_due s progress) now) ss ≡ false → (u : ℕ) → Among u (due_times ss progress) → now < u
   unfolding due_times some_of

@@ -1,6 +1,6 @@
 -- Our responder (the dock of the specification) as a `Responder` of `link`: its calls are what the contracts of the functions give outright, its
 -- names and data are the set-up's, and conflicting and later are the tests that receive itself makes. Assumes nothing: these are definitions.
-use Rattle.std.specs.Prelude.{Bool, cond, ◌&&◌, ◌||◌, List, [], ◌∷◌, ◌++◌, ℕ, eqb}
+use Rattle.std.specs.Prelude.{Bool, cond, ◌&&◌, ◌||◌, List, [], ◌∷◌, ◌++◌, ℕ, eqb, Option, Some, None}
 use Rattle.std.proofs.Math.Option.{Option, none, some}
 use Rattle.wire.specs.case_folding.Fold.{same_name}
 use Rattle.wire.specs.message.Message.{Record, Message, is_response, all_records}
@@ -14,8 +14,6 @@ use Rattle.claims.specs.declared.records.Claim as own
 use Rattle.claims.specs.declared.records.Claim.TheVariants.{Instance, Host}
 use Rattle.claims.specs.declared.records.Own.{Own}
 use Rattle.claims.specs.declared.holds.Address.{Address}
-use Rattle.claims.specs.declared.When.{When}
-use Rattle.claims.specs.declared.When.TheVariants.{Never, At}
 use Rattle.claims.specs.declared.Progress.{Progress}
 use Rattle.claims.specs.steps.Steps.{steps, step_due}
 use Rattle.claims.specs.declared.steps.Step.{Step}
@@ -94,9 +92,9 @@ abbrev pub revise : Update → Setup → Setup
 revise u s = revised s u.new
 
 -- a time, where there is one
-abbrev pub listed : When → List ℕ
-listed Never = []
-listed (At u) = u ∷ []
+abbrev pub listed : Option ℕ → List ℕ
+listed None = []
+listed (Some u) = u ∷ []
 
 -- the times at which steps are due
 unfoldable pub due_times : List Step → Progress → List ℕ

@@ -1,4 +1,5 @@
 -- The last multicasts, one behind the other: each is read where it stands. Assumes nothing.
+use Rattle.std.specs.Prelude.{None}
 use mathlib.Core.Path.{◌≡◌, refl, sym, ap, subst, ◌∙◌}
 use mathlib.Core.List.{List, [], ◌∷◌, map}
 use Prim.Native.Nat.{ℕ, zero, suc, ◌+◌, ◌*◌, ◌<◌}
@@ -9,7 +10,6 @@ use Rattle.claims.specs.records.Own.{all, records, index_of, record_at}
 use Rattle.claims.specs.Time.{last_of, each_last, sent_of}
 use Rattle.claims.specs.declared.records.Own.{Own}
 use Rattle.claims.specs.declared.records.Own.TheVariants.{Ptr}
-use Rattle.claims.specs.declared.When.TheVariants.{Never}
 use Rattle.claims.specs.declared.Multicast.{Multicast}
 use Rattle.claims.specs.declared.Multicasts.{Multicasts}
 use Rattle.claims.proofs.records.Sets.{index_low, at-index}
@@ -52,15 +52,15 @@ index_at i h = sym (get_or-map index_of all i Ptr) ∙ counted-at 0 records i h 
 -- last multicasts that are as many as the records are those of the records
 pub of_each : (m : Multicasts) → length m.of ≡ records → each_last (λ o. sent_of o m) ≡ m
 unfolding record_at
-of_each m e = λ j. record { of = ext_get_or (last_of Never) (map each all) m.of (sym e) at j }
+of_each m e = λ j. record { of = ext_get_or (last_of None) (map each all) m.of (sym e) at j }
   where
     each : Own → Multicast
     each o = last_of (sent_of o m)
 
-    at : (i : ℕ) → i < records → get_or (map each all) i (last_of Never) ≡ get_or m.of i (last_of Never)
+    at : (i : ℕ) → i < records → get_or (map each all) i (last_of None) ≡ get_or m.of i (last_of None)
     at i h =
-        get_d_any (map each all) i (last_of Never) (each Ptr) h ∙ get_or-map each all i Ptr
-        ∙ ap (λ (k : ℕ). get_or m.of k (last_of Never)) (index_at i h)
+        get_d_any (map each all) i (last_of None) (each Ptr) h ∙ get_or-map each all i Ptr
+        ∙ ap (λ (k : ℕ). get_or m.of k (last_of None)) (index_at i h)
 
 -- ---- in the bytes
 

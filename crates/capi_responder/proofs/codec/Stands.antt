@@ -1,4 +1,5 @@
 -- Bytes that stand in a buffer, and what they read as. Assumes nothing.
+use Rattle.std.specs.Prelude.{Option, Some, None}
 use mathlib.Core.Path.{◌≡◌, refl, sym, ap, ◌∙◌}
 use mathlib.Core.Bool.{Bool, true, false, cond}
 use mathlib.Core.List.{List, [], ◌∷◌, ◌++◌, append-nil, append_assoc}
@@ -8,8 +9,6 @@ use lib.Dec.{eqb}
 use lib.ListN.{length, take, drop, get_or}
 use lib.Seq.{take_at, drop_at, drop-drop, get_or-drop}
 use Rattle.wire.specs.octets.Octets.{byte_at, word16, word32}
-use Rattle.claims.specs.declared.When.{When}
-use Rattle.claims.specs.declared.When.TheVariants.{Never, At}
 use Rattle.capi_responder.specs.codec.Numbers.{word64, bytes64, Fits64}
 use Rattle.capi_responder.specs.codec.Parts.{part_at, flag_at, when_at}
 use Rattle.capi_responder.specs.codec.Codec.{when_time, case_bytes, when_bytes, bytes16, flag_byte}
@@ -81,11 +80,11 @@ module _ {b : List ℕ} {at : ℕ} where
   pub case_read : (tag n : ℕ) → Fits64 n → Stands b at (case_bytes tag n) → word64 b (at + 1) ≡ n
   case_read tag n h s = number_read n h (behind (tag ∷ []) (bytes64 n) s 1 refl)
 
-  time_read : (f : Bool) (n : ℕ) → Fits64 n → Stands b at (case_bytes (flag_byte f) n) → when_at b at ≡ cond f (At n) Never
+  time_read : (f : Bool) (n : ℕ) → Fits64 n → Stands b at (case_bytes (flag_byte f) n) → when_at b at ≡ cond f (Some n) None
   unfolding when_at
   time_read f n h s =
-      ap (λ (g : Bool). cond g (At (word64 b (at + 1))) Never) (flag_read f (bytes64 n) s) ∙ ap (λ (t : ℕ). cond f (At t) Never) (case_read (flag_byte f) n h s)
+      ap (λ (g : Bool). cond g (Some (word64 b (at + 1))) None) (flag_read f (bytes64 n) s) ∙ ap (λ (t : ℕ). cond f (Some t) None) (case_read (flag_byte f) n h s)
 
-  pub when_read : (w : When) → Fits64 (when_time w) → Stands b at (when_bytes w) → when_at b at ≡ w
-  when_read Never h s = time_read false 0 h s
-  when_read (At time) h s = time_read true time h s
+  pub when_read : (w : Option ℕ) → Fits64 (when_time w) → Stands b at (when_bytes w) → when_at b at ≡ w
+  when_read None h s = time_read false 0 h s
+  when_read (Some time) h s = time_read true time h s

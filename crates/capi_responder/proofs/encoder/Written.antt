@@ -1,4 +1,5 @@
 -- What the writing functions lay down, put together. Assumes nothing.
+use Rattle.std.specs.Prelude.{Option}
 use mathlib.Core.Path.{◌≡◌, refl, sym, ap, subst, ◌∙◌}
 use mathlib.Core.List.{List, [], ◌∷◌, ◌++◌, append_assoc, append-nil}
 use Prim.Native.Nat.{ℕ, ◌+◌, ◌*◌, ◌<◌, ◌≤◌}
@@ -12,7 +13,6 @@ use Rattle.claims.specs.Time.{sent_of}
 use Rattle.claims.specs.declared.records.Own.{Own}
 use Rattle.claims.specs.declared.records.Own.TheVariants.{Ptr}
 use Rattle.claims.specs.declared.ClaimState.{ClaimState}
-use Rattle.claims.specs.declared.When.{When}
 use Rattle.claims.specs.declared.Multicasts.{Multicasts}
 use Rattle.claims.specs.declared.holds.Hold.{Hold}
 use Rattle.claims.specs.declared.holds.Holds.{Holds}
@@ -36,7 +36,7 @@ case_as h e f = (record { laid = rw (← e, ← f) h.0.laid; long = h.0.long }, 
 abbrev PutClaim : List ℕ → ℕ → ClaimState → List ℕ → Type 0
 PutClaim was at c out = Laid was at (claim_bytes c) out × Fits64 (claim_due c)
 
-abbrev PutWhen : List ℕ → ℕ → When → List ℕ → Type 0
+abbrev PutWhen : List ℕ → ℕ → Option ℕ → List ℕ → Type 0
 PutWhen was at w out = Laid was at (when_bytes w) out × Fits64 (when_time w)
 
 abbrev PutNumber : List ℕ → ℕ → ℕ → List ℕ → Type 0
@@ -65,16 +65,16 @@ module _ (m : Multicasts) where
   none_written was = record { laid = record { laid = refl; long = refl }; times = λ k h. absurd (omega arith) }
 
   module _ {was mid : List ℕ} (i : ℕ) (w : Writing was mid i) where
-    pub one_written : {out : List ℕ} → i < records → (v : When) → v ≡ sent_of (record_at i) m → PutWhen mid (layout.multicasts + i * layout.case_size) v out → Writing was out (i + 1)
+    pub one_written : {out : List ℕ} → i < records → (v : Option ℕ) → v ≡ sent_of (record_at i) m → PutWhen mid (layout.multicasts + i * layout.case_size) v out → Writing was out (i + 1)
     unfolding record_at last_bytes
     one_written h v e p =
         let n : length (last_bytes m (take i all)) ≡ i * layout.case_size = last-length (take i all) ∙ ap (λ (k : ℕ). k * layout.case_size) (length-take-le i all (omega arith)) in
         let more : last_bytes m (take i all) ++ when_bytes v ≡ last_bytes m (take (i + 1) all) =
-        ap (λ (x : When). last_bytes m (take i all) ++ when_bytes x) e ∙ ap (λ (l : List ℕ). last_bytes m (take i all) ++ l) (sym (append-nil (when_bytes (sent_of (record_at i) m))))
+        ap (λ (x : Option ℕ). last_bytes m (take i all) ++ when_bytes x) e ∙ ap (λ (l : List ℕ). last_bytes m (take i all) ++ l) (sym (append-nil (when_bytes (sent_of (record_at i) m))))
         ∙ sym (last-append (take i all) (record_at i ∷ [])) ∙ ap (last_bytes m) (sym (take-suc all i Ptr h)) ∙ ap (λ (k : ℕ). last_bytes m (take k all)) (sym (add-one i)) in
         record {
           laid = laid_as (laid_next (last_bytes m (take i all)) (when_bytes v) (ap (λ (k : ℕ). layout.multicasts + k) (sym n)) w.laid p.0) more;
-          times = below_more (λ (k : ℕ). Fits64 (when_time (sent_of (record_at k) m))) i w.times (subst (λ (x : When). Fits64 (when_time x)) e p.1);
+          times = below_more (λ (k : ℕ). Fits64 (when_time (sent_of (record_at k) m))) i w.times (subst (λ (x : Option ℕ). Fits64 (when_time x)) e p.1);
         }
 
     pub all-written : records ≤ i → length m.of ≡ records → Laid was layout.multicasts (multicasts_bytes m) mid × MulticastsFit m

@@ -1,4 +1,5 @@
 -- A claim, the reply and a last multicast at rest: what is read of their bytes, and that the bytes of what is read stand there. Assumes nothing.
+use Rattle.std.specs.Prelude.{Option, Some, None}
 use mathlib.Core.Path.{◌≡◌, refl, sym, ap, ◌∙◌}
 use mathlib.Core.Bool.{Bool, true, false, cond, ◌&&◌}
 use mathlib.Core.List.{List, ◌++◌}
@@ -11,8 +12,6 @@ use lib.ListN.{length, drop}
 use Rattle.wire.specs.octets.Octets.{byte_at}
 use Rattle.claims.specs.Time.{last_kept, at_most, due_by}
 use Rattle.claims.specs.Claims.{due_of}
-use Rattle.claims.specs.declared.When.{When}
-use Rattle.claims.specs.declared.When.TheVariants.{Never, At}
 use Rattle.capi_responder.specs.codec.Numbers.{word64, Fits64}
 use Rattle.capi_responder.specs.codec.Parts.{claim_of, claim_at, when_at}
 use Rattle.capi_responder.specs.codec.Codec.{claim_tag, claim_due, when_time, claim_bytes, when_bytes}
@@ -21,10 +20,10 @@ use Rattle.capi_responder.proofs.idle.Bytes.{Bytes, case_stands}
 
 -- ---- a claim by its case
 
-abbrev Told : ℕ → ℕ → When → Type 0
+abbrev Told : ℕ → ℕ → Option ℕ → Type 0
 Told tag due w = (claim_tag (claim_of tag due) ≡ tag) × (claim_due (claim_of tag due) ≡ due) × (due_of (claim_of tag due) ≡ w)
 
-moving : (tag due : ℕ) → tag < 6 → Told tag due (At due)
+moving : (tag due : ℕ) → tag < 6 → Told tag due (Some due)
 moving zero due h = (refl, refl, refl)
 moving (suc zero) due h = (refl, refl, refl)
 moving (suc (suc zero)) due h = (refl, refl, refl)
@@ -33,7 +32,7 @@ moving (suc (suc (suc (suc zero)))) due h = (refl, refl, refl)
 moving (suc (suc (suc (suc (suc zero))))) due h = (refl, refl, refl)
 moving (suc (suc (suc (suc (suc (suc n)))))) due h = absurd (omega arith)
 
-settled : (tag : ℕ) → 6 ≤ tag → tag < 8 → Told tag 0 Never
+settled : (tag : ℕ) → 6 ≤ tag → tag < 8 → Told tag 0 None
 settled zero h k = absurd (omega arith)
 settled (suc zero) h k = absurd (omega arith)
 settled (suc (suc zero)) h k = absurd (omega arith)
@@ -45,14 +44,14 @@ settled (suc (suc (suc (suc (suc (suc (suc zero))))))) h k = (refl, refl, refl)
 settled (suc (suc (suc (suc (suc (suc (suc (suc n)))))))) h k = absurd (omega arith)
 
 -- what is known of a time that rests
-pub record Rests (w : When) (time : ℕ) : Type 0 where
+pub record Rests (w : Option ℕ) (time : ℕ) : Type 0 where
   pub kept : at_most last_kept w ≡ true
   pub rests : due_by w time ≡ false
 
-never_rests : (time : ℕ) → Rests Never time
+never_rests : (time : ℕ) → Rests None time
 never_rests time = record { kept = refl; rests = refl }
 
-to_come_lem : (due time : ℕ) → to_come due time ≡ true → Rests (At due) time × Fits64 due
+to_come_lem : (due time : ℕ) → to_come due time ≡ true → Rests (Some due) time × Fits64 due
 to_come_lem due time h =
     let f = (both (ltb time due) (leb due last_kept)).0 h in
     let l : time < due = ltb-true _ _ f.0 in
@@ -78,11 +77,11 @@ module _ (b : List ℕ) (bytes : Bytes b) (at : ℕ) (long : at + 9 ≤ length b
   abbrev n : ℕ
   n = word64 b (at + 1)
 
-  claim_told : {w : When} (time : ℕ) → Told tag n w → Rests w time → Fits64 n → ClaimAtRest b at time
+  claim_told : {w : Option ℕ} (time : ℕ) → Told tag n w → Rests w time → Fits64 n → ClaimAtRest b at time
   unfolding claim_at
   claim_told time t r f = record {
     same = case_stands b bytes at _ _ long (sym t.0) (sym t.1);
-    rests = record { kept = ap (at_most last_kept) t.2 ∙ r.kept; rests = ap (λ (v : When). due_by v time) t.2 ∙ r.rests };
+    rests = record { kept = ap (at_most last_kept) t.2 ∙ r.kept; rests = ap (λ (v : Option ℕ). due_by v time) t.2 ∙ r.rests };
     fits = omega (arith, t.1);
   }
 
@@ -97,24 +96,24 @@ module _ (b : List ℕ) (bytes : Bytes b) (at : ℕ) (long : at + 9 ≤ length b
           let z : n ≡ 0 = eqb-true _ _ f.1 in
           claim_told time (rw z (settled tag (ltb-false _ _ e) (ltb-true _ _ f.0))) (never_rests time) (omega arith)
 
-  when_never : byte_at b at ≡ 0 → when_at b at ≡ Never
+  when_never : byte_at b at ≡ 0 → when_at b at ≡ None
   unfolding when_at
-  when_never e = ap (λ (v : ℕ). cond (eqb (v % 2) 1) (At n) Never) e
+  when_never e = ap (λ (v : ℕ). cond (eqb (v % 2) 1) (Some n) None) e
 
-  when_at_lem : byte_at b at ≡ 1 → when_at b at ≡ At n
+  when_at_lem : byte_at b at ≡ 1 → when_at b at ≡ Some n
   unfolding when_at
-  when_at_lem e = ap (λ (v : ℕ). cond (eqb (v % 2) 1) (At n) Never) e
+  when_at_lem e = ap (λ (v : ℕ). cond (eqb (v % 2) 1) (Some n) None) e
 
   unset : byte_at b at ≡ 0 → n ≡ 0 → WhenAtRest b at
   unset e z = record {
-    same = case_stands b bytes at 0 0 long e z ∙ ap (λ (v : When). when_bytes v ++ drop (at + 9) b) (sym (when_never e));
+    same = case_stands b bytes at 0 0 long e z ∙ ap (λ (v : Option ℕ). when_bytes v ++ drop (at + 9) b) (sym (when_never e));
     kept = ap (at_most last_kept) (when_never e);
     fits = omega (arith, ap when_time (when_never e));
   }
 
   set : byte_at b at ≡ 1 → n ≤ last_kept → WhenAtRest b at
   set e k = record {
-    same = case_stands b bytes at 1 n long e refl ∙ ap (λ (v : When). when_bytes v ++ drop (at + 9) b) (sym (when_at_lem e));
+    same = case_stands b bytes at 1 n long e refl ∙ ap (λ (v : Option ℕ). when_bytes v ++ drop (at + 9) b) (sym (when_at_lem e));
     kept = ap (at_most last_kept) (when_at_lem e) ∙ le_kept;
     fits = omega (arith, ap when_time (when_at_lem e));
   }
@@ -135,8 +134,8 @@ module _ (b : List ℕ) (bytes : Bytes b) (at : ℕ) (long : at + 9 ≤ length b
   reply-rests time h = go (eqb tag 0) refl h
     where
       go : (v : Bool) → eqb tag 0 ≡ v → cond v (eqb n 0) (eqb tag 1 && to_come n time) ≡ true → WhenAtRest b at × (due_by (when_at b at) time ≡ false)
-      go true e g = (unset (eqb-true _ _ e) (eqb-true _ _ g), ap (λ (v : When). due_by v time) (when_never (eqb-true _ _ e)))
+      go true e g = (unset (eqb-true _ _ e) (eqb-true _ _ g), ap (λ (v : Option ℕ). due_by v time) (when_never (eqb-true _ _ e)))
       go false e g =
           let f = (both (eqb tag 1) (to_come n time)).0 g in
           let m = (both (ltb time n) (leb n last_kept)).0 f.1 in
-          (set (eqb-true _ _ f.0) (leb-true _ _ m.1), ap (λ (v : When). due_by v time) (when_at_lem (eqb-true _ _ f.0)) ∙ (to_come_lem n time f.1).0.rests)
+          (set (eqb-true _ _ f.0) (leb-true _ _ m.1), ap (λ (v : Option ℕ). due_by v time) (when_at_lem (eqb-true _ _ f.0)) ∙ (to_come_lem n time f.1).0.rests)

@@ -1,5 +1,5 @@
 -- A responder's state and its bytes. Assumes nothing: these are definitions.
-use Rattle.std.specs.Prelude.{ℕ, ◌/◌, ◌%◌, ◌≡◌, Bool, true, false, cond, ◌&&◌, List, [], ◌∷◌, ◌++◌, map, length, take, drop, eqb}
+use Rattle.std.specs.Prelude.{ℕ, ◌/◌, ◌%◌, ◌≡◌, Bool, true, false, cond, ◌&&◌, List, [], ◌∷◌, ◌++◌, map, length, take, drop, eqb, Option, Some, None}
 use Rattle.own.specs.declared.records.Label.{Label}
 use Rattle.own.specs.declared.records.Service.{Service}
 use Rattle.own.specs.declared.records.Strings.{Strings}
@@ -10,8 +10,6 @@ use Rattle.claims.specs.declared.records.Own.{Own}
 use Rattle.claims.specs.declared.records.Set.{Set}
 use Rattle.claims.specs.declared.ClaimState.{ClaimState}
 use Rattle.claims.specs.declared.ClaimState.TheVariants.{Waiting, Probing1, Probing2, Probing3, Deferred, Announced, Held, Lost}
-use Rattle.claims.specs.declared.When.{When}
-use Rattle.claims.specs.declared.When.TheVariants.{Never, At}
 use Rattle.claims.specs.declared.Multicasts.{Multicasts}
 use Rattle.claims.specs.declared.holds.Hold.{Hold}
 use Rattle.claims.specs.declared.holds.Holds.{Holds}
@@ -54,13 +52,13 @@ claim_due (Announced due) = due
 claim_due Held = 0
 claim_due Lost = 0
 
-abbrev pub when_flag : When → ℕ
-when_flag Never = 0
-when_flag (At time) = 1
+abbrev pub when_flag : Option ℕ → ℕ
+when_flag None = 0
+when_flag (Some time) = 1
 
-abbrev pub when_time : When → ℕ
-when_time Never = 0
-when_time (At time) = time
+abbrev pub when_time : Option ℕ → ℕ
+when_time None = 0
+when_time (Some time) = time
 
 -- a case byte and its number
 abbrev pub case_bytes : ℕ → ℕ → List ℕ
@@ -69,7 +67,7 @@ case_bytes tag n = tag ∷ bytes64 n
 abbrev pub claim_bytes : ClaimState → List ℕ
 claim_bytes c = case_bytes (claim_tag c) (claim_due c)
 
-abbrev pub when_bytes : When → List ℕ
+abbrev pub when_bytes : Option ℕ → List ℕ
 when_bytes w = case_bytes (when_flag w) (when_time w)
 
 -- the last multicasts of some records, one behind the other

@@ -1,5 +1,5 @@
 -- What the bytes of a state say, part by part: every string of bytes of its length reads as a state. Assumes nothing: these are definitions.
-use Rattle.std.specs.Prelude.{ℕ, ◌+◌, ◌%◌, Bool, cond, List, take, drop, eqb}
+use Rattle.std.specs.Prelude.{ℕ, ◌+◌, ◌%◌, Bool, cond, List, take, drop, eqb, Option, Some, None}
 use Rattle.wire.specs.octets.Octets.{byte_at, word16}
 use Rattle.own.specs.declared.records.Label.{Label}
 use Rattle.own.specs.declared.records.Service.{Service}
@@ -11,8 +11,6 @@ use Rattle.claims.specs.declared.records.Own.{Own}
 use Rattle.claims.specs.declared.records.Set.{Set}
 use Rattle.claims.specs.declared.ClaimState.{ClaimState}
 use Rattle.claims.specs.declared.ClaimState.TheVariants.{Waiting, Probing1, Probing2, Probing3, Deferred, Announced, Held, Lost}
-use Rattle.claims.specs.declared.When.{When}
-use Rattle.claims.specs.declared.When.TheVariants.{Never, At}
 use Rattle.claims.specs.declared.Multicasts.{Multicasts}
 use Rattle.claims.specs.declared.holds.Hold.{Hold}
 use Rattle.claims.specs.declared.holds.Holds.{Holds}
@@ -72,11 +70,11 @@ unfoldable pub claim_at : List ℕ → ℕ → ClaimState
 claim_at b at = claim_of (byte_at b at) (word64 b (at + 1))
 
 -- a time that is set or not, by the case's low bit
-unfoldable pub when_at : List ℕ → ℕ → When
-when_at b at = cond (flag_at b at) (At (word64 b (at + 1))) Never
+unfoldable pub when_at : List ℕ → ℕ → Option ℕ
+when_at b at = cond (flag_at b at) (Some (word64 b (at + 1))) None
 
 -- when an own record was last multicast
-unfoldable pub sent_at : List ℕ → Own → When
+unfoldable pub sent_at : List ℕ → Own → Option ℕ
 sent_at b o = when_at b (layout.multicast (index_of o))
 
 unfoldable pub multicasts_at : List ℕ → Multicasts

@@ -3,19 +3,18 @@ use crate::output::{bad_line, bytes, finish, first, number, refused, word};
 use console_text::fields::{are_bytes, has_arguments};
 use console_text::hex::fill;
 use console_text::lines::{field, front};
-use wire::message::{
-    Layout, MessageRead, QuestionAt, QuestionRead, RecordAt, RecordRead, Section, question_at,
-    read_message, record_at,
-};
-use wire::names::{Name, Span, expand};
+use wire::expansion::{open, view};
+use wire::message::{Layout, QuestionAt, RecordAt, Section, question_at, read_message, record_at};
+use wire::names::{Span, expand};
+use wire::rdata::{form_in, name_in, part};
 
 // Adds the name at an offset of a packet, uncompressed.
 fn name(p: &[u8], at: usize, rt: &impl Print, text: &mut [u8; 4096], used: usize) -> usize {
     let e = expand(p, at);
-    match e.name {
-        Name::Found(span) => bytes(rt, text, used, front(&e.bytes, span.len)),
-        Name::Malformed => used,
-    }
+    let Some(span) = e.name else {
+        return used;
+    };
+    bytes(rt, text, used, front(&e.bytes, span.len))
 }
 
 // Adds the two numbers of a name: how many labels it has, and how long the first is.
@@ -25,13 +24,7 @@ fn numbers(span: Span, rt: &impl Print, text: &mut [u8; 4096], used: usize) -> u
 }
 
 // Adds a question: ` q NAME LABELS FIRST TYPE CLASS`.
-fn question(
-    p: &[u8],
-    q: wire::message::QuestionAt,
-    rt: &impl Print,
-    text: &mut [u8; 4096],
-    used: usize,
-) -> usize {
+fn question(p: &[u8], q: QuestionAt, rt: &impl Print, text: &mut [u8; 4096], used: usize) -> usize {
     let used = word(rt, text, used, b"q");
     let used = name(p, q.name, rt, text, used);
     let used = numbers(q.span, rt, text, used);
@@ -40,45 +33,28 @@ fn question(
 }
 
 // Adds the rdata of a record, the name in PTR, SRV and NSEC expanded.
-fn rdata(
-    p: &[u8],
-    r: wire::message::RecordAt,
-    rt: &impl Print,
-    text: &mut [u8; 4096],
-    used: usize,
-) -> usize {
-    let opened = wire::expansion::open(p, r);
-    bytes(
-        rt,
-        text,
-        used,
-        wire::expansion::view(p, &opened.bytes, opened.len, r),
-    )
+fn rdata(p: &[u8], r: RecordAt, rt: &impl Print, text: &mut [u8; 4096], used: usize) -> usize {
+    let opened = open(p, r);
+    bytes(rt, text, used, view(p, &opened.bytes, opened.len, r))
 }
 
 // Adds the two numbers of the name in rdata that holds one, as that of PTR, SRV and an NSEC of the restricted kind does.
-fn target(
-    p: &[u8],
-    r: wire::message::RecordAt,
-    rt: &impl Print,
-    text: &mut [u8; 4096],
-    used: usize,
-) -> usize {
-    let d = wire::rdata::part(p, r.rdata, r.rdlength);
-    let held = wire::rdata::form_in(p, r, d);
+fn target(p: &[u8], r: RecordAt, rt: &impl Print, text: &mut [u8; 4096], used: usize) -> usize {
+    let d = part(p, r.rdata, r.rdlength);
+    let held = form_in(p, r, d);
     if !held.named {
         return used;
     }
-    match wire::rdata::name_in(p, r.rdata, d, held.before, held.behind) {
-        Name::Found(span) => numbers(span, rt, text, used),
-        Name::Malformed => used,
-    }
+    let Some(span) = name_in(p, r.rdata, d, held.before, held.behind) else {
+        return used;
+    };
+    numbers(span, rt, text, used)
 }
 
 // Adds a record: ` r SECTION NAME LABELS FIRST TYPE CLASS TTL RDATA`, and behind the rdata of PTR, SRV and NSEC ` LABELS FIRST` of the name in it.
 fn record(
     p: &[u8],
-    r: wire::message::RecordAt,
+    r: RecordAt,
     section: &[u8],
     rt: &impl Print,
     text: &mut [u8; 4096],
@@ -96,25 +72,15 @@ fn record(
 }
 
 // Adds the questions of a message.
-fn questions(
-    p: &[u8],
-    s: wire::message::Section,
-    rt: &impl Print,
-    text: &mut [u8; 4096],
-    used: usize,
-) -> usize {
+fn questions(p: &[u8], s: Section, rt: &impl Print, text: &mut [u8; 4096], used: usize) -> usize {
     let mut taken = used;
     let mut at = s.at;
     for _ in 0..s.count {
-        match question_at(p, at) {
-            QuestionRead::Found(q) => {
-                taken = question(p, q, rt, text, taken);
-                at = q.next;
-            }
-            QuestionRead::Malformed => {
-                return taken;
-            }
-        }
+        let Some(q) = question_at(p, at) else {
+            return taken;
+        };
+        taken = question(p, q, rt, text, taken);
+        at = q.next;
     }
     taken
 }
@@ -122,7 +88,7 @@ fn questions(
 // Adds the records of a section of a message.
 fn records(
     p: &[u8],
-    s: wire::message::Section,
+    s: Section,
     section: &[u8],
     rt: &impl Print,
     text: &mut [u8; 4096],
@@ -131,21 +97,17 @@ fn records(
     let mut taken = used;
     let mut at = s.at;
     for _ in 0..s.count {
-        match record_at(p, at) {
-            RecordRead::Found(r) => {
-                taken = record(p, r, section, rt, text, taken);
-                at = r.next;
-            }
-            RecordRead::Malformed => {
-                return taken;
-            }
-        }
+        let Some(r) = record_at(p, at) else {
+            return taken;
+        };
+        taken = record(p, r, section, rt, text, taken);
+        at = r.next;
     }
     taken
 }
 
 // The answer for a message that is well formed.
-fn message(p: &[u8], m: wire::message::Layout, rt: &impl Print, text: &mut [u8; 4096]) {
+fn message(p: &[u8], m: Layout, rt: &impl Print, text: &mut [u8; 4096]) {
     let used = first(rt, text, b"message");
     let used = number(rt, text, used, m.id as u64);
     let used = number(rt, text, used, m.flags as u64);
@@ -159,8 +121,8 @@ fn message(p: &[u8], m: wire::message::Layout, rt: &impl Print, text: &mut [u8; 
 // The answer for a packet.
 fn shown(p: &[u8], rt: &impl Print, text: &mut [u8; 4096]) {
     match read_message(p) {
-        MessageRead::Read(m) => message(p, m, rt, text),
-        MessageRead::Refused(n) => refused(rt, text, n as u64),
+        Ok(m) => message(p, m, rt, text),
+        Err(refusal) => refused(rt, text, refusal.number() as u64),
     }
 }
 

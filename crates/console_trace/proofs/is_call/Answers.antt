@@ -1,23 +1,12 @@
-use mathlib.Core.Path.{◌≡◌, sym, ◌∙◌}
-use mathlib.Core.List.{List}
-use mathlib.Core.Bool.{Bool, true, false}
-use Prim.Native.Nat.{ℕ}
-use Rattle.wire.specs.expansion.Equal.{same_bytes}
-use Rattle.console_trace.specs.Forms.{trace_word, record_word, is_trace_call}
+use Rattle.std.proofs.Common.{arith}
+use Rattle.std.proofs.lemmas.Grind.{common_steps}
+use Rattle.console_trace.specs.Forms.{is_trace_call}
 use Rattle.console_trace.proofs.is_call.Goals as goal
 
--- the word is the one, or it is not and the other is left
-module _ (word : List ℕ) where
-  first : same_bytes word trace_word ≡ true → true ≡ is_trace_call word
-  unfolding is_trace_call
-  first h = simp h
-
-  second : same_bytes word trace_word ≡ false → (r : Bool) → r ≡ same_bytes word record_word → r ≡ is_trace_call word
-  unfolding is_trace_call
-  second h r e = e ∙ sym (simp h)
-
 pub returns-then-same_bytes : goal.returns-then-same_bytes
-returns-then-same_bytes c = first c.args.word.now (sym c.same_bytes.ensures ∙ c.if-same_bytes.true)
+unfolding is_trace_call
+returns-then-same_bytes c = grind (arith, common_steps)
 
-pub returns : goal.returns
-returns c = second c.args.word.now (sym c.same_bytes.ensures ∙ c.if-same_bytes.false) _ c.same_bytes-2.ensures
+pub returns-else-same_bytes : goal.returns-else-same_bytes
+unfolding is_trace_call
+returns-else-same_bytes c = grind (arith, common_steps)

@@ -6,6 +6,9 @@ use mathlib.Core.List.{List}
 use lib.ListN.{length}
 use lib.Dec.{eqb}
 use borrow.Author.Tests.{ne_eqb}
+use Rattle.std.specs.Prelude.{Result, Ok, Err}
+use Rattle.wire.specs.refusals.Numbers.{number_of, refused_by}
+use Rattle.wire.specs.declared.refusals.Refusal.{Refusal}
 use Rattle.own.specs.declared.records.Setup.{Setup}
 use Rattle.own.specs.records.Setups.{valid_setup}
 use Rattle.own.specs.changes.Changes.{NewData, revised, change_of}
@@ -16,9 +19,9 @@ use Rattle.claims.specs.declared.steps.Output.TheVariants.{Response}
 use Rattle.writer.specs.own_packets.Own.{refusal, laid_over}
 use Rattle.writer.specs.own_packets.Goodbye.{goodbye_packet}
 use Rattle.responder.specs.Handed.{Tick}
-use Rattle.responder.specs.Refusals.{small_buffer, tick_refusal}
+use Rattle.responder.specs.Refusals.{small_buffer, tick_tests}
 use Rattle.responder.specs.Calls.{refusal_of, length_of, answer_with}
-use Rattle.responder.specs.changes.Changes.{ended_of, stopped_packet, stop_of, Stops, Update, refusal_to, renewed_of, packet_to, update_to}
+use Rattle.responder.specs.changes.Changes.{ended_of, stopped_packet, stop_of, Stops, Update, update_tests, renewed_of, packet_to, update_to}
 use Rattle.responder.specs.changes.Changes.{updated_packet, update_of, UpdatesTo, Updates}
 use Rattle.responder.specs.Runs.{stopped, updated}
 use Rattle.responder.specs.declared.State.{State}
@@ -27,11 +30,12 @@ use Rattle.responder.specs.declared.Answer.TheVariants.{Refused}
 use Rattle.responder.specs.declared.changes.Stopped.{Stopped}
 use Rattle.responder.specs.declared.changes.Updated.{Updated}
 use Rattle.responder.proofs.Refusals.{call-number, call_length}
+use Rattle.responder.proofs.Refusing.{number-refused, number-accepted, tick-is, update-is}
 use Rattle.responder.proofs.Sending.{Wrote, Sends}
 
 -- ---- a stop
 
-module _ (s : State) (t : Tick) (out : List ℕ) {n : ℕ} (is : n ≡ tick_refusal s t) where
+module _ (s : State) (t : Tick) (out : List ℕ) {u : Result (Unit {0}) Refusal} (is : u ≡ refused_by (tick_tests s t)) where
   stopped-numbered : (r : Stopped) (o : List ℕ) → r ≡ stop_of s t → o ≡ laid_over (stopped_packet s t) out → Stops s t out r o
   stopped-numbered r o e f = record {
     answers = e;
@@ -40,36 +44,47 @@ module _ (s : State) (t : Tick) (out : List ℕ) {n : ℕ} (is : n ≡ tick_refu
     sent = ap (λ (x : Stopped). length_of x.answer) e ∙ call_length s (stopped t);
   }
 
-  pub stop-refused : (n ≡ 0 → ⊥) → Stops s t out (record { answer = Refused n; state = s }) out
+  pub stop-refused : {refusal : Refusal} {n : ℕ} → u ≡ Err refusal → n ≡ number_of refusal → Stops s t out (record { answer = Refused n; state = s }) out
   unfolding stop_of stopped_packet
-  stop-refused h = let z : eqb n 0 ≡ false = ne_eqb n 0 h in stopped-numbered _ _ (simp (← is, z)) (simp (← is, z))
+  stop-refused {n = n} e m =
+      let h = number-refused (tick_tests s t) (tick-is s t) is e m in
+      let z : eqb n 0 ≡ false = ne_eqb n 0 h.1 in
+      stopped-numbered _ _ (simp (← h.0, z)) (simp (← h.0, z))
 
   pub stops :
       (w : goodbyes.Stopped) (k : ℕ) (o : List ℕ) (a : Answer)
-      → n ≡ 0
+      → u ≡ Ok tt
       → w ≡ ended_of s t.time
       → Wrote (goodbye_packet s.setup w.goodbye) out k o
       → a ≡ answer_with k 0
       → Stops s t out (record { answer = a; state = record { setup = s.setup; progress = w.progress } }) o
   unfolding stop_of stopped_packet
-  stops w k o a z d h x = stopped-numbered _ _ (simp (← is, z, ← d, x, h.0)) (simp (← is, z, ← d, h.1))
+  stops w k o a z d h x =
+      let n = number-accepted (tick_tests s t) (tick-is s t) is z in
+      stopped-numbered _ _ (simp (← n, ← d, x, h.0)) (simp (← n, ← d, h.1))
 
 -- ---- an update to a set-up
 
-module _ (s : State) (time : ℕ) (change : Change) (new : Setup) (out : List ℕ) {n : ℕ} (is : n ≡ refusal_to s time (length out) new) where
-  pub update-refused : (n ≡ 0 → ⊥) → UpdatesTo s time change new out (record { answer = Refused n; state = s }) out
+module _ (s : State) (time : ℕ) (change : Change) (new : Setup) (out : List ℕ) {u : Result (Unit {0}) Refusal}
+    (is : u ≡ refused_by (update_tests s time (length out) new)) where
+  pub update-refused : {refusal : Refusal} {n : ℕ} → u ≡ Err refusal → n ≡ number_of refusal → UpdatesTo s time change new out (record { answer = Refused n; state = s }) out
   unfolding update_to packet_to
-  update-refused h = let z : eqb n 0 ≡ false = ne_eqb n 0 h in record { answers = simp (← is, z); writes = simp (← is, z) }
+  update-refused {n = n} e m =
+      let h = number-refused (update_tests s time (length out) new) (update-is s time (length out) new) is e m in
+      let z : eqb n 0 ≡ false = ne_eqb n 0 h.1 in
+      record { answers = simp (← h.0, z); writes = simp (← h.0, z) }
 
   pub updates :
       (w : announcements.Updated) (k : ℕ) (o : List ℕ) (a : Answer)
-      → n ≡ 0
+      → u ≡ Ok tt
       → w ≡ renewed_of s time change
       → Sends new (Response w.announced) out k o
       → a ≡ answer_with k 0
       → UpdatesTo s time change new out (record { answer = a; state = record { setup = new; progress = w.progress } }) o
   unfolding update_to packet_to
-  updates w k o a z d h x = record { answers = simp (← is, z, ← d, x, h.0); writes = simp (← is, z, ← d, h.1) }
+  updates w k o a z d h x =
+      let n = number-accepted (update_tests s time (length out) new) (update-is s time (length out) new) is z in
+      record { answers = simp (← n, ← d, x, h.0); writes = simp (← n, ← d, h.1) }
 
 -- what is announced can be written
 pub can_announce : (new : Setup) (out : List ℕ) → small_buffer (length out) ≡ false → valid_setup new ≡ true → refusal new out ≡ 0

@@ -1,5 +1,6 @@
 -- Of every run: its data are its start's with every update taken, each call sends only what is written of the data after it, and updates are 6,000 ms apart.
 -- Assumes nothing.
+use Rattle.std.specs.Prelude.{Option, Some, None}
 use Prim.Native.Nat.{ℕ, ◌+◌}
 use mathlib.Core.Path.{◌≡◌, refl, sym, ap, subst, ◌∙◌}
 use mathlib.Core.Bool.{Bool, true, false, cond}
@@ -11,8 +12,6 @@ use Rattle.wire.specs.message.Message.{Question, Message}
 use Rattle.wire.specs.message.Layout.{Reads, read, refused, message_at}
 use Rattle.own.specs.declared.records.Setup.{Setup}
 use Rattle.own.specs.changes.Changes.{NewData, revised, change_of}
-use Rattle.claims.specs.declared.When.{When}
-use Rattle.claims.specs.declared.When.TheVariants.{Never, At}
 use Rattle.claims.specs.declared.Progress.{Progress}
 use Rattle.claims.specs.declared.records.Set.{Set}
 use Rattle.claims.specs.declared.steps.Output.{Output}
@@ -119,9 +118,9 @@ sent_of_lem s c = go (eqb (refusal_of_call s c) 0) refl
 
 -- ---- updates are 6,000 ms apart
 
-late : (w : When) (time : ℕ) → within 6000 w time ≡ false → LateAfter w time
-late Never time h = tt
-late (At last) time h = ltb-false time (last + 6000) h
+late : (w : Option ℕ) (time : ℕ) → within 6000 w time ≡ false → LateAfter w time
+late None time h = tt
+late (Some last) time h = ltb-false time (last + 6000) h
 
 heard-updated : (s : State) (a : Arrival) (x : Reads) → (heard_of s a x).progress.updated ≡ s.progress.updated
 heard-updated s a (read l m) = go (from_mdns a.port)
@@ -157,11 +156,11 @@ same_updated s (updated u) e = go (eqb (update_refusal s u) 0) refl e
 pub updates_apart : (s : State) (cs : List Call) → Apart s.progress.updated (update_times s cs)
 updates_apart s [] = none
 updates_apart s (received a ∷ cs) =
-    subst (λ (w : When). Apart w (update_times (state_after s (received a)) cs)) (same_updated s (received a) refl) (updates_apart (state_after s (received a)) cs)
+    subst (λ (w : Option ℕ). Apart w (update_times (state_after s (received a)) cs)) (same_updated s (received a) refl) (updates_apart (state_after s (received a)) cs)
 updates_apart s (ticked t ∷ cs) =
-    subst (λ (w : When). Apart w (update_times (state_after s (ticked t)) cs)) (same_updated s (ticked t) refl) (updates_apart (state_after s (ticked t)) cs)
+    subst (λ (w : Option ℕ). Apart w (update_times (state_after s (ticked t)) cs)) (same_updated s (ticked t) refl) (updates_apart (state_after s (ticked t)) cs)
 updates_apart s (stopped t ∷ cs) =
-    subst (λ (w : When). Apart w (update_times (state_after s (stopped t)) cs)) (same_updated s (stopped t) refl) (updates_apart (state_after s (stopped t)) cs)
+    subst (λ (w : Option ℕ). Apart w (update_times (state_after s (stopped t)) cs)) (same_updated s (stopped t) refl) (updates_apart (state_after s (stopped t)) cs)
 updates_apart s (updated u ∷ cs) = go (eqb (update_refusal s u) 0) refl (updates_apart (state_after s (updated u)) cs)
   where
     rest : List ℕ
@@ -171,5 +170,5 @@ updates_apart s (updated u ∷ cs) = go (eqb (update_refusal s u) 0) refl (updat
         → Apart s.progress.updated (cond b (u.time ∷ rest) rest)
     go true e more =
         let h : update_refusal s u ≡ 0 = eqb-true _ _ e in
-        next (late s.progress.updated u.time (accepted s u h).apart) (subst (λ (w : When). Apart w rest) (noted s u h) more)
-    go false e more = subst (λ (w : When). Apart w rest) (ap (λ (x : State). x.progress.updated) (refused_keeps s (updated u) e).0) more
+        next (late s.progress.updated u.time (accepted s u h).apart) (subst (λ (w : Option ℕ). Apart w rest) (noted s u h) more)
+    go false e more = subst (λ (w : Option ℕ). Apart w rest) (ap (λ (x : State). x.progress.updated) (refused_keeps s (updated u) e).0) more

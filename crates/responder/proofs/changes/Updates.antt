@@ -1,4 +1,5 @@
 -- An update taken: the state has the new data, a claim that is held announces them, and any other starts anew with them. Assumes nothing.
+use Rattle.std.specs.Prelude.{Some}
 use mathlib.Core.Path.{◌≡◌, ap, ◌∙◌}
 use mathlib.Core.Bool.{true, false}
 use Rattle.own.specs.changes.Changes.{revised, change_of}
@@ -9,7 +10,6 @@ use Rattle.claims.specs.records.Sets.{only}
 use Rattle.claims.specs.holds.Holds.{hold_at}
 use Rattle.claims.specs.changes.Changes.{changed_record}
 use Rattle.claims.specs.declared.ClaimState.TheVariants.{Waiting, Announced}
-use Rattle.claims.specs.declared.When.TheVariants.{At}
 use Rattle.claims.specs.declared.holds.Place.{Place}
 use Rattle.claims.specs.declared.steps.Output.TheVariants.{Response}
 use Rattle.claims.specs.declared.Progress.{Progress}
@@ -58,5 +58,5 @@ module _ (s : State) (u : Update) where
         ap (λ (x : State). has (changed_record (change_of u.new)) (hold_at place x.progress.holds).known) updated-state
         ∙ laws.update-forgets s.progress u.time (change_of u.new) place
 
-    pub noted : after.updated ≡ At u.time
+    pub noted : after.updated ≡ Some u.time
     noted = ap (λ (x : State). x.progress.updated) updated-state ∙ laws.update-time s.progress u.time (change_of u.new)

@@ -2,6 +2,7 @@
 -- are definitions.
 use Rattle.std.specs.Prelude.{ℕ, Bool, cond, not, ◌||◌, List, [], ◌∷◌, ◌≡◌, length, eqb}
 use Rattle.wire.specs.refusals.Numbers.{first_refusal}
+use Rattle.wire.specs.declared.refusals.Refusal.{Refusal}
 use Rattle.wire.specs.declared.refusals.Refusal.TheVariants as cause
 use Rattle.own.specs.declared.records.Setup.{Setup}
 use Rattle.own.specs.records.Setups.{valid_setup}
@@ -52,11 +53,13 @@ pub record Update : Type 0 where
   pub new : NewData
 
 -- "Refusals in the order 1, 3, 7 (state, or new data), 10, 11": new data that break the rules break them in the set-up that would have them
+abbrev pub update_tests : State → ℕ → ℕ → Setup → List (Refusal × Bool)
+update_tests s time room new =
+    (cause.Time, wrong_time s.progress time) ∷ ((cause.Buffer, small_buffer room) ∷ ((cause.Setup, wrong_state s || not (valid_setup new)) ∷
+    ((cause.Lost, changes.lost_to_update s.progress) ∷ ((cause.TooSoon, changes.too_soon s.progress time) ∷ []))))
+
 unfoldable pub refusal_to : State → ℕ → ℕ → Setup → ℕ
-refusal_to s time room new =
-    first_refusal
-    ((cause.Time, wrong_time s.progress time) ∷ ((cause.Buffer, small_buffer room) ∷ ((cause.Setup, wrong_state s || not (valid_setup new)) ∷
-    ((cause.Lost, changes.lost_to_update s.progress) ∷ ((cause.TooSoon, changes.too_soon s.progress time) ∷ [])))))
+refusal_to s time room new = first_refusal (update_tests s time room new)
 
 -- what an update does to the claims, and which record it announces
 abbrev pub renewed_of : State → ℕ → Change → announcements.Updated

@@ -1,24 +1,29 @@
 -- Records that are cut short, and whole ones. Assumes nothing.
-use mathlib.Core.Path.{◌≡◌, ap, ◌∙◌}
+use mathlib.Core.Path.{◌≡◌, refl, sym, ap, ◌∙◌}
 use mathlib.Core.List.{List}
 use Prim.Native.Nat.{ℕ, ◌+◌, ◌<◌, ◌≤◌}
-use native.Mathlib.Omega.{arith}
 use borrow.Author.Tests.{le-leb, lt-leb}
 use lib.ListN.{length}
-use Rattle.trace.specs.records.Records.{size_of, kind_at, fields_at, record_at}
+use Rattle.std.specs.Prelude.{Option, Some, None}
+use Rattle.trace.specs.records.Records.{size_of, size_by, kind_at, fields_at, whole_at, record_at}
 use Rattle.trace.specs.declared.records.Kind.{Kind}
 use Rattle.trace.specs.declared.records.Record.{Record}
-use Rattle.trace.specs.declared.records.Record.TheVariants as is
 
 module _ (p : List ℕ) (at : ℕ) where
-  pub record_short : (size : ℕ) → size ≡ size_of (kind_at p at) → length p < at + size → is.Malformed ≡ record_at p at
-  unfolding record_at
-  record_short size e h =
-      let h2 : length p < at + size_of (kind_at p at) = omega (arith, e) in
-      simp (lt-leb (at + size_of (kind_at p at)) (length p) h2)
+  short_by : (k : Option Kind) → length p < at + size_by k → None ≡ whole_at p at k
+  short_by (Some k) h = simp (lt-leb (at + size_of k) (length p) h)
+  short_by None h = refl
 
-  pub record_whole : (k : Kind) (r : Record) → k ≡ kind_at p at → at + size_of k ≤ length p → r ≡ fields_at p at k → r ≡ record_at p at
+  pub record_short : (k : Option Kind) → k ≡ kind_at p at → length p < at + size_by k → None ≡ record_at p at
+  unfolding record_at
+  record_short k e h = short_by k h ∙ ap (whole_at p at) e
+
+  pub record_unknown : None ≡ kind_at p at → None ≡ record_at p at
+  unfolding record_at
+  record_unknown e = ap (whole_at p at) e
+
+  pub record_whole : (k : Kind) (r : Option Record) → Some k ≡ kind_at p at → at + size_of k ≤ length p → r ≡ fields_at p at k → r ≡ record_at p at
   unfolding record_at
   record_whole k r e h er =
-      let h2 : at + size_of (kind_at p at) ≤ length p = rw e at h in
-      er ∙ ap (fields_at p at) e ∙ simp (le-leb (at + size_of (kind_at p at)) (length p) h2)
+      let whole : whole_at p at (Some k) ≡ fields_at p at k = simp (le-leb (at + size_of k) (length p) h) in
+      er ∙ sym whole ∙ ap (whole_at p at) e

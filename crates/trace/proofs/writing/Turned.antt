@@ -2,11 +2,11 @@
 use mathlib.Core.Path.{◌≡◌, refl, sym, ap, ◌∙◌}
 use mathlib.Core.List.{List, ◌++◌}
 use mathlib.Core.Bool.{Bool, true, false, cond}
-use Prim.Native.Nat.{ℕ, suc, ◌+◌, ◌-◌, ◌<◌, ◌≤◌}
+use Prim.Native.Nat.{ℕ, suc, ◌+◌, ◌-◌, ◌<◌, ◌≤◌, min}
 use native.Mathlib.Omega.{arith}
-use borrow.Author.Tests.{ltb-true}
-use lib.ListN.{length, take, drop, length-drop, drop_of_length-le}
-use lib.Seq.{sets, take_all, drop-drop, length-take-le}
+use borrow.Author.Tests.{ltb-true, ltb-false}
+use lib.ListN.{length, take, drop, length-append, length-drop, drop_of_length-le}
+use lib.Seq.{sets, take_all, take_at, drop_at, length-take-le}
 use lib.Dec.{ltb}
 use Rattle.wire.proofs.octets.Sets.{sets-append}
 use Rattle.trace.specs.reading.Reading.{pieces_of}
@@ -56,30 +56,28 @@ module _ (l : List ℕ) (h : 0 < length l) where
       ap (sets out at) pieces_cons ∙ sym (sets-append out at x y)
       ∙ ap (λ (n : ℕ). sets (sets out at x) (at + n) y) (length-piece_of (take (in_piece (length l)) l) length_front)
 
--- the same, of what is left of some bytes
-module _ (bytes : List ℕ) (from : ℕ) (h : from < length bytes) where
-  rest_length : length (drop from bytes) ≡ length bytes - from
-  rest_length = length-drop from bytes
+-- the same, of bytes that come in parts of sixteen
+part_size : (n : ℕ) (b : Bool) → ltb n 16 ≡ b → min 16 n ≡ cond b n 16
+part_size n true e = omega (arith, ltb-true n 16 e)
+part_size n false e = omega (arith, ltb-false n 16 e)
 
-  pub turn_from : (out : List ℕ) (at n : ℕ) → n ≡ in_piece (length bytes - from)
-      → sets out at (pieces_over (pieces_of (length bytes - from)) (drop from bytes))
-      ≡ sets (sets out at (piece_of (take n (drop from bytes)))) (at + 17) (pieces_over (pieces_of (length bytes - (from + n))) (drop (from + n) bytes))
-  turn_from out at n en =
-      let k : in_piece (length (drop from bytes)) ≡ n = ap in_piece rest_length ∙ sym en in
-      let more : 0 < length (drop from bytes) = omega (arith, rest_length) in
-      let same : drop n (drop from bytes) ≡ drop (from + n) bytes = drop-drop n from bytes in
-      let count : length (drop n (drop from bytes)) ≡ length bytes - (from + n) = ap length same ∙ length-drop (from + n) bytes in
-      ap (λ (m : ℕ). sets out at (pieces_over (pieces_of m) (drop from bytes))) (sym rest_length)
-      ∙ turn (drop from bytes) more out at
-      ∙ ap (λ (m : ℕ). sets (sets out at (piece_of (take m (drop from bytes)))) (at + 17)
-      (pieces_over (pieces_of (length (drop m (drop from bytes)))) (drop m (drop from bytes)))) k
-      ∙ ap (λ (m : ℕ). sets (sets out at (piece_of (take n (drop from bytes)))) (at + 17) (pieces_over (pieces_of m) (drop n (drop from bytes)))) count
-      ∙ ap (λ (l : List ℕ). sets (sets out at (piece_of (take n (drop from bytes)))) (at + 17) (pieces_over (pieces_of (length bytes - (from + n))) l)) same
+module _ (bytes part rest : List ℕ) (split : bytes ≡ part ++ rest) (size : length part ≡ min 16 (length bytes)) (more : 0 < length bytes) where
+  carried : length part ≡ in_piece (length bytes)
+  carried = size ∙ part_size (length bytes) (ltb (length bytes) 16) refl
 
-  pub pieces_left : (n : ℕ) → n ≡ in_piece (length bytes - from) → pieces_of (length bytes - from) ≡ suc (pieces_of (length bytes - (from + n)))
-  pieces_left n en =
-      let left : length bytes - (from + n) ≡ length bytes - from - 16 = omega (arith, in_piece_rest (length bytes - from)) in
-      pieces_more (length bytes - from) (omega arith) ∙ ap (λ (m : ℕ). suc (pieces_of m)) (sym left)
+  taken : take (in_piece (length bytes)) bytes ≡ part
+  taken = ap (take (in_piece (length bytes))) split ∙ take_at part rest (in_piece (length bytes)) carried
+
+  left : drop (in_piece (length bytes)) bytes ≡ rest
+  left = ap (drop (in_piece (length bytes))) split ∙ drop_at part rest (in_piece (length bytes)) carried
+
+  pub turn_part : (out : List ℕ) (at : ℕ)
+      → sets out at (pieces_over (pieces_of (length bytes)) bytes)
+      ≡ sets (sets out at (piece_of part)) (at + 17) (pieces_over (pieces_of (length rest)) rest)
+  turn_part out at = turn bytes more out at ∙ (λ i. sets (sets out at (piece_of (taken i))) (at + 17) (pieces_over (pieces_of (length (left i))) (left i)))
+
+  pub pieces_left : pieces_of (length bytes) ≡ suc (pieces_of (length rest))
+  pieces_left = omega (arith, ap length split, length-append part rest, pieces_more (length bytes) more)
 
 pub no_pieces : (out bytes : List ℕ) (at : ℕ) → sets out at (pieces_over (pieces_of 0) bytes) ≡ out
 unfolding pieces_over

@@ -1,15 +1,11 @@
 -- The events of a trace, with the bytes that they bring, and the offset of its refusal. Assumes nothing: these are definitions.
-use Rattle.std.specs.Prelude.{ℕ, zero, suc, ◌+◌, ◌-◌, List, [], ◌∷◌, ◌++◌, cond, length, take, drop, ltb}
-use Rattle.std.proofs.Math.Option.{Option, none, some}
+use Rattle.std.specs.Prelude.{ℕ, zero, suc, ◌+◌, ◌-◌, List, [], ◌∷◌, ◌++◌, cond, length, take, drop, ltb, Option, Some, None, Result, Ok, Err}
 use Rattle.claims.specs.declared.holds.Address.{Address}
-use Rattle.trace.specs.reading.Reading.{pieces_of, step_at}
+use Rattle.trace.specs.reading.Reading.{Step, pieces_of, refused, step_at}
 use Rattle.trace.specs.declared.reading.Event.{Event}
 use Rattle.trace.specs.declared.reading.Event.TheVariants as event
 use Rattle.trace.specs.declared.reading.Entry.{Entry}
-use Rattle.trace.specs.declared.reading.Step.{Step}
-use Rattle.trace.specs.declared.reading.Step.TheVariants.{End, Found, Refused}
-use Rattle.trace.specs.declared.reading.Checked.{Checked}
-use Rattle.trace.specs.declared.reading.Checked.TheVariants as checked
+use Rattle.trace.specs.declared.reading.Refused.{Refused}
 
 -- what happened, with the bytes of a packet or of TXT: the calls on a responder, and what was recorded of a claim
 pub data Occurrence : Type 0 where
@@ -43,9 +39,9 @@ data_in p e = data_from (pieces_of e.len) p e.first e.len
 
 -- the bytes that the event at an offset brings
 abbrev pub data_of : List ℕ → Step → List ℕ
-data_of p End = []
-data_of p (Found e) = data_in p e
-data_of p (Refused offset) = []
+data_of p (Ok None) = []
+data_of p (Ok (Some e)) = data_in p e
+data_of p (Err r) = []
 
 abbrev pub data_at : List ℕ → ℕ → List ℕ
 data_at p at = data_of p (step_at p at)
@@ -56,13 +52,13 @@ pub record Reading : Type 0 where
   pub fault : Option ℕ
 
 abbrev pub within : List ℕ → (ℕ → Reading) → Step → Reading
-within p rest End = record { events = []; fault = none }
-within p rest (Found e) = record { events = occurrence e.event (data_in p e) ∷ (rest e.next).events; fault = (rest e.next).fault }
-within p rest (Refused offset) = record { events = []; fault = some offset }
+within p rest (Ok None) = record { events = []; fault = None }
+within p rest (Ok (Some e)) = record { events = occurrence e.event (data_in p e) ∷ (rest e.next).events; fault = (rest e.next).fault }
+within p rest (Err r) = record { events = []; fault = Some r.at }
 
 -- at most so many events from an offset on
 unfoldable pub at_most : ℕ → List ℕ → ℕ → Reading
-at_most zero p at = record { events = []; fault = none }
+at_most zero p at = record { events = []; fault = None }
 at_most (suc n) p at = within p (at_most n p) (step_at p at)
 
 -- from an offset on: each event takes a byte at least, so that what is left of the trace is more than enough
@@ -72,9 +68,9 @@ read_from p at = at_most (suc (length p - at)) p at
 abbrev pub reading_of : List ℕ → Reading
 reading_of p = read_from p 0
 
-abbrev pub checked_of : Option ℕ → Checked
-checked_of none = checked.Read
-checked_of (some offset) = checked.Refused offset
+abbrev pub checked_of : Option ℕ → Result (Unit {0}) Refused
+checked_of None = Ok tt
+checked_of (Some offset) = refused offset
 
-abbrev pub check_of : List ℕ → Checked
+abbrev pub check_of : List ℕ → Result (Unit {0}) Refused
 check_of p = checked_of (reading_of p).fault

@@ -1,16 +1,11 @@
-use mathlib.Core.Path.{refl}
-use native.Mathlib.Omega.{arith}
-use Rattle.trace.proofs.reading.Zero.{turn_other, turn_zero, all-passed}
+use Rattle.std.proofs.Common.{rules, ◌∙◌}
+use Rattle.std.specs.Prelude.{eqb}
+use Rattle.std.proofs.lemmas.Iterator.{YieldsList-from_slice}
+use Rattle.std.proofs.lemmas.Iterator.Search.{all_from_yields_List}
+use borrow.Author.Tests.{tests}
+use Rattle.trace.proofs.reading.Zero.{each_zero}
 use Rattle.trace.proofs.reading.all_zero.Goals as goal
 
-pub loop-i-init : goal.loop-i-init
-loop-i-init c = (omega arith, refl)
-
-pub returns-then-s-i-ne0 : goal.returns-then-s-i-ne0
-returns-then-s-i-ne0 c = turn_other _ _ (omega arith) c.loop-i.invariant.1 c.if-s-i-ne0.true
-
-pub loop-i-preserved : goal.loop-i-preserved
-loop-i-preserved c = (omega arith, turn_zero _ _ (omega arith) c.loop-i.invariant.1 c.if-s-i-ne0.false)
-
 pub returns : goal.returns
-returns c = all-passed _ _ c.loop-i-test.false c.loop-i.invariant.1
+returns c = all_from_yields_List (λ b. eqb b 0) _ _ _ c.all.ensures.ran (YieldsList-from_slice c.args.s.now cc) (λ x b q k. search (rules, tests))
+    ∙ each_zero c.args.s.now

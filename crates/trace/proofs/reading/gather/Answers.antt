@@ -23,7 +23,7 @@ pub overflow_add-at : goal.overflow_add-at
 overflow_add-at c = omega (arith, piece_fits c.args.trace.now c.loop-left.at c.loop-left.left (omega arith) c.loop-left.invariant.0)
 
 pub loop-left-smaller : goal.loop-left-smaller
-loop-left-smaller c = omega (arith, c.behind-left.ensures)
+loop-left-smaller c = omega (arith, c.saturating_sub-left.ensures)
 
 pub loop-left-preserved : goal.loop-left-preserved
 loop-left-preserved c = let a = c.args in
@@ -32,10 +32,10 @@ loop-left-preserved c = let a = c.args in
     let taken : l.at + 1 + n - (l.at + 1) ≡ in_piece l.left = omega (arith, c.in_piece.ensures) in
     let laid : c.put.new.out ≡ sets l.out (a.len - l.left) (take (in_piece l.left) (drop (l.at + 1) a.trace.now)) =
     c.put.ensures ∙ ap (λ (k : ℕ). sets l.out (a.len - l.left) (take k (drop (l.at + 1) a.trace.now))) taken in (
-      rw c.behind-left.ensures (rest_fits a.trace.now l.at l.left (omega arith) l.invariant.0),
-      omega (arith, c.behind-left.ensures),
+      rw c.saturating_sub-left.ensures (rest_fits a.trace.now l.at l.left (omega arith) l.invariant.0),
+      omega (arith, c.saturating_sub-left.ensures),
       rw laid (simp length-sets l.invariant.2),
-      rw (c.behind-left.ensures, laid) (l.invariant.3 ∙ gather_turn a.trace.now l.at l.left (omega arith) l.invariant.0 l.out a.len l.invariant.1),
+      rw (c.saturating_sub-left.ensures, laid) (l.invariant.3 ∙ gather_turn a.trace.now l.at l.left (omega arith) l.invariant.0 l.out a.len l.invariant.1),
     )
 
 pub returns : goal.returns

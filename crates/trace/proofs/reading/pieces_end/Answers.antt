@@ -15,7 +15,7 @@ pub overflow_add-at : goal.overflow_add-at
 overflow_add-at c = omega (arith, piece_whole _ _ _ (sym c.is_piece.ensures ∙ c.if-not-is_piece.false))
 
 pub loop-left-smaller : goal.loop-left-smaller
-loop-left-smaller c = omega (arith, c.behind-left.ensures)
+loop-left-smaller c = omega (arith, c.saturating_sub-left.ensures)
 
 pub loop-left-preserved : goal.loop-left-preserved
 loop-left-preserved c = let a = c.args in
@@ -23,7 +23,7 @@ loop-left-preserved c = let a = c.args in
       piece_whole _ _ _ (sym c.is_piece.ensures ∙ c.if-not-is_piece.false),
       l.invariant.1
           ∙ pieces_turn a.trace.now l.at l.left (omega arith) (sym c.is_piece.ensures ∙ c.if-not-is_piece.false)
-          ∙ ap (λ (n : ℕ). pieces_at (pieces_of n) a.trace.now (l.at + 17) n) (sym c.behind-left.ensures),
+          ∙ ap (λ (n : ℕ). pieces_at (pieces_of n) a.trace.now (l.at + 17) n) (sym c.saturating_sub-left.ensures),
     )
 
 pub returns : goal.returns
