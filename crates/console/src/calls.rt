@@ -3,8 +3,10 @@ ghost use Rattle.std.specs.Prelude.{◌≡◌};
 ghost use Rattle.console.specs.Lines.{Console, held_at_first, after_call};
 
 use capi_browser::BrowserNumbers;
+use console_calls::{cache_calls, reader_calls};
 use console_proxy::Domains;
 use console_table::Table;
+use console_text::lines::field;
 use responder::State;
 
 // What the console holds between calls, beside the out buffers and the cache's byte store: a responder, the table of the cache with its sizes, a browser, and
@@ -18,18 +20,20 @@ pub struct Held {
 }
 
 // What is held before the first call.
+#[tactic(auto, unfolding(crate::specs::Lines::held_at_first))]
 pub fn at_first() -> Held
     ensures { result ≡ held_at_first }
 {
     Held {
         state: console_responder::at_first(),
-        table: console_calls::cache_calls::at_first(),
+        table: cache_calls::at_first(),
         browser: console_browser::at_first(),
         domains: console_proxy::at_first(),
     }
 }
 
 // Answers the call of a line, and tells what is held after it.
+#[tactic(auto, unfolding(crate::specs::Lines::after_call))]
 pub fn call(
     line: &[u8],
     held: Held,
@@ -48,59 +52,35 @@ pub fn call(
     ensures unicast { (let c : Console = record { held = held; store = store.old; out = out.old; unicast = unicast.old } in
         unicast.new ≡ (after_call line.now c).unicast) }
 {
-    let word = console_text::lines::field(line, 0);
+    let word = field(line, 0);
     if console_responder::is_call(word) {
-        let state = held.state;
-        let table = held.table;
-        let browser = held.browser;
-        let domains = held.domains;
         return Held {
-            state: console_responder::call(line, state, out, unicast, rt, text),
-            table,
-            browser,
-            domains,
+            state: console_responder::call(line, held.state, out, unicast, rt, text),
+            ..held
         };
     }
-    if console_calls::cache_calls::is_call(word) {
-        let state = held.state;
-        let table = held.table;
-        let browser = held.browser;
-        let domains = held.domains;
+    if cache_calls::is_call(word) {
         return Held {
-            state,
-            table: console_calls::cache_calls::call(line, table, store, rt, text),
-            browser,
-            domains,
+            table: cache_calls::call(line, held.table, store, rt, text),
+            ..held
         };
     }
     if console_browser::is_call(word) {
-        let state = held.state;
-        let table = held.table;
-        let browser = held.browser;
-        let domains = held.domains;
         return Held {
-            state,
-            table,
-            browser: console_browser::call(line, browser, table, store, out, rt, text),
-            domains,
+            browser: console_browser::call(line, held.browser, held.table, store, out, rt, text),
+            ..held
         };
     }
     if console_proxy::is_call(word) {
-        let state = held.state;
-        let table = held.table;
-        let browser = held.browser;
-        let domains = held.domains;
         return Held {
-            state,
-            table,
-            browser,
-            domains: console_proxy::call(line, domains, table, store, rt, text),
+            domains: console_proxy::call(line, held.domains, held.table, store, rt, text),
+            ..held
         };
     }
     if console_trace::is_call(word) {
         console_trace::call(line, rt, text);
-        return held;
+    } else {
+        reader_calls::call(line, rt, text);
     }
-    console_calls::reader_calls::call(line, rt, text);
     held
 }

@@ -25,33 +25,19 @@ fn refill(from: &mut impl Read, input: &mut [u8], held: usize) -> usize
     }
 }
 
-// Moves `n` bytes from an offset to the start of the buffer.
-fn shift(input: &mut [u8], from: usize, n: usize)
-    requires { from + n ≤ length input.old }
-{
-    let mut i = 0;
-    while i < n {
-        input[i] = input[from + i];
-        i += 1;
-    }
-}
-
-// Keeps the piece of a line that starts at an offset, and tells how long it is. Of a line that is too long one byte more than the most is kept: it
-// stays too long.
+// Moves the piece of a line that starts at an offset to the start of the buffer, and tells how long it is. Of a line that is too long one byte more than
+// the most is kept: it stays too long.
 fn keep(input: &mut [u8], from: usize, filled: usize) -> usize
     requires { (from ≤ filled) × (filled ≤ length input.old) }
     ensures { result ≤ length input.new }
 {
-    let n = filled - from;
-    if MOST_LINE < n {
-        shift(input, from, MOST_LINE + 1);
-        return MOST_LINE + 1;
-    }
-    shift(input, from, n);
+    let n = (filled - from).min(MOST_LINE + 1);
+    input.copy_within(from..from + n, 0);
     n
 }
 
 // Answers a line, and tells what is held after it. An empty line or a comment has no answer.
+#[tactic(auto, unfolding(crate::specs::Lines::after_line))]
 fn answer_line(
     line: &[u8],
     held: Held,
@@ -70,10 +56,7 @@ fn answer_line(
     ensures unicast { (let c : Console = record { held = held; store = store.old; out = out.old; unicast = unicast.old } in
         unicast.new ≡ (after_line line.now c).unicast) }
 {
-    if line.len() == 0 {
-        return held;
-    }
-    if line[0] == b'#' {
+    if line.is_empty() || line[0] == b'#' {
         return held;
     }
     if MOST_LINE < line.len() {
@@ -84,7 +67,7 @@ fn answer_line(
 }
 
 // Reads and answers line by line until the input ends. Of the buffer's first `filled` bytes the line begins at `start`, and no LF stands before
-// `seen`. Nothing says that the input ends, so the loop counts its turns down, from a number of lines and reads that no run uses up.
+// `seen`. Nothing says that the input ends, so the loop counts its turns, to a number of lines and reads that no run uses up.
 fn serve(
     from: &mut impl Read,
     input: &mut [u8],
@@ -98,14 +81,11 @@ fn serve(
     let mut start = 0;
     let mut seen = 0;
     let mut filled = 0;
-    let mut turns = u64::MAX;
-    while 0 < turns {
-        turns -= 1;
-        let end = seen + console_text::scan::find(&input[seen..filled], b'\n');
-        if end < filled {
-            let next = end + 1;
+    for _ in 0..u64::MAX {
+        if let Some(n) = input[seen..filled].iter().position(|b| *b == b'\n') {
+            let end = seen + n;
             held = answer_line(&input[start..end], held, store, out, unicast, rt, text);
-            start = next;
+            start = end + 1;
             seen = start;
         } else {
             let kept = keep(input, start, filled);

@@ -5,11 +5,14 @@ ghost use Rattle.console_table.specs.Table.{zeros};
 ghost use Rattle.console_text.specs.fields.Numbers.{number_at};
 ghost use Rattle.console_calls.specs.cache_calls.Lines.{is_cache_call, is_put, is_table, room_told, after_put, after_clear, after_table, cache_after};
 
-use crate::output::{bad_line, bytes, finish, first, only, refused};
+use crate::output::{self, bad_line, bytes, finish, first, only, refused};
 use cache::entries::Entry;
 use capi_cache::{LookedNumbers, TakenNumbers};
 use console_table::{MOST_ENTRIES, Table};
 use console_text::fields::{are_bytes, has_arguments, is_number, number, number_of_16};
+use console_text::hex::fill;
+use console_text::lines::{field, front};
+use wire::expansion::same_bytes;
 
 // The bytes of a slot.
 const SLOT: usize = 1024;
@@ -32,39 +35,27 @@ pub fn at_first() -> Table
     console_table::zeros(USUAL_ENTRIES, USUAL_STORE)
 }
 
-// The answer `cached TURNED PASSED`.
-fn cached(numbers: TakenNumbers, rt: &impl Print, text: &mut [u8; 4096]) {
-    let used = first(rt, text, b"cached");
-    let used = crate::output::number(rt, text, used, numbers.turned as u64);
-    let used = crate::output::number(rt, text, used, numbers.passed as u64);
-    finish(rt, text, used);
-}
-
-// The answer for a message.
+// The answer for a message: `cached TURNED PASSED`.
 fn taken(numbers: TakenNumbers, rt: &impl Print, text: &mut [u8; 4096]) {
     if numbers.refusal != 0 {
         return refused(rt, text, numbers.refusal as u64);
     }
-    cached(numbers, rt, text)
+    let used = first(rt, text, b"cached");
+    let used = output::number(rt, text, used, numbers.turned as u64);
+    let used = output::number(rt, text, used, numbers.passed as u64);
+    finish(rt, text, used);
 }
 
 // Whether a line is of the form `put NOW PORT PACKET`.
+#[tactic(auto, unfolding(crate::specs::cache_calls::Lines::is_put))]
 fn is_put(line: &[u8]) -> bool
     ensures { result ≡ is_put line.now }
 {
-    if !has_arguments(line, 3) {
-        return false;
-    }
-    if !is_number(line, 1) {
-        return false;
-    }
-    if !is_number(line, 2) {
-        return false;
-    }
-    are_bytes(line, 3)
+    has_arguments(line, 3) && is_number(line, 1) && is_number(line, 2) && are_bytes(line, 3)
 }
 
 // `put NOW PORT PACKET`: the table after it. A port that is too great is no 5353, as 0 is none.
+#[tactic(auto, unfolding(crate::specs::cache_calls::Lines::after_put))]
 fn put(line: &[u8], table: Table, store: &mut [u8], rt: &impl Print, text: &mut [u8; 4096]) -> Table
     ensures table { result ≡ (after_put line.now table store.old).table }
     ensures store { store.new ≡ (after_put line.now table store.old).store }
@@ -76,14 +67,8 @@ fn put(line: &[u8], table: Table, store: &mut [u8], rt: &impl Print, text: &mut 
     let time = number(line, 1);
     let port = number_of_16(line, 2);
     let mut packet = [0u8; 20000];
-    let n = console_text::hex::fill(console_text::lines::field(line, 3), &mut packet);
-    let after = console_table::take_message(
-        table,
-        store,
-        time,
-        port,
-        console_text::lines::front(&packet, n),
-    );
+    let n = fill(field(line, 3), &mut packet);
+    let after = console_table::take_message(table, store, time, port, front(&packet, n));
     let numbers = after.numbers;
     taken(numbers, rt, text);
     after.table
@@ -92,12 +77,12 @@ fn put(line: &[u8], table: Table, store: &mut [u8], rt: &impl Print, text: &mut 
 // The answer `slot K RECEIVED EXPIRY OWNER LABELS FIRST RDATA`, of what was found, its entry and the bytes of its slot.
 fn found(numbers: LookedNumbers, e: Entry, slot: &[u8], rt: &impl Print, text: &mut [u8; 4096]) {
     let used = first(rt, text, b"slot");
-    let used = crate::output::number(rt, text, used, numbers.slot as u64);
-    let used = crate::output::number(rt, text, used, e.received);
-    let used = crate::output::number(rt, text, used, e.expiry);
+    let used = output::number(rt, text, used, numbers.slot as u64);
+    let used = output::number(rt, text, used, e.received);
+    let used = output::number(rt, text, used, e.expiry);
     let used = bytes(rt, text, used, wire::rdata::part(slot, 0, e.owner as usize));
-    let used = crate::output::number(rt, text, used, numbers.name_labels as u64);
-    let used = crate::output::number(rt, text, used, numbers.name_first_label as u64);
+    let used = output::number(rt, text, used, numbers.name_labels as u64);
+    let used = output::number(rt, text, used, numbers.name_first_label as u64);
     let used = bytes(
         rt,
         text,
@@ -133,27 +118,20 @@ fn looked(
 
 // Whether a line is of the form `look NOW NAME TYPE FROM`.
 fn is_look(line: &[u8]) -> bool {
-    if !has_arguments(line, 4) {
-        return false;
-    }
-    if !is_number(line, 1) {
-        return false;
-    }
-    if !are_bytes(line, 2) {
-        return false;
-    }
-    if !is_number(line, 3) {
-        return false;
-    }
-    is_number(line, 4)
+    has_arguments(line, 4)
+        && is_number(line, 1)
+        && are_bytes(line, 2)
+        && is_number(line, 3)
+        && is_number(line, 4)
 }
 
 // The slot that a lookup starts from. A type that is too great is no entry's: such a lookup starts past the last slot.
 fn from(line: &[u8]) -> usize {
     if MOST_TYPE < number(line, 3) {
-        return MOST_ENTRIES;
+        MOST_ENTRIES
+    } else {
+        number(line, 4) as usize
     }
-    number(line, 4) as usize
 }
 
 // `look NOW NAME TYPE FROM`
@@ -163,46 +141,32 @@ fn look(line: &[u8], table: Table, store: &[u8], rt: &impl Print, text: &mut [u8
     }
     let time = number(line, 1);
     let mut name = [0u8; 20000];
-    let n = console_text::hex::fill(console_text::lines::field(line, 2), &mut name);
+    let n = fill(field(line, 2), &mut name);
     let rtype = number_of_16(line, 3);
-    let numbers = console_table::look_up(
-        table,
-        store,
-        time,
-        console_text::lines::front(&name, n),
-        rtype,
-        from(line),
-    );
+    let numbers = console_table::look_up(table, store, time, front(&name, n), rtype, from(line));
     looked(numbers, table, store, rt, text)
 }
 
 // The answer `slot K TYPE OWNERLEN RDATALEN RECEIVED EXPIRY TTL BYTES`, of an entry and the bytes of its slot.
 fn whole(k: usize, e: Entry, slot: &[u8], rt: &impl Print, text: &mut [u8; 4096]) {
     let used = first(rt, text, b"slot");
-    let used = crate::output::number(rt, text, used, k as u64);
-    let used = crate::output::number(rt, text, used, e.rtype as u64);
-    let used = crate::output::number(rt, text, used, e.owner as u64);
-    let used = crate::output::number(rt, text, used, e.rdata as u64);
-    let used = crate::output::number(rt, text, used, e.received);
-    let used = crate::output::number(rt, text, used, e.expiry);
-    let used = crate::output::number(rt, text, used, e.ttl);
+    let used = output::number(rt, text, used, k as u64);
+    let used = output::number(rt, text, used, e.rtype as u64);
+    let used = output::number(rt, text, used, e.owner as u64);
+    let used = output::number(rt, text, used, e.rdata as u64);
+    let used = output::number(rt, text, used, e.received);
+    let used = output::number(rt, text, used, e.expiry);
+    let used = output::number(rt, text, used, e.ttl);
     let used = bytes(rt, text, used, slot);
     finish(rt, text, used);
 }
 
 // Whether a line is of the form `slot K`, of an entry that the table has and a slot that its store has.
 fn is_slot(line: &[u8], table: Table) -> bool {
-    if !has_arguments(line, 1) {
-        return false;
-    }
-    if !is_number(line, 1) {
-        return false;
-    }
-    let k = number(line, 1);
-    if (table.count as u64) <= k {
-        return false;
-    }
-    k < (table.room / SLOT) as u64
+    has_arguments(line, 1)
+        && is_number(line, 1)
+        && number(line, 1) < table.count as u64
+        && number(line, 1) < (table.room / SLOT) as u64
 }
 
 // `slot K`
@@ -224,14 +188,11 @@ fn slot(line: &[u8], table: Table, store: &[u8], rt: &impl Print, text: &mut [u8
 fn wipe(store: &mut [u8])
     ensures { store.new ≡ replicate (length store.old) 0 }
 {
-    let mut i = 0;
-    while i < store.len() {
-        store[i] = 0;
-        i += 1;
-    }
+    store.fill(0);
 }
 
 // `clear`: the table after it, as large as it was.
+#[tactic(auto, unfolding(crate::specs::cache_calls::Lines::after_clear))]
 fn clear(
     line: &[u8],
     table: Table,
@@ -252,39 +213,31 @@ fn clear(
 }
 
 // Whether a line is of the form `table N` or `table N STORE`, of sizes that there are.
+#[tactic(auto, unfolding(crate::specs::cache_calls::Lines::is_table))]
 fn is_table(line: &[u8]) -> bool
     ensures { result ≡ is_table line.now }
 {
-    if !is_number(line, 1) {
-        return false;
-    }
-    if (MOST_ENTRIES as u64) < number(line, 1) {
-        return false;
-    }
-    if has_arguments(line, 1) {
-        return true;
-    }
-    if !has_arguments(line, 2) {
-        return false;
-    }
-    if !is_number(line, 2) {
-        return false;
-    }
-    number(line, 2) <= MOST_STORE
+    is_number(line, 1)
+        && number(line, 1) <= MOST_ENTRIES as u64
+        && (has_arguments(line, 1)
+            || has_arguments(line, 2) && is_number(line, 2) && number(line, 2) <= MOST_STORE)
 }
 
 // How many bytes the store of a new table has: a slot for each entry where the line does not say.
+#[tactic(auto, unfolding(crate::specs::cache_calls::Lines::room_told))]
 fn room_told(line: &[u8]) -> usize
     requires { number_at line.now 1 ≤ 513 }
     ensures { result ≡ room_told line.now }
 {
     if has_arguments(line, 1) {
-        return SLOT * number(line, 1) as usize;
+        SLOT * number(line, 1) as usize
+    } else {
+        number(line, 2) as usize
     }
-    number(line, 2) as usize
 }
 
 // `table N` or `table N STORE`: the table after it.
+#[tactic(auto, unfolding(crate::specs::cache_calls::Lines::after_table))]
 fn make_table(
     line: &[u8],
     table: Table,
@@ -307,25 +260,19 @@ fn make_table(
 }
 
 // Whether a word is one of these calls.
+#[tactic(auto, unfolding(crate::specs::cache_calls::Lines::is_cache_call))]
 pub fn is_call(word: &[u8]) -> bool
     ensures { result ≡ is_cache_call word.now }
 {
-    if wire::expansion::same_bytes(word, b"put") {
-        return true;
-    }
-    if wire::expansion::same_bytes(word, b"look") {
-        return true;
-    }
-    if wire::expansion::same_bytes(word, b"slot") {
-        return true;
-    }
-    if wire::expansion::same_bytes(word, b"table") {
-        return true;
-    }
-    wire::expansion::same_bytes(word, b"clear")
+    same_bytes(word, b"put")
+        || same_bytes(word, b"look")
+        || same_bytes(word, b"slot")
+        || same_bytes(word, b"table")
+        || same_bytes(word, b"clear")
 }
 
 // Answers one of these calls, and tells the table after it. Any other line is a bad one.
+#[tactic(auto, unfolding(crate::specs::cache_calls::Lines::cache_after))]
 pub fn call(
     line: &[u8],
     table: Table,
@@ -336,24 +283,22 @@ pub fn call(
     ensures table { result ≡ (cache_after line.now table store.old).table }
     ensures store { store.new ≡ (cache_after line.now table store.old).store }
 {
-    let word = console_text::lines::field(line, 0);
-    if wire::expansion::same_bytes(word, b"put") {
+    let word = field(line, 0);
+    if same_bytes(word, b"put") {
         return put(line, table, store, rt, text);
     }
-    if wire::expansion::same_bytes(word, b"clear") {
+    if same_bytes(word, b"clear") {
         return clear(line, table, store, rt, text);
     }
-    if wire::expansion::same_bytes(word, b"table") {
+    if same_bytes(word, b"table") {
         return make_table(line, table, store, rt, text);
     }
-    if wire::expansion::same_bytes(word, b"look") {
+    if same_bytes(word, b"look") {
         look(line, table, store, rt, text);
-        return table;
-    }
-    if wire::expansion::same_bytes(word, b"slot") {
+    } else if same_bytes(word, b"slot") {
         slot(line, table, store, rt, text);
-        return table;
+    } else {
+        bad_line(rt, text);
     }
-    bad_line(rt, text);
     table
 }

@@ -1,6 +1,8 @@
 // The answers of the console. An answer is gathered in a buffer of the caller, of which `used` bytes are taken, and written to what the caller prints to
 // where the buffer is full and at the answer's end. What is written no contract can say: these functions are proved safe and ending. A write that fails
 // changes nothing: the console goes on.
+use console_text::hex::spell;
+use console_text::lines::front;
 use itoa::Buffer;
 
 const TEXT: usize = 4096;
@@ -22,10 +24,8 @@ fn byte(rt: &impl Print, text: &mut [u8; 4096], used: usize, b: u8) -> usize {
 // Adds bytes as they are.
 fn plain(rt: &impl Print, text: &mut [u8; 4096], used: usize, s: &[u8]) -> usize {
     let mut taken = used;
-    let mut i = 0;
-    while i < s.len() {
-        taken = byte(rt, text, taken, s[i]);
-        i += 1;
+    for b in s {
+        taken = byte(rt, text, taken, *b);
     }
     taken
 }
@@ -50,26 +50,26 @@ pub fn number(rt: &impl Print, text: &mut [u8; 4096], used: usize, n: u64) -> us
 // Adds a piece of bytes in hex digits, or `-` for none.
 fn spelled(rt: &impl Print, text: &mut [u8; 4096], used: usize, s: &[u8]) -> usize {
     let mut digits = [0u8; 256];
-    let k = console_text::hex::spell(s, &mut digits);
-    plain(rt, text, used, console_text::lines::front(&digits, k))
+    let k = spell(s, &mut digits);
+    plain(rt, text, used, front(&digits, k))
 }
 
 // Adds a space and bytes in hex digits, or `-` for none.
 pub fn bytes(rt: &impl Print, text: &mut [u8; 4096], used: usize, s: &[u8]) -> usize {
     let mut taken = byte(rt, text, used, b' ');
-    let mut at = 0;
-    while PIECE < s.len() - at {
-        let end = at + PIECE;
-        taken = spelled(rt, text, taken, &s[at..end]);
-        at = end;
+    if s.is_empty() {
+        return spelled(rt, text, taken, s);
     }
-    spelled(rt, text, taken, &s[at..])
+    for piece in s.chunks(PIECE) {
+        taken = spelled(rt, text, taken, piece);
+    }
+    taken
 }
 
 // Ends the answer and writes it out.
 pub fn finish(rt: &impl Print, text: &mut [u8; 4096], used: usize) {
     let taken = byte(rt, text, used, b'\n');
-    let _ = rt.write_all(console_text::lines::front(text, taken));
+    let _ = rt.write_all(front(text, taken));
 }
 
 // An answer of one word, or of words that are always the same.

@@ -13,7 +13,9 @@ ghost use Rattle.console_responder.specs.Forms.{is_responder_call};
 ghost use Rattle.console_responder.specs.Lines.{unstarted, having, responder_after};
 
 use console_calls::output::bad_line;
+use console_text::lines::field;
 use responder::State;
+use wire::expansion::same_bytes;
 
 // The state before the first start.
 pub fn at_first() -> State
@@ -23,37 +25,23 @@ pub fn at_first() -> State
 }
 
 // Whether a word is one of these calls.
+#[tactic(auto, unfolding(crate::specs::Forms::is_responder_call))]
 pub fn is_call(word: &[u8]) -> bool
     ensures { result ≡ is_responder_call word.now }
 {
-    if wire::expansion::same_bytes(word, b"start") {
-        return true;
-    }
-    if wire::expansion::same_bytes(word, b"recv") {
-        return true;
-    }
-    if wire::expansion::same_bytes(word, b"tick") {
-        return true;
-    }
-    if wire::expansion::same_bytes(word, b"stop") {
-        return true;
-    }
-    if wire::expansion::same_bytes(word, b"update") {
-        return true;
-    }
-    if wire::expansion::same_bytes(word, b"claims") {
-        return true;
-    }
-    if wire::expansion::same_bytes(word, b"holds") {
-        return true;
-    }
-    if wire::expansion::same_bytes(word, b"out") {
-        return true;
-    }
-    wire::expansion::same_bytes(word, b"unicast")
+    same_bytes(word, b"start")
+        || same_bytes(word, b"recv")
+        || same_bytes(word, b"tick")
+        || same_bytes(word, b"stop")
+        || same_bytes(word, b"update")
+        || same_bytes(word, b"claims")
+        || same_bytes(word, b"holds")
+        || same_bytes(word, b"out")
+        || same_bytes(word, b"unicast")
 }
 
 // Answers one of these calls, and tells the state after it. Any other line is a bad one.
+#[tactic(auto, unfolding(crate::specs::Lines::responder_after))]
 pub fn call(
     line: &[u8],
     held: State,
@@ -67,38 +55,32 @@ pub fn call(
     ensures unicast { unicast.new
         ≡ (responder_after line.now (having held out.old unicast.old)).unicast }
 {
-    let word = console_text::lines::field(line, 0);
-    if wire::expansion::same_bytes(word, b"start") {
+    let word = field(line, 0);
+    if same_bytes(word, b"start") {
         return setup::start(line, held, rt, text);
     }
-    if wire::expansion::same_bytes(word, b"recv") {
+    if same_bytes(word, b"recv") {
         return sending::recv(line, held, out, unicast, rt, text);
     }
-    if wire::expansion::same_bytes(word, b"tick") {
+    if same_bytes(word, b"tick") {
         return sending::tick(line, held, out, rt, text);
     }
-    if wire::expansion::same_bytes(word, b"stop") {
+    if same_bytes(word, b"stop") {
         return changing::stop(line, held, out, rt, text);
     }
-    if wire::expansion::same_bytes(word, b"update") {
+    if same_bytes(word, b"update") {
         return changing::update(line, held, out, rt, text);
     }
-    if wire::expansion::same_bytes(word, b"claims") {
+    if same_bytes(word, b"claims") {
         showing::claims(line, held, rt, text);
-        return held;
-    }
-    if wire::expansion::same_bytes(word, b"holds") {
+    } else if same_bytes(word, b"holds") {
         showing::holds(line, held, rt, text);
-        return held;
-    }
-    if wire::expansion::same_bytes(word, b"out") {
+    } else if same_bytes(word, b"out") {
         showing::part(line, word, out, rt, text);
-        return held;
-    }
-    if wire::expansion::same_bytes(word, b"unicast") {
+    } else if same_bytes(word, b"unicast") {
         showing::part(line, word, unicast, rt, text);
-        return held;
+    } else {
+        bad_line(rt, text);
     }
-    bad_line(rt, text);
     held
 }

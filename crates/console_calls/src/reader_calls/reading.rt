@@ -1,24 +1,25 @@
 // The call `read PACKET`: what a message says, question by question and record by record.
 use crate::output::{bad_line, bytes, finish, first, number, refused, word};
+use console_text::fields::{are_bytes, has_arguments};
+use console_text::hex::fill;
+use console_text::lines::{field, front};
+use wire::message::{
+    Layout, MessageRead, QuestionAt, QuestionRead, RecordAt, RecordRead, Section, question_at,
+    read_message, record_at,
+};
+use wire::names::{Name, Span, expand};
 
 // Adds the name at an offset of a packet, uncompressed.
 fn name(p: &[u8], at: usize, rt: &impl Print, text: &mut [u8; 4096], used: usize) -> usize {
-    let e = wire::names::expand(p, at);
-    let found = e.name;
-    let b = e.bytes;
-    match found {
-        wire::names::Name::Found(span) => bytes(
-            rt,
-            text,
-            used,
-            console_text::lines::front(&b, span.len),
-        ),
-        wire::names::Name::Malformed => used,
+    let e = expand(p, at);
+    match e.name {
+        Name::Found(span) => bytes(rt, text, used, front(&e.bytes, span.len)),
+        Name::Malformed => used,
     }
 }
 
 // Adds the two numbers of a name: how many labels it has, and how long the first is.
-fn numbers(span: wire::names::Span, rt: &impl Print, text: &mut [u8; 4096], used: usize) -> usize {
+fn numbers(span: Span, rt: &impl Print, text: &mut [u8; 4096], used: usize) -> usize {
     let used = number(rt, text, used, span.labels as u64);
     number(rt, text, used, span.first as u64)
 }
@@ -47,9 +48,12 @@ fn rdata(
     used: usize,
 ) -> usize {
     let opened = wire::expansion::open(p, r);
-    let b = opened.bytes;
-    let n = opened.len;
-    bytes(rt, text, used, wire::expansion::view(p, &b, n, r))
+    bytes(
+        rt,
+        text,
+        used,
+        wire::expansion::view(p, &opened.bytes, opened.len, r),
+    )
 }
 
 // Adds the two numbers of the name in rdata that holds one, as that of PTR, SRV and an NSEC of the restricted kind does.
@@ -66,8 +70,8 @@ fn target(
         return used;
     }
     match wire::rdata::name_in(p, r.rdata, d, held.before, held.behind) {
-        wire::names::Name::Found(span) => numbers(span, rt, text, used),
-        wire::names::Name::Malformed => used,
+        Name::Found(span) => numbers(span, rt, text, used),
+        Name::Malformed => used,
     }
 }
 
@@ -101,18 +105,16 @@ fn questions(
 ) -> usize {
     let mut taken = used;
     let mut at = s.at;
-    let mut left = s.count;
-    while 0 < left {
-        match wire::message::question_at(p, at) {
-            wire::message::QuestionRead::Found(q) => {
+    for _ in 0..s.count {
+        match question_at(p, at) {
+            QuestionRead::Found(q) => {
                 taken = question(p, q, rt, text, taken);
                 at = q.next;
             }
-            wire::message::QuestionRead::Malformed => {
+            QuestionRead::Malformed => {
                 return taken;
             }
         }
-        left -= 1;
     }
     taken
 }
@@ -128,18 +130,16 @@ fn records(
 ) -> usize {
     let mut taken = used;
     let mut at = s.at;
-    let mut left = s.count;
-    while 0 < left {
-        match wire::message::record_at(p, at) {
-            wire::message::RecordRead::Found(r) => {
+    for _ in 0..s.count {
+        match record_at(p, at) {
+            RecordRead::Found(r) => {
                 taken = record(p, r, section, rt, text, taken);
                 at = r.next;
             }
-            wire::message::RecordRead::Malformed => {
+            RecordRead::Malformed => {
                 return taken;
             }
         }
-        left -= 1;
     }
     taken
 }
@@ -158,18 +158,15 @@ fn message(p: &[u8], m: wire::message::Layout, rt: &impl Print, text: &mut [u8; 
 
 // The answer for a packet.
 fn shown(p: &[u8], rt: &impl Print, text: &mut [u8; 4096]) {
-    match wire::message::read_message(p) {
-        wire::message::MessageRead::Read(m) => message(p, m, rt, text),
-        wire::message::MessageRead::Refused(n) => refused(rt, text, n as u64),
+    match read_message(p) {
+        MessageRead::Read(m) => message(p, m, rt, text),
+        MessageRead::Refused(n) => refused(rt, text, n as u64),
     }
 }
 
 // Whether a line is of the form `read PACKET`.
 fn is_read(line: &[u8]) -> bool {
-    if console_text::lines::arguments(line) != 1 {
-        return false;
-    }
-    console_text::hex::is_bytes(console_text::lines::field(line, 1))
+    has_arguments(line, 1) && are_bytes(line, 1)
 }
 
 // `read PACKET`
@@ -178,6 +175,6 @@ pub fn read(line: &[u8], rt: &impl Print, text: &mut [u8; 4096]) {
         return bad_line(rt, text);
     }
     let mut packet = [0u8; 20000];
-    let n = console_text::hex::fill(console_text::lines::field(line, 1), &mut packet);
-    shown(console_text::lines::front(&packet, n), rt, text)
+    let n = fill(field(line, 1), &mut packet);
+    shown(front(&packet, n), rt, text)
 }
