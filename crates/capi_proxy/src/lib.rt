@@ -12,8 +12,9 @@ ghost use Rattle.proxy.specs.records.Held.{held_out};
 ghost use Rattle.capi_proxy.specs.Numbers.{question_numbers, refused_numbers, field_numbers, record_numbers};
 
 use cache::entries::Entry;
-use proxy::questions::{Asked, Question};
-use proxy::records::{Fields, Passed, Passing};
+use proxy::domains::Moved;
+use proxy::records::{Fields, Passed};
+use wire::refusals::Refusal;
 
 // What becomes of a question: the specification's refusal number, or 0; whether it is answered negatively at once; and where it is asked on the link the
 // length of its name there and the bytes, zeros after them.
@@ -43,29 +44,30 @@ pub struct RecordNumbers {
     pub rdata: [u8; 261],
 }
 
-fn question_numbers(q: Question) -> QuestionNumbers
+fn question_numbers(q: Result<Option<Moved>, Refusal>) -> QuestionNumbers
     ensures { result ≡ question_numbers q }
 {
-    let asked = q.asked;
-    let name = q.name;
-    match asked {
-        Asked::Name(length) => QuestionNumbers {
-            refusal: 0,
-            negative: false,
-            length,
-            name,
-        },
-        Asked::Negative => QuestionNumbers {
+    match q {
+        Ok(Some(moved)) => {
+            let name = moved.bytes;
+            QuestionNumbers {
+                refusal: 0,
+                negative: false,
+                length: moved.len,
+                name,
+            }
+        }
+        Ok(None) => QuestionNumbers {
             refusal: 0,
             negative: true,
             length: 0,
-            name,
+            name: [0u8; 255],
         },
-        Asked::Refused(number) => QuestionNumbers {
-            refusal: number,
+        Err(refusal) => QuestionNumbers {
+            refusal: refusal.number(),
             negative: false,
             length: 0,
-            name,
+            name: [0u8; 255],
         },
     }
 }
@@ -90,11 +92,10 @@ fn refused_numbers(refusal: u8) -> RecordNumbers
 fn field_numbers(f: Fields, owner: [u8; 255], rdata: [u8; 261]) -> RecordNumbers
     ensures { result ≡ field_numbers f owner rdata }
 {
-    let form = wire::rdata::form_of(f.rtype);
     RecordNumbers {
         refusal: 0,
         passed: true,
-        named: form.named,
+        named: wire::rdata::form_of(f.rtype).named,
         rtype: f.rtype,
         class: f.class,
         ttl: f.ttl,
@@ -105,16 +106,13 @@ fn field_numbers(f: Fields, owner: [u8; 255], rdata: [u8; 261]) -> RecordNumbers
     }
 }
 
-fn record_numbers(p: Passed) -> RecordNumbers
+fn record_numbers(p: Result<Option<Passed>, Refusal>) -> RecordNumbers
     ensures { result ≡ record_numbers p }
 {
-    let passing = p.passing;
-    let owner = p.owner;
-    let rdata = p.rdata;
-    match passing {
-        Passing::Record(f) => field_numbers(f, owner, rdata),
-        Passing::Left => refused_numbers(0),
-        Passing::Refused(number) => refused_numbers(number),
+    match p {
+        Ok(Some(passed)) => field_numbers(passed.fields, passed.owner, passed.rdata),
+        Ok(None) => refused_numbers(0),
+        Err(refusal) => refused_numbers(refusal.number()),
     }
 }
 
@@ -122,7 +120,10 @@ fn record_numbers(p: Passed) -> RecordNumbers
 pub fn kurgashel_proxy_refusal(rich: &[u8], ldh: &[u8]) -> u8
     ensures { result ≡ setup_refusal (domains rich.now ldh.now) }
 {
-    proxy::domains::setup_refusal(rich, ldh)
+    match proxy::domains::check(rich, ldh) {
+        Ok(()) => 0,
+        Err(refusal) => refusal.number(),
+    }
 }
 
 // A unicast question for an uncompressed name and a type.

@@ -34,7 +34,7 @@ fn pair_of(answer: Answer) -> Pair
 {
     match answer {
         Answer::Refused(refusal) => Pair {
-            refusal,
+            refusal: refusal.number(),
             ..Pair::default()
         },
         Answer::Absent => Pair::default(),
