@@ -1,17 +1,19 @@
 -- The own records that are known: a flag for each. Assumes nothing.
-use mathlib.Core.Path.{◌≡◌, refl, sym, ap, ap₂, ◌∙◌}
+use mathlib.Core.Path.{◌≡◌, refl, sym, ap, ◌∙◌}
 use mathlib.Core.List.{List, [], ◌∷◌}
-use mathlib.Core.Bool.{Bool, false, ◌||◌, and-false}
+use mathlib.Core.Bool.{Bool, true, false, ◌||◌, and-false}
 use mathlib.Mathlib.Data.Bool.Basic.{or-eq-false-eq-eq-false-and-eq-false as neither}
 use lib.Dec.{eqb}
-use Prim.Native.Nat.{ℕ, ◌+◌}
-use lib.ListN.{set}
+use Prim.Native.Nat.{ℕ, zero, suc, ◌+◌, ◌<◌, ◌≤◌}
+use native.Mathlib.Omega.{arith}
+use lib.ListN.{get_or, set}
+use Rattle.std.proofs.lemmas.List.{get_or-replicate, get_or-set_other, set-get_or}
 use Rattle.wire.specs.Lists.{some}
 use Rattle.wire.specs.message.Message.{Record}
 use Rattle.wire.specs.message.Layout.{record_at}
 use Rattle.wire.specs.message.Readable.{readable}
 use Rattle.wire.specs.declared.message.Section.{Section}
-use Rattle.claims.specs.records.Own.{own_type, own_ttl, record_at as own_at}
+use Rattle.claims.specs.records.Own.{records, own_type, own_ttl, record_at as own_at}
 use Rattle.claims.specs.declared.records.Own.{Own}
 use Rattle.claims.proofs.records.Filled.{filled, next_filled}
 use Rattle.own.specs.declared.records.Setup.{Setup}
@@ -37,11 +39,22 @@ pub suppresses-own : (s : Setup) (i : ℕ) (o : Own) → o ≡ own_at i
     → (r : Record) (v : Bool) → v ≡ suppresses name rtype own ttl r → v ≡ suppresses_own s (own_at i) r
 suppresses-own s i o e name own rtype ttl n d y t r v h = h ∙ (λ j. suppresses (n j) (y j) (d j) (t j) r) ∙ ap (λ (q : Own). suppresses_own s q r) e
 
--- its flag, in an array and at an index that the walk over the answers left as they were
-pub own_flag : (test : Own → Bool) (i j : ℕ) (known flags : List Bool) (v : Bool) → j ≡ i → known ≡ flags → flags ≡ filled false test i → v ≡ test (own_at i)
-    → set known j v ≡ filled false test (j + 1)
-own_flag test i j known flags v e k f t =
-    ap₂ (λ (l : List Bool) (n : ℕ). set l n v) k e ∙ next_filled false test i flags v f t ∙ ap (λ (n : ℕ). filled false test (n + 1)) (sym e)
+-- its flag, set in an array that the walk over the answers left as it was
+pub own_flag : (test : Own → Bool) (i : ℕ) (known flags : List Bool) → known ≡ flags → flags ≡ filled false test i → true ≡ test (own_at i)
+    → set known i true ≡ filled false test (i + 1)
+own_flag test i known flags k f t = ap (λ (l : List Bool). set l i true) k ∙ next_filled false test i flags true f t
+
+-- and left clear, as all from there on are
+clear_from : (test : Own → Bool) (n i : ℕ) → n ≤ i → i < records → get_or (filled false test n) i false ≡ false
+unfolding filled
+clear_from test zero i h l = get_or-replicate records i false false l
+clear_from test (suc n) i h l = get_or-set_other (filled false test n) n i (test (own_at n)) false (λ e. omega arith) ∙ clear_from test n i (omega arith) l
+
+pub own_clear : (test : Own → Bool) (i : ℕ) (known flags : List Bool) → i < records → known ≡ flags → flags ≡ filled false test i → false ≡ test (own_at i)
+    → known ≡ filled false test (i + 1)
+own_clear test i known flags h k f t =
+    k ∙ sym (set-get_or flags i false) ∙ ap (set flags i) (ap (λ (l : List Bool). get_or l i false) f ∙ clear_from test i i (omega arith) h)
+    ∙ next_filled false test i flags false f t
 
 -- where no record has its type none suppresses it
 none-typed : (s : Setup) (o : Own) (rs : List Record) → some (is_of (own_type o)) rs ≡ false → some (suppresses_own s o) rs ≡ false

@@ -1,4 +1,5 @@
 -- Steps from one record to the next that follow no pointer: of a name that is well formed, the end in place is found. Assumes nothing.
+use Rattle.std.specs.Prelude.{Some, None}
 use mathlib.Core.Path.{◌≡◌, refl, sym, ap, ◌∙◌}
 use mathlib.Core.List.{List, []}
 use mathlib.Core.Bool.{Bool, true, false, cond, ◌&&◌, ◌||◌}
@@ -16,12 +17,15 @@ use Rattle.wire.specs.message.Message.{Record, ttl_of}
 use Rattle.wire.specs.message.Layout.{Item, item, broken, record_from, record_read, record_at}
 use Rattle.wire.specs.message.Readable.{and_more, readable}
 use Rattle.wire.specs.declared.message.RecordAt.{RecordAt}
-use Rattle.wire.specs.declared.message.RecordRead.TheVariants as r
 use Rattle.wire.specs.declared.name_pieces.Piece.{Piece}
 use Rattle.wire.specs.declared.name_pieces.Piece.TheVariants.{Root, Label, Pointer, Bad}
 use Rattle.wire.proofs.name_pieces.Pieces.{is-root, is-label, is_pointer_lem}
 use Rattle.wire.proofs.names.Rest.{read_at}
 use Rattle.wire.proofs.message.Cursor.{record_here}
+
+-- what is left of a count behind one item more
+pub one_less : (n k : ℕ) → n - (k + 1) ≡ n - k - 1
+one_less n k = omega arith
 
 -- the rest of a name that ends at `e` stands at `here`, in the run of labels that begins at `start`
 abbrev pub Rests : List ℕ → ℕ → ℕ → ℕ → Type 0
@@ -137,11 +141,11 @@ record_made p at bs e = record {
   next = e + 10 + word16 p (e + 8);
 }
 
-pub record_of_lem : (p : List ℕ) (at : ℕ) (bs : List ℕ) (e : ℕ) (f : RecordAt) → record_from p at (name bs e) ≡ r.Found f
+pub record_of_lem : (p : List ℕ) (at : ℕ) (bs : List ℕ) (e : ℕ) (f : RecordAt) → record_from p at (name bs e) ≡ Some f
     → (e + 10 ≤ length p) × (record_made p at bs e ≡ f)
 record_of_lem p at bs e f h = go (leb (e + 10) (length p)) (leb (e + 10 + word16 p (e + 8)) (length p)) refl h
   where
-    go : (a b : Bool) → leb (e + 10) (length p) ≡ a → cond (a && b) (r.Found (record_made p at bs e)) r.Malformed ≡ r.Found f
+    go : (a b : Bool) → leb (e + 10) (length p) ≡ a → cond (a && b) (Some (record_made p at bs e)) None ≡ Some f
         → (e + 10 ≤ length p) × (record_made p at bs e ≡ f)
     go true true t g = (leb-true _ _ t, cc)
     go true false t g = let z : ◌≡◌ {A = ℕ} 0 1 = cc in absurd (omega arith)

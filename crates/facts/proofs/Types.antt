@@ -4,7 +4,7 @@ use mathlib.Core.List.{List, [], ◌∷◌, ◌++◌}
 use mathlib.Core.Bool.{Bool, true, false, ◌&&◌, ◌||◌, and-false}
 use mathlib.Mathlib.Data.Bool.Basic.{or-eq-false-eq-eq-false-and-eq-false as neither}
 use Prim.Native.Nat.{ℕ}
-use borrow.Author.Tests.{ne_eqb, eqb-true}
+use borrow.Author.Tests.{eqb-true}
 use lib.Dec.{eqb}
 use Rattle.wire.specs.Lists.{some}
 use Rattle.wire.specs.message.Message.{Record, all_records}
@@ -21,25 +21,7 @@ use Rattle.own.specs.declared.records.Setup.{Setup}
 use Rattle.own.specs.records.Records.{has_record, own_name, own_rdata}
 use Rattle.facts.specs.Facts.{conflicts, conflicted, in_conflict, response_to}
 use Rattle.facts.specs.Types.{can_conflict, type_conflicts, some_type, may_conflict}
-use Rattle.facts.proofs.Responses.{in_second}
-
--- the test of a type, one after the other
-module _ (rtype : ℕ) where
-  pub type_1 : rtype ≡ 1 → true ≡ can_conflict rtype
-  unfolding can_conflict
-  type_1 e = sym (ap (λ (n : ℕ). eqb n 1 || (eqb n 16 || (eqb n 28 || eqb n 33))) e)
-
-  pub type_16 : rtype ≡ 16 → true ≡ can_conflict rtype
-  unfolding can_conflict
-  type_16 e = sym (ap (λ (n : ℕ). eqb n 1 || (eqb n 16 || (eqb n 28 || eqb n 33))) e)
-
-  pub type_28 : rtype ≡ 28 → true ≡ can_conflict rtype
-  unfolding can_conflict
-  type_28 e = sym (ap (λ (n : ℕ). eqb n 1 || (eqb n 16 || (eqb n 28 || eqb n 33))) e)
-
-  pub type_33 : (rtype ≡ 1 → ⊥) → (rtype ≡ 16 → ⊥) → (rtype ≡ 28 → ⊥) → eqb rtype 33 ≡ can_conflict rtype
-  unfolding can_conflict
-  type_33 a b c = sym (simp (ne_eqb _ _ a, ne_eqb _ _ b, ne_eqb _ _ c))
+use Rattle.facts.proofs.Responses.{some_append}
 
 -- a record of another type does not conflict
 module _ (name own : List ℕ) (rtype : ℕ) (can : can_conflict rtype ≡ true) where
@@ -79,8 +61,8 @@ module _ (name own : List ℕ) (rtype : ℕ) (can : can_conflict rtype ≡ true)
         let xs = readable (record_at p) l.answers.count l.answers.at in
         let ys = readable (record_at p) l.authorities.count l.authorities.at in
         let zs = readable (record_at p) l.additionals.count l.additionals.at in
-        sym (in_second test xs (ys ++ zs) false (sym (none_in l.answers x.0)) refl false
-        (in_second test ys zs false (sym (none_in l.authorities y.0)) refl false (sym (none_in l.additionals y.1))))
+        some_append test xs (ys ++ zs) ∙ ap (λ (b : Bool). b || some test (ys ++ zs)) (none_in l.answers x.0)
+        ∙ some_append test ys zs ∙ ap (λ (b : Bool). b || some test zs) (none_in l.authorities y.0) ∙ none_in l.additionals y.1
 
 module _ (s : Setup) (p : List ℕ) (l : Layout) (h : may_conflict p l ≡ false) where
   not-conflicted : (o : Own) → can_conflict (own_type o) ≡ true → conflicted s o (message_in p l) ≡ false
@@ -100,9 +82,3 @@ module _ (s : Setup) (p : List ℕ) (l : Layout) (h : may_conflict p l ≡ false
   unfolding can_conflict
   quiet_claim Instance = quiet Instance (not-conflicted (first_of Instance) refl) (not-conflicted (second_of Instance) refl)
   quiet_claim Host = quiet Host (not-conflicted (first_of Host) refl) (not-conflicted (second_of Host) refl)
-
--- the sections in turn: what is in none of them is not there
-pub in_none : (p : List ℕ) (l : Layout) → some_type p l.answers ≡ false → some_type p l.authorities ≡ false → some_type p l.additionals ≡ false
-    → may_conflict p l ≡ false
-unfolding may_conflict
-in_none p l a b c = λ j. a j || (b j || c j)

@@ -1,4 +1,3 @@
 -- Laws that belong to no one function. For callers: Probes (what a probe is), Corner (the specification's probe).
-mod Turns
 pub mod Probes
 pub mod Corner

@@ -1,5 +1,5 @@
 -- What the private functions ask of a question and of a record as they lie: that a walk met them in the packet. Assumes nothing: these are definitions.
-use Rattle.std.specs.Prelude.{ℕ, ◌≡◌, List, length}
+use Rattle.std.specs.Prelude.{ℕ, ◌≡◌, List, length, Option, Some, None}
 use Rattle.wire.specs.case_folding.Fold.{same_name}
 use Rattle.wire.specs.names.Names.{name, name_at}
 use Rattle.wire.specs.names.Answers.{name_is}
@@ -7,11 +7,7 @@ use Rattle.wire.specs.rdata.Rdata.{rdata, rdata_at}
 use Rattle.wire.specs.message.Layout.{item, broken, question_at, record_at}
 use Rattle.wire.specs.message.Readable.{question_shown, record_shown}
 use Rattle.wire.specs.declared.message.QuestionAt.{QuestionAt}
-use Rattle.wire.specs.declared.message.QuestionRead.{QuestionRead}
-use Rattle.wire.specs.declared.message.QuestionRead.TheVariants as q
 use Rattle.wire.specs.declared.message.RecordAt.{RecordAt}
-use Rattle.wire.specs.declared.message.RecordRead.{RecordRead}
-use Rattle.wire.specs.declared.message.RecordRead.TheVariants as r
 
 -- the name at an offset has so many bytes
 abbrev pub Long : List ℕ → ℕ → ℕ → Type 0
@@ -40,10 +36,10 @@ abbrev pub RecordFound : List ℕ → RecordAt → Type 0
 RecordFound p f = (at : ℕ) × RecordSeen p at f
 
 -- what a step of a walk finds at an offset
-abbrev pub QuestionStep : List ℕ → ℕ → QuestionRead → Type 0
-QuestionStep p at (q.Found f) = QuestionSeen p at f
-QuestionStep p at q.Malformed = question_at p at ≡ broken
+abbrev pub QuestionStep : List ℕ → ℕ → Option QuestionAt → Type 0
+QuestionStep p at (Some f) = QuestionSeen p at f
+QuestionStep p at None = question_at p at ≡ broken
 
-abbrev pub RecordStep : List ℕ → ℕ → RecordRead → Type 0
-RecordStep p at (r.Found f) = RecordSeen p at f
-RecordStep p at r.Malformed = record_at p at ≡ broken
+abbrev pub RecordStep : List ℕ → ℕ → Option RecordAt → Type 0
+RecordStep p at (Some f) = RecordSeen p at f
+RecordStep p at None = record_at p at ≡ broken

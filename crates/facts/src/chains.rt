@@ -6,22 +6,19 @@ ghost use Rattle.wire.specs.message.Layout.{question_at, record_at};
 ghost use Rattle.facts.specs.Found.{QuestionStep, RecordStep};
 ghost use Rattle.facts.specs.chains.Chains.{end_of, Ends, Stands, WholeLayout};
 
-use wire::message::{QuestionAt, QuestionRead, RecordAt, RecordRead};
+use wire::message::{Layout, QuestionAt, RecordAt, Section};
 use wire::name_pieces::Piece;
 use wire::names::Span;
 
 // Where the chain of pointers that begins at an offset ends, as far as it is noted.
+#[tactic(auto, unfolding(crate::specs::chains::Chains::end_of))]
 fn end_of(ends: &[u16], target: usize) -> usize
     ensures { result ≡ end_of ends.now target }
 {
-    if ends.len() <= target {
+    if ends.len() <= target || ends[target] == 0 {
         return target;
     }
-    let end = ends[target] as usize;
-    if end == 0 {
-        return target;
-    }
-    end
+    ends[target] as usize
 }
 
 // What is to be noted of an offset: where the chain that goes on at its pointer's target ends, and 0 where no pointer stands.
@@ -35,9 +32,7 @@ fn end_from(p: &[u8], ends: &[u16], at: usize) -> u16
     }
     match wire::name_pieces::piece_at(p, at, at, 0) {
         Piece::Pointer(target) => end_of(ends, target) as u16,
-        Piece::Root => 0,
-        Piece::Label(_) => 0,
-        Piece::Bad => 0,
+        Piece::Root | Piece::Label(_) | Piece::Bad => 0,
     }
 }
 
@@ -47,10 +42,8 @@ pub(crate) fn note_ends(p: &[u8], ends: &mut [u16; 8972])
     requires ends { Ends p.now ends.old }
     ensures { (length ends.new ≡ 8972) × Ends p.now ends.new }
 {
-    let mut at = 0;
-    while at < p.len() {
+    for at in 0..p.len() {
         ends[at] = end_from(p, ends, at);
-        at += 1;
     }
 }
 
@@ -93,7 +86,7 @@ pub(crate) fn name_by(p: &[u8], ends: &[u16], at: usize, other: &[u8]) -> bool
 }
 
 // The question at an offset; where the message was read, without its name followed.
-pub(crate) fn question_step(p: &[u8], ends: &[u16], at: usize) -> QuestionRead
+pub(crate) fn question_step(p: &[u8], ends: &[u16], at: usize) -> Option<QuestionAt>
     requires { 0 < length ends.now → Stands (question_at p.now) at }
     ensures { QuestionStep p.now at result }
 {
@@ -101,7 +94,7 @@ pub(crate) fn question_step(p: &[u8], ends: &[u16], at: usize) -> QuestionRead
         return wire::message::question_at(p, at);
     }
     let end = crate::past_labels(p, at);
-    QuestionRead::Found(QuestionAt {
+    Some(QuestionAt {
         name: at,
         span: Span {
             end,
@@ -116,7 +109,7 @@ pub(crate) fn question_step(p: &[u8], ends: &[u16], at: usize) -> QuestionRead
 }
 
 // The record at an offset, if its rdata is as its type asks; where the message was read, without its names followed.
-pub(crate) fn record_step(p: &[u8], ends: &[u16], at: usize) -> RecordRead
+pub(crate) fn record_step(p: &[u8], ends: &[u16], at: usize) -> Option<RecordAt>
     requires { 0 < length ends.now → Stands (record_at p.now) at }
     ensures { RecordStep p.now at result }
 {
@@ -125,7 +118,7 @@ pub(crate) fn record_step(p: &[u8], ends: &[u16], at: usize) -> RecordRead
     }
     let end = crate::past_labels(p, at);
     let rdlength = wire::octets::be16(p, end + 8) as usize;
-    RecordRead::Found(RecordAt {
+    Some(RecordAt {
         owner: at,
         span: Span {
             end,
@@ -143,39 +136,24 @@ pub(crate) fn record_step(p: &[u8], ends: &[u16], at: usize) -> RecordRead
 }
 
 // Whether two sections are the same part of a message.
-fn same_section(a: wire::message::Section, b: wire::message::Section) -> bool
+fn same_section(a: Section, b: Section) -> bool
     ensures { result ≡ true → a ≡ b }
 {
-    if a.at != b.at {
-        return false;
-    }
-    a.count == b.count
+    a.at == b.at && a.count == b.count
 }
 
 // Whether the sections of a layout are those of the message that is read in a packet.
-pub(crate) fn is_read(p: &[u8], l: wire::message::Layout) -> bool
+pub(crate) fn is_read(p: &[u8], l: Layout) -> bool
     ensures { result ≡ true → WholeLayout p.now l }
 {
     if wire::message::MOST_MESSAGE < p.len() {
         return false;
     }
-    match wire::long_message::read_long(p) {
-        wire::message::MessageRead::Read(m) => {
-            let a = l.questions;
-            let b = l.answers;
-            let c = l.authorities;
-            let d = l.additionals;
-            if !same_section(a, m.questions) {
-                return false;
-            }
-            if !same_section(b, m.answers) {
-                return false;
-            }
-            if !same_section(c, m.authorities) {
-                return false;
-            }
-            same_section(d, m.additionals)
-        }
-        wire::message::MessageRead::Refused(_) => false,
-    }
+    let Ok(m) = wire::long_message::read_long(p) else {
+        return false;
+    };
+    same_section(l.questions, m.questions)
+        && same_section(l.answers, m.answers)
+        && same_section(l.authorities, m.authorities)
+        && same_section(l.additionals, m.additionals)
 }

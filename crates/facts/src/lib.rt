@@ -28,6 +28,9 @@ ghost use Rattle.facts.specs.Facts.{is_truncated, facts_of};
 use claims::answers::{Facts, Heard};
 use claims::records::{Claim, Own, RECORDS, Set};
 use own::records::Setup;
+use std::cmp::Ordering;
+use wire::message::{Layout, QuestionAt, RecordAt, Section};
+use wire::rdata::part;
 
 // The own records that QM questions ask for, and those that QU questions do, which want the answer by unicast.
 #[derive(Clone, Copy)]
@@ -46,10 +49,7 @@ const ANY: u16 = 255;
 fn takes_in(asked: u16, own: u16) -> bool
     ensures { result ≡ takes_in asked own }
 {
-    if asked == own {
-        return true;
-    }
-    asked == ANY
+    asked == own || asked == ANY
 }
 
 // Whether the name at an offset is an own one. Where its length is known, and not 0, the lengths are compared before any pointer is followed.
@@ -58,40 +58,30 @@ fn is_named(p: &[u8], ends: &[u16], at: usize, len: usize, own: &[u8]) -> bool
     requires long_if_known { LongIfKnown p.now at len }
     ensures { result ≡ name_is p.now at own.now }
 {
-    if 0 < len {
-        if len != own.len() {
-            return false;
-        }
+    if len != 0 && len != own.len() {
+        return false;
     }
     crate::chains::name_by(p, ends, at, own)
 }
 
 // Whether a question asks for what a name has, where its type takes that in or not.
-fn asks(p: &[u8], ends: &[u16], q: wire::message::QuestionAt, name: &[u8], takes: bool) -> bool
+fn asks(p: &[u8], ends: &[u16], q: QuestionAt, name: &[u8], takes: bool) -> bool
     requires ends { Ends p.now ends.now }
     requires question_found { QuestionFound p.now q }
     ensures { result ≡ asks_by name.now takes (question_shown p.now q) }
 {
-    if !takes {
-        return false;
-    }
-    if !takes_in(q.class % 32768, INTERNET) {
-        return false;
-    }
-    is_named(p, ends, q.name, q.span.len, name)
+    takes && takes_in(q.class % 32768, INTERNET) && is_named(p, ends, q.name, q.span.len, name)
 }
 
 // Whether a type asks for an own record that is there.
 fn takes_own(setup: Setup, o: Own, rtype: u16) -> bool
     ensures { result ≡ has_record setup o && takes_in rtype (own_type o) }
 {
-    if own::records::has_record(setup, o) {
-        return takes_in(rtype, claims::records::own_type(o));
-    }
-    false
+    own::records::has_record(setup, o) && takes_in(rtype, claims::records::own_type(o))
 }
 
 // Whether a type asks for an own record; an NSEC is asked for by a type that asks for none of its claim's records.
+#[tactic(auto, unfolding(wire::specs::Lists::some))]
 fn type_asks(setup: Setup, o: Own, rtype: u16) -> bool
     ensures { result ≡ type_asks setup o rtype }
 {
@@ -99,21 +89,12 @@ fn type_asks(setup: Setup, o: Own, rtype: u16) -> bool
         return takes_in(rtype, claims::records::own_type(o));
     }
     let claim = claims::records::claim_for(o);
-    if takes_own(setup, claims::records::first_of(claim), rtype) {
-        return false;
-    }
-    !takes_own(setup, claims::records::second_of(claim), rtype)
+    !takes_own(setup, claims::records::first_of(claim), rtype)
+        && !takes_own(setup, claims::records::second_of(claim), rtype)
 }
 
 // Whether an own record is among those asked for before, or a question asks for it.
-fn is_asked(
-    p: &[u8],
-    ends: &[u16],
-    q: wire::message::QuestionAt,
-    setup: Setup,
-    asked: Set,
-    o: Own,
-) -> bool
+fn is_asked(p: &[u8], ends: &[u16], q: QuestionAt, setup: Setup, asked: Set, o: Own) -> bool
     requires ends { Ends p.now ends.now }
     requires question_found { QuestionFound p.now q }
     ensures { result ≡ has o asked || asks_own setup o (question_shown p.now q) }
@@ -126,22 +107,18 @@ fn is_asked(
         return false;
     }
     let own = own::records::own_name(setup, o);
-    let bytes = own.bytes;
-    let len = own.len;
-    asks(p, ends, q, wire::rdata::part(&bytes, 0, len), takes)
+    asks(p, ends, q, part(&own.bytes, 0, own.len), takes)
 }
 
 // The own records asked for before, and those that a question asks for.
-fn asked_with(p: &[u8], ends: &[u16], q: wire::message::QuestionAt, setup: Setup, asked: Set) -> Set
+fn asked_with(p: &[u8], ends: &[u16], q: QuestionAt, setup: Setup, asked: Set) -> Set
     requires ends { Ends p.now ends.now }
     requires question_found { QuestionFound p.now q }
     ensures { result ≡ asked_with setup (question_shown p.now q) asked }
 {
     let mut flags = [false; RECORDS];
-    let mut i = 0;
-    while i < RECORDS {
+    for i in 0..RECORDS {
         flags[i] = is_asked(p, ends, q, setup, asked, claims::records::record_at(i));
-        i += 1;
     }
     claims::records::set_of(flags)
 }
@@ -154,35 +131,28 @@ fn is_qu(class: u16) -> bool
 }
 
 // The own records asked for before by questions of each kind, and those that a question asks for.
-fn asked_too(
-    p: &[u8],
-    ends: &[u16],
-    q: wire::message::QuestionAt,
-    setup: Setup,
-    asked: AskedFor,
-) -> AskedFor
+fn asked_too(p: &[u8], ends: &[u16], q: QuestionAt, setup: Setup, asked: AskedFor) -> AskedFor
     requires ends { Ends p.now ends.now }
     requires question_found { QuestionFound p.now q }
     ensures { (let shown : Question = question_shown p.now q in
         let by : Set → Set = asked_with setup shown in
         result ≡ record { qm = cond (is_qm shown) (by asked.qm) asked.qm; qu = cond (is_qu shown) (by asked.qu) asked.qu }) }
 {
-    let qm = asked.qm;
-    let qu = asked.qu;
     if is_qu(q.class) {
-        return AskedFor {
-            qm,
-            qu: asked_with(p, ends, q, setup, qu),
-        };
-    }
-    AskedFor {
-        qm: asked_with(p, ends, q, setup, qm),
-        qu,
+        AskedFor {
+            qu: asked_with(p, ends, q, setup, asked.qu),
+            ..asked
+        }
+    } else {
+        AskedFor {
+            qm: asked_with(p, ends, q, setup, asked.qm),
+            ..asked
+        }
     }
 }
 
 // The own records that the questions ask for, by the kind of question, in one pass over them.
-fn asked_for(p: &[u8], ends: &[u16], l: wire::message::Layout, setup: Setup) -> AskedFor
+fn asked_for(p: &[u8], ends: &[u16], l: Layout, setup: Setup) -> AskedFor
     requires { Walkable p.now ends.now l }
     ensures qm_value { result.qm ≡ each (λ o. is_asked_as is_qm setup o (message_in p.now l)) }
     ensures qu_value { result.qu ≡ each (λ o. is_asked_as is_qu setup o (message_in p.now l)) }
@@ -191,18 +161,12 @@ fn asked_for(p: &[u8], ends: &[u16], l: wire::message::Layout, setup: Setup) -> 
     let none = claims::records::no_record();
     let mut asked = AskedFor { qm: none, qu: none };
     let mut here = s.at;
-    let mut left = s.count;
-    while 0 < left {
-        match crate::chains::question_step(p, ends, here) {
-            wire::message::QuestionRead::Found(q) => {
-                asked = asked_too(p, ends, q, setup, asked);
-                here = q.next;
-            }
-            wire::message::QuestionRead::Malformed => {
-                return asked;
-            }
-        }
-        left -= 1;
+    for _read in 0..s.count {
+        let Some(q) = crate::chains::question_step(p, ends, here) else {
+            return asked;
+        };
+        asked = asked_too(p, ends, q, setup, asked);
+        here = q.next;
     }
     asked
 }
@@ -211,7 +175,7 @@ fn asked_for(p: &[u8], ends: &[u16], l: wire::message::Layout, setup: Setup) -> 
 fn suppresses(
     p: &[u8],
     ends: &[u16],
-    f: wire::message::RecordAt,
+    f: RecordAt,
     name: &[u8],
     rtype: u16,
     own: &[u8],
@@ -221,179 +185,112 @@ fn suppresses(
     requires record_found { RecordFound p.now f }
     ensures { result ≡ suppresses name.now rtype own.now ttl (record_shown p.now f) }
 {
-    if f.rtype != rtype {
-        return false;
-    }
-    if f.class % 32768 != INTERNET {
-        return false;
-    }
-    if 2 * (f.ttl as u64) < ttl as u64 {
-        return false;
-    }
-    if !is_named(p, ends, f.owner, f.span.len, name) {
-        return false;
-    }
-    wire::expansion::rdata_is(p, f, own)
+    f.rtype == rtype
+        && f.class % 32768 == INTERNET
+        && ttl as u64 <= 2 * f.ttl as u64
+        && is_named(p, ends, f.owner, f.span.len, name)
+        && wire::expansion::rdata_is(p, f, own)
 }
 
 // The own records that the answers know: each own record against each answer, left at the first that suppresses it. An own record whose type none may have is
 // not looked for.
-fn known_in(p: &[u8], ends: &[u16], l: wire::message::Layout, setup: Setup) -> Set
+fn known_in(p: &[u8], ends: &[u16], l: Layout, setup: Setup) -> Set
     requires { Walkable p.now ends.now l }
     ensures { result ≡ each (λ o. is_known setup o (message_in p.now l)) }
 {
     let s = l.answers;
     let mut known = [false; RECORDS];
-    let mut i = 0;
-    'own: while i < RECORDS {
+    'own: for i in 0..RECORDS {
         let o = claims::records::record_at(i);
         let rtype = claims::records::own_type(o);
         if !has_type(p, s, rtype) {
-            known[i] = false;
-            i += 1;
-            continue 'own;
+            continue;
         }
         let name = own::records::own_name(setup, o);
-        let namebytes = name.bytes;
-        let namelen = name.len;
         let data = own::records::own_rdata(setup, o);
-        let databytes = data.bytes;
-        let datalen = data.len;
         let ttl = claims::records::own_ttl(o);
         let mut here = s.at;
-        let mut left = s.count;
-        while 0 < left {
-            match crate::chains::record_step(p, ends, here) {
-                wire::message::RecordRead::Found(f) => {
-                    if suppresses(
-                        p,
-                        ends,
-                        f,
-                        wire::rdata::part(&namebytes, 0, namelen),
-                        rtype,
-                        wire::rdata::part(&databytes, 0, datalen),
-                        ttl,
-                    ) {
-                        known[i] = true;
-                        i += 1;
-                        continue 'own;
-                    }
-                    here = f.next;
-                }
-                wire::message::RecordRead::Malformed => {
-                    known[i] = false;
-                    i += 1;
-                    continue 'own;
-                }
+        for _read in 0..s.count {
+            let Some(f) = crate::chains::record_step(p, ends, here) else {
+                continue 'own;
+            };
+            if suppresses(
+                p,
+                ends,
+                f,
+                part(&name.bytes, 0, name.len),
+                rtype,
+                part(&data.bytes, 0, data.len),
+                ttl,
+            ) {
+                known[i] = true;
+                continue 'own;
             }
-            left -= 1;
+            here = f.next;
         }
-        known[i] = false;
-        i += 1;
     }
     claims::records::set_of(known)
 }
 
 // The same; without an Answer record none is known.
-fn known_of(p: &[u8], ends: &[u16], l: wire::message::Layout, setup: Setup) -> Set
+fn known_of(p: &[u8], ends: &[u16], l: Layout, setup: Setup) -> Set
     requires { Walkable p.now ends.now l }
     ensures { result ≡ each (λ o. is_known setup o (message_in p.now l)) }
 {
-    let answers = l.answers;
-    if answers.count == 0 {
+    if l.answers.count == 0 {
         return claims::records::no_record();
     }
     known_in(p, ends, l, setup)
 }
 
 // Whether a record conflicts with an own one: equal name, class 1 and type, a TTL that is not 0, and other rdata.
-fn conflicts(
-    p: &[u8],
-    ends: &[u16],
-    f: wire::message::RecordAt,
-    name: &[u8],
-    rtype: u16,
-    own: &[u8],
-) -> bool
+fn conflicts(p: &[u8], ends: &[u16], f: RecordAt, name: &[u8], rtype: u16, own: &[u8]) -> bool
     requires ends { Ends p.now ends.now }
     requires record_found { RecordFound p.now f }
     ensures { result ≡ conflicts name.now rtype own.now (record_shown p.now f) }
 {
-    if f.rtype != rtype {
-        return false;
-    }
-    if f.class % 32768 != INTERNET {
-        return false;
-    }
-    if f.ttl == 0 {
-        return false;
-    }
-    if !is_named(p, ends, f.owner, f.span.len, name) {
-        return false;
-    }
-    !wire::expansion::rdata_is(p, f, own)
+    f.rtype == rtype
+        && f.class % 32768 == INTERNET
+        && f.ttl != 0
+        && is_named(p, ends, f.owner, f.span.len, name)
+        && !wire::expansion::rdata_is(p, f, own)
 }
 
 // Whether a record of a section conflicts with an own one.
-fn some_conflicts(
-    p: &[u8],
-    ends: &[u16],
-    s: wire::message::Section,
-    name: &[u8],
-    rtype: u16,
-    own: &[u8],
-) -> bool
+fn some_conflicts(p: &[u8], ends: &[u16], s: Section, name: &[u8], rtype: u16, own: &[u8]) -> bool
     requires ends { Ends p.now ends.now }
     requires whole { Whole (record_at p.now) ends.now s.count s.at }
     ensures { (let test : Record → Bool = conflicts name.now rtype own.now in
         result ≡ some test (readable (record_at p.now) s.count s.at)) }
 {
     let mut here = s.at;
-    let mut left = s.count;
-    while 0 < left {
-        match crate::chains::record_step(p, ends, here) {
-            wire::message::RecordRead::Found(f) => {
-                if conflicts(p, ends, f, name, rtype, own) {
-                    return true;
-                }
-                here = f.next;
-            }
-            wire::message::RecordRead::Malformed => {
-                return false;
-            }
+    for _read in 0..s.count {
+        let Some(f) = crate::chains::record_step(p, ends, here) else {
+            return false;
+        };
+        if conflicts(p, ends, f, name, rtype, own) {
+            return true;
         }
-        left -= 1;
+        here = f.next;
     }
     false
 }
 
 // Whether a record of any section conflicts with an own one.
-fn conflicts_in(
-    p: &[u8],
-    ends: &[u16],
-    l: wire::message::Layout,
-    name: &[u8],
-    rtype: u16,
-    own: &[u8],
-) -> bool
+#[tactic(auto, using(crate::proofs::Responses::some_append), unfolding(wire::specs::message::Readable::message_in))]
+fn conflicts_in(p: &[u8], ends: &[u16], l: Layout, name: &[u8], rtype: u16, own: &[u8]) -> bool
     requires { Walkable p.now ends.now l }
     ensures { (let test : Record → Bool = conflicts name.now rtype own.now in
         result ≡ some test (all_records (message_in p.now l))) }
 {
-    let answers = l.answers;
-    if some_conflicts(p, ends, answers, name, rtype, own) {
-        return true;
-    }
-    let authorities = l.authorities;
-    if some_conflicts(p, ends, authorities, name, rtype, own) {
-        return true;
-    }
-    let additionals = l.additionals;
-    some_conflicts(p, ends, additionals, name, rtype, own)
+    some_conflicts(p, ends, l.answers, name, rtype, own)
+        || some_conflicts(p, ends, l.authorities, name, rtype, own)
+        || some_conflicts(p, ends, l.additionals, name, rtype, own)
 }
 
 // Whether a record of a message conflicts with an own record that the set-up has.
-fn has_conflict(p: &[u8], ends: &[u16], l: wire::message::Layout, setup: Setup, o: Own) -> bool
+#[tactic(auto, unfolding(crate::specs::Facts::conflicted))]
+fn has_conflict(p: &[u8], ends: &[u16], l: Layout, setup: Setup, o: Own) -> bool
     requires { Walkable p.now ends.now l }
     ensures { result ≡ conflicted setup o (message_in p.now l) }
 {
@@ -401,35 +298,23 @@ fn has_conflict(p: &[u8], ends: &[u16], l: wire::message::Layout, setup: Setup, 
         return false;
     }
     let name = own::records::own_name(setup, o);
-    let namebytes = name.bytes;
-    let namelen = name.len;
     let data = own::records::own_rdata(setup, o);
-    let databytes = data.bytes;
-    let datalen = data.len;
     conflicts_in(
         p,
         ends,
         l,
-        wire::rdata::part(&namebytes, 0, namelen),
+        part(&name.bytes, 0, name.len),
         claims::records::own_type(o),
-        wire::rdata::part(&databytes, 0, datalen),
+        part(&data.bytes, 0, data.len),
     )
 }
 
 // Whether a type is that of a claimed record: A, TXT, AAAA or SRV.
+#[tactic(auto, unfolding(crate::specs::Types::can_conflict))]
 fn can_conflict(rtype: u16) -> bool
     ensures { result ≡ can_conflict rtype }
 {
-    if rtype == 1 {
-        return true;
-    }
-    if rtype == 16 {
-        return true;
-    }
-    if rtype == 28 {
-        return true;
-    }
-    rtype == 33
+    rtype == 1 || rtype == 16 || rtype == 28 || rtype == 33
 }
 
 // Where the name at an offset ends in place, if it is well formed: no pointer is followed.
@@ -451,173 +336,123 @@ fn past_labels(p: &[u8], at: usize) -> usize
 }
 
 // Whether a record of a section may have such a type, by steps from record to record that follow no pointer and leave rdata unread.
-fn some_type(p: &[u8], s: wire::message::Section) -> bool
+fn some_type(p: &[u8], s: Section) -> bool
     ensures { result ≡ false → some_type p.now s ≡ false }
 {
     let mut here = s.at;
-    let mut left = s.count;
-    while 0 < left {
+    for _seen in 0..s.count {
         let end = past_labels(p, here);
-        if p.len() < end {
-            return false;
-        }
-        if p.len() - end < 10 {
+        if p.len() < end || p.len() - end < 10 {
             return false;
         }
         if can_conflict(wire::octets::be16(p, end)) {
             return true;
         }
         here = end + 10 + wire::octets::be16(p, end + 8) as usize;
-        left -= 1;
     }
     false
 }
 
 // Whether a record of a section may have a type, by the same steps.
-fn has_type(p: &[u8], s: wire::message::Section, rtype: u16) -> bool
+fn has_type(p: &[u8], s: Section, rtype: u16) -> bool
     ensures { result ≡ false → some_of rtype p.now s ≡ false }
 {
     let mut here = s.at;
-    let mut left = s.count;
-    while 0 < left {
+    for _seen in 0..s.count {
         let past = past_labels(p, here);
-        if p.len() < past {
-            return false;
-        }
-        if p.len() - past < 10 {
+        if p.len() < past || p.len() - past < 10 {
             return false;
         }
         if wire::octets::be16(p, past) == rtype {
             return true;
         }
         here = past + 10 + wire::octets::be16(p, past + 8) as usize;
-        left -= 1;
     }
     false
 }
 
 // Whether a record of any section may have such a type. Where none has, there is no conflict.
-fn may_conflict(p: &[u8], l: wire::message::Layout) -> bool
+#[tactic(auto, unfolding(crate::specs::Types::may_conflict))]
+fn may_conflict(p: &[u8], l: Layout) -> bool
     ensures { result ≡ false → may_conflict p.now l ≡ false }
 {
-    let answers = l.answers;
-    if some_type(p, answers) {
-        return true;
-    }
-    let authorities = l.authorities;
-    if some_type(p, authorities) {
-        return true;
-    }
-    let additionals = l.additionals;
-    some_type(p, additionals)
+    some_type(p, l.answers) || some_type(p, l.authorities) || some_type(p, l.additionals)
 }
 
 // Whether a message is a response of which no record can conflict.
-fn is_quiet(p: &[u8], l: wire::message::Layout) -> bool
+fn is_quiet(p: &[u8], l: Layout) -> bool
     ensures { result ≡ true → (32768 ≤ l.flags) × (may_conflict p.now l ≡ false) }
 {
-    if l.flags < 32768 {
-        return false;
-    }
-    !may_conflict(p, l)
+    32768 <= l.flags && !may_conflict(p, l)
 }
 
 // What a response says to a claim.
-fn response_to(
-    p: &[u8],
-    ends: &[u16],
-    l: wire::message::Layout,
-    setup: Setup,
-    claim: Claim,
-) -> Heard
+#[tactic(auto, unfolding(wire::specs::Lists::some))]
+fn response_to(p: &[u8], ends: &[u16], l: Layout, setup: Setup, claim: Claim) -> Heard
     requires { Walkable p.now ends.now l }
     ensures { result ≡ response_to setup claim (message_in p.now l) }
 {
-    if has_conflict(p, ends, l, setup, claims::records::first_of(claim)) {
-        return Heard {
-            probe: false,
-            later: false,
-            conflict: true,
-        };
-    }
     Heard {
         probe: false,
         later: false,
-        conflict: has_conflict(p, ends, l, setup, claims::records::second_of(claim)),
+        conflict: has_conflict(p, ends, l, setup, claims::records::first_of(claim))
+            || has_conflict(p, ends, l, setup, claims::records::second_of(claim)),
     }
 }
 
 // Whether a verdict says that theirs is later.
-fn is_later(v: crate::tiebreak::Verdict) -> bool
+fn is_later(v: Ordering) -> bool
     ensures { result ≡ is_later v }
 {
-    match v {
-        crate::tiebreak::Verdict::Earlier => false,
-        crate::tiebreak::Verdict::Same => false,
-        crate::tiebreak::Verdict::Later => true,
-    }
+    v.is_gt()
 }
 
 // Whether the records of a message under the name of a claim are later than its own.
-fn theirs_later(
-    p: &[u8],
-    ends: &[u16],
-    l: wire::message::Layout,
-    setup: Setup,
-    claim: Claim,
-) -> bool
+fn theirs_later(p: &[u8], ends: &[u16], l: Layout, setup: Setup, claim: Claim) -> bool
     requires { Walkable p.now ends.now l }
     ensures { result ≡ theirs_later setup claim (message_in p.now l) }
 {
     let first = claims::records::first_of(claim);
     let second = claims::records::second_of(claim);
     let name = own::records::own_name(setup, first);
-    let namebytes = name.bytes;
-    let namelen = name.len;
     let one = own::records::own_rdata(setup, first);
-    let onebytes = one.bytes;
-    let onelen = one.len;
     let two = own::records::own_rdata(setup, second);
-    let twobytes = two.bytes;
-    let twolen = two.len;
     let own = crate::tiebreak::OwnTypes {
         first: claims::records::own_type(first),
-        second: claims::records::own_type(second),
-        both: own::records::has_record(setup, second),
+        second: own::records::has_record(setup, second).then_some(claims::records::own_type(
+            second,
+        )),
     };
     is_later(crate::tiebreak::tie_by(
         p,
         ends,
         l,
-        wire::rdata::part(&namebytes, 0, namelen),
+        part(&name.bytes, 0, name.len),
         own,
-        wire::rdata::part(&onebytes, 0, onelen),
-        wire::rdata::part(&twobytes, 0, twolen),
+        part(&one.bytes, 0, one.len),
+        part(&two.bytes, 0, two.len),
     ))
 }
 
 // What a query says to a claim.
-fn query_to(p: &[u8], ends: &[u16], l: wire::message::Layout, setup: Setup, claim: Claim) -> Heard
+fn query_to(p: &[u8], ends: &[u16], l: Layout, setup: Setup, claim: Claim) -> Heard
     requires { Walkable p.now ends.now l }
     ensures { result ≡ query_to setup claim (message_in p.now l) }
 {
     let name = own::records::own_name(setup, claims::records::first_of(claim));
-    let namebytes = name.bytes;
-    let namelen = name.len;
     Heard {
-        probe: crate::probe::probe_by(p, ends, l, wire::rdata::part(&namebytes, 0, namelen)),
+        probe: crate::probe::probe_by(p, ends, l, part(&name.bytes, 0, name.len)),
         later: theirs_later(p, ends, l, setup, claim),
         conflict: false,
     }
 }
 
 // The same; without an Authority record it is no probe, and nothing is later.
-fn heard_in(p: &[u8], ends: &[u16], l: wire::message::Layout, setup: Setup, claim: Claim) -> Heard
+fn heard_in(p: &[u8], ends: &[u16], l: Layout, setup: Setup, claim: Claim) -> Heard
     requires { Walkable p.now ends.now l }
     ensures { result ≡ query_to setup claim (message_in p.now l) }
 {
-    let authorities = l.authorities;
-    if authorities.count == 0 {
+    if l.authorities.count == 0 {
         return Heard {
             probe: false,
             later: false,
@@ -635,7 +470,7 @@ fn is_truncated(flags: u16) -> bool
 }
 
 // What the message that a layout shows says to a responder of this set-up, a response that may conflict or a query.
-fn facts_by(p: &[u8], ends: &[u16], l: wire::message::Layout, setup: Setup) -> Facts
+fn facts_by(p: &[u8], ends: &[u16], l: Layout, setup: Setup) -> Facts
     requires { Walkable p.now ends.now l }
     ensures { result ≡ facts_of setup (message_in p.now l) }
 {
@@ -651,12 +486,11 @@ fn facts_by(p: &[u8], ends: &[u16], l: wire::message::Layout, setup: Setup) -> F
         };
     }
     let asked = asked_for(p, ends, l, setup);
-    let qm = asked.qm;
     Facts {
         response: false,
         truncated: is_truncated(l.flags),
-        asked: claims::holds::union(qm, asked.qu),
-        qm,
+        asked: claims::holds::union(asked.qm, asked.qu),
+        qm: asked.qm,
         known: known_of(p, ends, l, setup),
         instance: heard_in(p, ends, l, setup, Claim::Instance),
         host: heard_in(p, ends, l, setup, Claim::Host),
@@ -664,7 +498,7 @@ fn facts_by(p: &[u8], ends: &[u16], l: wire::message::Layout, setup: Setup) -> F
 }
 
 // The same of a message that was read: where its chains of pointers end is noted first.
-fn noted_facts(p: &[u8], l: wire::message::Layout, setup: Setup) -> Facts
+fn noted_facts(p: &[u8], l: Layout, setup: Setup) -> Facts
     requires { WholeLayout p.now l }
     ensures { result ≡ facts_of setup (message_in p.now l) }
 {
@@ -674,7 +508,7 @@ fn noted_facts(p: &[u8], l: wire::message::Layout, setup: Setup) -> Facts
 }
 
 // What the message that a layout shows says to a responder of this set-up. A message that is longer than a frame, and was read, is walked with notes.
-pub fn facts(p: &[u8], l: wire::message::Layout, setup: Setup) -> Facts
+pub fn facts(p: &[u8], l: Layout, setup: Setup) -> Facts
     ensures { result ≡ facts_of setup (message_in p.now l) }
 {
     if is_quiet(p, l) {
@@ -696,10 +530,8 @@ pub fn facts(p: &[u8], l: wire::message::Layout, setup: Setup) -> Facts
             },
         };
     }
-    if wire::message::MOST_IN_FRAME < p.len() {
-        if crate::chains::is_read(p, l) {
-            return noted_facts(p, l, setup);
-        }
+    if wire::message::MOST_IN_FRAME < p.len() && crate::chains::is_read(p, l) {
+        return noted_facts(p, l, setup);
     }
     let none = [0u16; 1];
     facts_by(p, &none[..0], l, setup)

@@ -10,16 +10,11 @@ ghost use Rattle.wire.specs.message.Layout.{record_at};
 ghost use Rattle.facts.specs.Found.{RecordFound};
 ghost use Rattle.facts.specs.chains.Chains.{Ends, Whole, Walkable};
 ghost use Rattle.facts.specs.tiebreak.Later.{TieRecord, number_of, is_later, compare_bytes, compare_records, tie};
-ghost use Rattle.facts.specs.tiebreak.Lists.{tie_record, list_in, own_record, own_list, theirs};
+ghost use Rattle.facts.specs.tiebreak.Lists.{tie_record, list_in, own_record, own_records, theirs};
 ghost use Rattle.facts.specs.tiebreak.Counts.{count_one, count_met, count_all, none_counted, placed, beyond};
 
-// How one list stands to another. the specification's numbers are -1, 0 and 1.
-#[derive(Clone, Copy)]
-pub enum Verdict {
-    Earlier,
-    Same,
-    Later,
-}
+use std::cmp::Ordering;
+use wire::message::{Layout, RecordAt, Section};
 
 // Of the records of a list: how many there are, how many stand earlier than an own record, and how many equal it.
 #[derive(Clone, Copy)]
@@ -30,31 +25,15 @@ struct Counts {
 }
 
 // How bytes compare, each as 0..255; the longer of two equal beginnings is later.
-fn compare_bytes(a: &[u8], b: &[u8]) -> Verdict
+#[tactic(auto, using(crate::proofs::tiebreak::Orders::bytes_in_turn))]
+fn compare_bytes(a: &[u8], b: &[u8]) -> Ordering
     ensures { result ≡ compare_bytes a.now b.now }
 {
-    let mut i = 0;
-    while i < a.len() {
-        if b.len() <= i {
-            return Verdict::Later;
-        }
-        let x = a[i];
-        let y = b[i];
-        if x < y {
-            return Verdict::Earlier;
-        }
-        if y < x {
-            return Verdict::Later;
-        }
-        i += 1;
-    }
-    if i < b.len() {
-        return Verdict::Earlier;
-    }
-    Verdict::Same
+    a.cmp(b)
 }
 
 // How two records compare: by class, type, rdata bytes.
+#[tactic(auto, using(crate::proofs::tiebreak::Orders::by_fields), unfolding(crate::specs::tiebreak::Later::compare_records, crate::specs::tiebreak::Later::compare_numbers))]
 fn compare_records(
     class: u16,
     rtype: u16,
@@ -62,28 +41,19 @@ fn compare_records(
     class2: u16,
     rtype2: u16,
     rdata2: &[u8],
-) -> Verdict
+) -> Ordering
     ensures { (let a : TieRecord = record { class = class; rtype = rtype; rdata = rdata.now } in
         let b : TieRecord = record { class = class2; rtype = rtype2; rdata = rdata2.now } in
         result ≡ compare_records a b) }
 {
-    if class < class2 {
-        return Verdict::Earlier;
-    }
-    if class2 < class {
-        return Verdict::Later;
-    }
-    if rtype < rtype2 {
-        return Verdict::Earlier;
-    }
-    if rtype2 < rtype {
-        return Verdict::Later;
-    }
-    compare_bytes(rdata, rdata2)
+    class
+        .cmp(&class2)
+        .then(rtype.cmp(&rtype2))
+        .then_with(|| compare_bytes(rdata, rdata2))
 }
 
 // How a record of the packet compares with an own one.
-fn compare_with_own(p: &[u8], f: wire::message::RecordAt, rtype: u16, own: &[u8]) -> Verdict
+fn compare_with_own(p: &[u8], f: RecordAt, rtype: u16, own: &[u8]) -> Ordering
     requires { fits (rdata_at p.now f) ≡ true }
     ensures { result ≡ compare_records (tie_record (record_shown p.now f)) (own_record rtype own.now) }
 {
@@ -96,25 +66,24 @@ fn compare_with_own(p: &[u8], f: wire::message::RecordAt, rtype: u16, own: &[u8]
 }
 
 // Counts with one record more, which compares so with the own one.
-fn count_one(v: Verdict, c: Counts) -> Counts
+fn count_one(v: Ordering, c: Counts) -> Counts
     requires { (c.all < 65535) × (c.earlier < 65535) × (c.same < 65535) }
     ensures { result ≡ count_one v c }
 {
     match v {
-        Verdict::Earlier => Counts {
+        Ordering::Less => Counts {
             all: c.all + 1,
             earlier: c.earlier + 1,
-            same: c.same,
+            ..c
         },
-        Verdict::Same => Counts {
+        Ordering::Equal => Counts {
             all: c.all + 1,
-            earlier: c.earlier,
             same: c.same + 1,
+            ..c
         },
-        Verdict::Later => Counts {
+        Ordering::Greater => Counts {
             all: c.all + 1,
-            earlier: c.earlier,
-            same: c.same,
+            ..c
         },
     }
 }
@@ -123,7 +92,7 @@ fn count_one(v: Verdict, c: Counts) -> Counts
 fn count_met(
     p: &[u8],
     ends: &[u16],
-    f: wire::message::RecordAt,
+    f: RecordAt,
     name: &[u8],
     rtype: u16,
     own: &[u8],
@@ -142,14 +111,7 @@ fn count_met(
 }
 
 // Counts of the records of a section that are under a name, against an own record.
-fn count_under(
-    p: &[u8],
-    ends: &[u16],
-    s: wire::message::Section,
-    name: &[u8],
-    rtype: u16,
-    own: &[u8],
-) -> Counts
+fn count_under(p: &[u8], ends: &[u16], s: Section, name: &[u8], rtype: u16, own: &[u8]) -> Counts
     requires ends { Ends p.now ends.now }
     requires whole { Whole (record_at p.now) ends.now s.count s.at }
     ensures { result ≡ count_all (own_record rtype own.now) (list_in name.now p.now s) none_counted }
@@ -160,80 +122,65 @@ fn count_under(
         same: 0,
     };
     let mut here = s.at;
-    let mut left = s.count;
-    while 0 < left {
-        match crate::chains::record_step(p, ends, here) {
-            wire::message::RecordRead::Found(f) => {
-                c = count_met(p, ends, f, name, rtype, own, c);
-                here = f.next;
-            }
-            wire::message::RecordRead::Malformed => {
-                return c;
-            }
-        }
-        left -= 1;
+    for _read in 0..s.count {
+        let Some(f) = crate::chains::record_step(p, ends, here) else {
+            return c;
+        };
+        c = count_met(p, ends, f, name, rtype, own, c);
+        here = f.next;
     }
     c
 }
 
 // How the record at place `k` of the sorted list compares with the own record that was counted against; a list that has run out is earlier.
-fn place(k: u16, c: Counts) -> Verdict
+#[tactic(auto, unfolding(crate::specs::tiebreak::Counts::placed))]
+fn place(k: u16, c: Counts) -> Ordering
     ensures { result ≡ placed k c }
 {
     if k < c.earlier {
-        return Verdict::Earlier;
+        Ordering::Less
+    } else if k - c.earlier < c.same {
+        Ordering::Equal
+    } else if k < c.all {
+        Ordering::Greater
+    } else {
+        Ordering::Less
     }
-    if k - c.earlier < c.same {
-        return Verdict::Same;
-    }
-    if k < c.all {
-        return Verdict::Later;
-    }
-    Verdict::Earlier
 }
 
 // How the lists compare where the own one has run out after `k` records that were the same.
-fn past_own(k: u16, c: Counts) -> Verdict
+#[tactic(auto, unfolding(crate::specs::tiebreak::Counts::beyond))]
+fn past_own(k: u16, c: Counts) -> Ordering
     ensures { result ≡ beyond k c }
 {
     if k < c.all {
-        return Verdict::Later;
+        Ordering::Greater
+    } else {
+        Ordering::Equal
     }
-    Verdict::Same
 }
 
 // The tiebreak with an own list of one record.
-fn against_one(
-    p: &[u8],
-    ends: &[u16],
-    s: wire::message::Section,
-    name: &[u8],
-    rtype: u16,
-    own: &[u8],
-) -> Verdict
+fn against_one(p: &[u8], ends: &[u16], s: Section, name: &[u8], rtype: u16, own: &[u8]) -> Ordering
     requires ends { Ends p.now ends.now }
     requires whole { Whole (record_at p.now) ends.now s.count s.at }
     ensures { result ≡ tie (list_in name.now p.now s) (own_record rtype own.now ∷ []) }
 {
     let c = count_under(p, ends, s, name, rtype, own);
-    match place(0, c) {
-        Verdict::Earlier => Verdict::Earlier,
-        Verdict::Same => past_own(1, c),
-        Verdict::Later => Verdict::Later,
-    }
+    place(0, c).then(past_own(1, c))
 }
 
 // The tiebreak with an own list of two records, the second not earlier than the first.
 fn against_two(
     p: &[u8],
     ends: &[u16],
-    s: wire::message::Section,
+    s: Section,
     name: &[u8],
     rtype: u16,
     own: &[u8],
     rtype2: u16,
     own2: &[u8],
-) -> Verdict
+) -> Ordering
     requires ends { Ends p.now ends.now }
     requires whole { Whole (record_at p.now) ends.now s.count s.at }
     requires own2_value { is_later (compare_records (own_record rtype own.now) (own_record rtype2 own2.now)) ≡ false }
@@ -241,26 +188,19 @@ fn against_two(
         result ≡ tie (list_in name.now p.now s) mine) }
 {
     let c = count_under(p, ends, s, name, rtype, own);
-    match place(0, c) {
-        Verdict::Earlier => Verdict::Earlier,
-        Verdict::Same => {
-            let d = count_under(p, ends, s, name, rtype2, own2);
-            match place(1, d) {
-                Verdict::Earlier => Verdict::Earlier,
-                Verdict::Same => past_own(2, d),
-                Verdict::Later => Verdict::Later,
-            }
-        }
-        Verdict::Later => Verdict::Later,
+    let first = place(0, c);
+    if first.is_ne() {
+        return first;
     }
+    let d = count_under(p, ends, s, name, rtype2, own2);
+    place(1, d).then(past_own(2, d))
 }
 
-// The types of a claim's own records, and whether there is a second one.
+// The types of a claim's own records: of the first, and of the second where there is one.
 #[derive(Clone, Copy)]
 pub struct OwnTypes {
     pub first: u16,
-    pub second: u16,
-    pub both: bool,
+    pub second: Option<u16>,
 }
 
 // The tiebreak: how the message's Authority records under a name stand to the own records of the claim to it. `first` and `second` are the own
@@ -268,41 +208,40 @@ pub struct OwnTypes {
 pub(crate) fn tie_by(
     p: &[u8],
     ends: &[u16],
-    l: wire::message::Layout,
+    l: Layout,
     name: &[u8],
     own: OwnTypes,
     first: &[u8],
     second: &[u8],
-) -> Verdict
+) -> Ordering
     requires { Walkable p.now ends.now l }
-    ensures { (let mine : List TieRecord = own_list own.first first.now own.both own.second second.now in
+    ensures { (let mine : List TieRecord = own_records own first.now second.now in
         result ≡ tie (theirs name.now (message_in p.now l)) mine) }
 {
     let s = l.authorities;
     let a = own.first;
-    let b = own.second;
-    if !own.both {
+    let Some(b) = own.second else {
         return against_one(p, ends, s, name, a, first);
-    }
-    match compare_records(crate::INTERNET, a, first, crate::INTERNET, b, second) {
-        Verdict::Earlier => against_two(p, ends, s, name, a, first, b, second),
-        Verdict::Same => against_two(p, ends, s, name, a, first, b, second),
-        Verdict::Later => against_two(p, ends, s, name, b, second, a, first),
+    };
+    if compare_records(crate::INTERNET, a, first, crate::INTERNET, b, second).is_gt() {
+        against_two(p, ends, s, name, b, second, a, first)
+    } else {
+        against_two(p, ends, s, name, a, first, b, second)
     }
 }
 
 // The same, of any layout.
 pub fn tiebreak(
     p: &[u8],
-    l: wire::message::Layout,
+    l: Layout,
     name: &[u8],
     own: OwnTypes,
     first: &[u8],
     second: &[u8],
-) -> Verdict
-    ensures verdict { (let mine : List TieRecord = own_list own.first first.now own.both own.second second.now in
+) -> Ordering
+    ensures verdict { (let mine : List TieRecord = own_records own first.now second.now in
         result ≡ tie (theirs name.now (message_in p.now l)) mine) }
-    ensures number { (let mine : List TieRecord = own_list own.first first.now own.both own.second second.now in
+    ensures number { (let mine : List TieRecord = own_records own first.now second.now in
         number_of result ≡ number_of (tie (theirs name.now (message_in p.now l)) mine)) }
 {
     let none = [0u16; 1];

@@ -1,4 +1,4 @@
-use Prim.Native.Nat.{◌≤◌, ◌-◌}
+use Prim.Native.Nat.{◌≤◌}
 use mathlib.Core.Path.{◌≡◌}
 use mathlib.Core.Bool.{false, ◌||◌}
 use Rattle.wire.specs.message.Readable.{question_shown}
@@ -9,6 +9,3 @@ use Rattle.facts.proofs.asked_with.Given as goal
 
 abbrev pub invariant-loop-i : goal.invariant-loop-i
 invariant-loop-i l = (l.i ≤ records) × (l.flags ≡ filled false (λ o. has o l.asked || asks_own l.setup o (question_shown l.p l.q)) l.i)
-
-abbrev pub decreases-loop-i : goal.decreases-loop-i
-decreases-loop-i l = records - l.i

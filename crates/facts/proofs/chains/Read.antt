@@ -1,16 +1,16 @@
 -- The sections of a message that was read. Assumes nothing.
+use Rattle.std.specs.Prelude.{Result, Ok}
 use mathlib.Core.Path.{◌≡◌}
 use mathlib.Core.List.{List}
 use Prim.Native.Nat.{ℕ, ◌≤◌}
 use lib.ListN.{length}
+use Rattle.wire.specs.declared.refusals.Refusal.{Refusal}
 use Rattle.wire.specs.message.Layout.{message_at, read_of}
 use Rattle.wire.specs.declared.message.Layout.{Layout}
-use Rattle.wire.specs.declared.message.MessageRead.{MessageRead}
-use Rattle.wire.specs.declared.message.MessageRead.TheVariants as m
 use Rattle.wire.proofs.message.Cursor.{as_read, sections}
 use Rattle.facts.specs.chains.Chains.{WholeLayout}
 
-pub sections_read : (p : List ℕ) (l : Layout) (a : MessageRead) → a ≡ read_of (message_at p) → (k : Layout) → a ≡ m.Read k → length p ≤ 8972
+pub sections_read : (p : List ℕ) (l : Layout) (a : Result Layout Refusal) → a ≡ read_of (message_at p) → (k : Layout) → a ≡ Ok k → length p ≤ 8972
     → l.questions ≡ k.questions → l.answers ≡ k.answers → l.authorities ≡ k.authorities → l.additionals ≡ k.additionals → WholeLayout p l
 sections_read p l a is k e fit q an au ad =
     let r = as_read (message_at p) a k is e in

@@ -4,7 +4,7 @@ use mathlib.Core.List.{List, [], ◌∷◌}
 use mathlib.Core.Bool.{Bool, true, false}
 use Prim.Native.Nat.{ℕ, zero, suc, ◌<◌, ◌≤◌}
 use native.Mathlib.Omega.{arith}
-use borrow.Author.Tests.{eq-eqb, ne_eqb, eqb-true, eqb-false}
+use borrow.Author.Tests.{eqb-true, eqb-false}
 use lib.Dec.{eqb}
 use lib.ListN.{length, get_or, set, replicate}
 use lib.Seq.{get_or-set_same, get_or-set_other}
@@ -22,19 +22,6 @@ past_end : (l : List ℕ) (t : ℕ) → length l ≤ t → get_or l t 0 ≡ 0
 past_end [] t h = refl
 past_end (x ∷ l) zero h = absurd (omega arith)
 past_end (x ∷ l) (suc t) h = past_end l t (omega arith)
-
-module _ (ends : List ℕ) (t : ℕ) where
-  pub end_past : length ends ≤ t → t ≡ end_of ends t
-  unfolding end_of
-  end_past h = sym (simp (past_end ends t h))
-
-  pub end_none : get_or ends t 0 ≡ 0 → t ≡ end_of ends t
-  unfolding end_of
-  end_none e = sym (simp (eq-eqb (get_or ends t 0) 0 e))
-
-  pub end_some : (get_or ends t 0 ≡ 0 → ⊥) → get_or ends t 0 ≡ end_of ends t
-  unfolding end_of
-  end_some n = sym (simp (ne_eqb (get_or ends t 0) 0 n))
 
 -- a chain after a chain
 chased_trans : (p : List ℕ) (used a b c : ℕ) → Chased p used a b → Chased p used b c → Chased p used a c

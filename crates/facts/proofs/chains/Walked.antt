@@ -1,4 +1,5 @@
 -- What a step of a walk finds, with the names followed and without; and a section of a message that was read, a step at a time. Assumes nothing.
+use Rattle.std.specs.Prelude.{Option, Some, None}
 use mathlib.Core.Path.{◌≡◌, refl, sym, ap, ◌∙◌}
 use mathlib.Core.List.{List}
 use mathlib.Core.Bool.{Bool, true, false, cond}
@@ -18,11 +19,7 @@ use Rattle.wire.specs.message.Message.{record_of, ttl_of}
 use Rattle.wire.specs.message.Layout.{Item, item, broken, list_from, bytes_of, question_from, question_read, question_at, record_from, record_read, record_at}
 use Rattle.wire.specs.message.Readable.{whole_read}
 use Rattle.wire.specs.declared.message.QuestionAt.{QuestionAt}
-use Rattle.wire.specs.declared.message.QuestionRead.{QuestionRead}
-use Rattle.wire.specs.declared.message.QuestionRead.TheVariants as q
 use Rattle.wire.specs.declared.message.RecordAt.{RecordAt}
-use Rattle.wire.specs.declared.message.RecordRead.{RecordRead}
-use Rattle.wire.specs.declared.message.RecordRead.TheVariants as r
 use Rattle.wire.proofs.message.Cursor.{step, question-here, record_here}
 use Rattle.wire.proofs.message.Walk.{question-found, question-broken, record_found, record_broken}
 use Rattle.facts.specs.Found.{QuestionSeen, RecordSeen, QuestionStep, RecordStep}
@@ -33,29 +30,29 @@ use Rattle.facts.proofs.Steps.{record_of_lem}
 use Rattle.facts.proofs.Tests.{question-long, record_long}
 
 -- with the names followed
-pub question-stepped : (p : List ℕ) (at : ℕ) (a : QuestionRead) → a ≡ question_read p at → QuestionStep p at a
-question-stepped p at (q.Found f) is =
+pub question-stepped : (p : List ℕ) (at : ℕ) (a : Option QuestionAt) → a ≡ question_read p at → QuestionStep p at a
+question-stepped p at (Some f) is =
     let m = question-found p at _ is f refl in
     record { here = m.here; named = m.named; long = λ _. question-long p at f (sym is) }
-question-stepped p at q.Malformed is = question-broken p at _ is refl
+question-stepped p at None is = question-broken p at _ is refl
 
-pub record_stepped : (p : List ℕ) (at : ℕ) (a : RecordRead) → a ≡ whole_read p at → RecordStep p at a
-record_stepped p at (r.Found f) is =
+pub record_stepped : (p : List ℕ) (at : ℕ) (a : Option RecordAt) → a ≡ whole_read p at → RecordStep p at a
+record_stepped p at (Some f) is =
     let m = record_found p at _ is f refl in
     record { here = m.here; named = m.named; long = λ _. record_long p at f (sym is); content = m.content }
-record_stepped p at r.Malformed is = record_broken p at _ is refl
+record_stepped p at None is = record_broken p at _ is refl
 
 -- the answer of a step
-pub question-seen : (p : List ℕ) (at : ℕ) (a : QuestionRead) → QuestionStep p at a → (f : QuestionAt) → a ≡ q.Found f → QuestionSeen p at f
+pub question-seen : (p : List ℕ) (at : ℕ) (a : Option QuestionAt) → QuestionStep p at a → (f : QuestionAt) → a ≡ Some f → QuestionSeen p at f
 question-seen p at a s f e = rw e at s
 
-pub question-none : (p : List ℕ) (at : ℕ) (a : QuestionRead) → QuestionStep p at a → a ≡ q.Malformed → question_at p at ≡ broken
+pub question-none : (p : List ℕ) (at : ℕ) (a : Option QuestionAt) → QuestionStep p at a → a ≡ None → question_at p at ≡ broken
 question-none p at a s e = rw e at s
 
-pub record_seen : (p : List ℕ) (at : ℕ) (a : RecordRead) → RecordStep p at a → (f : RecordAt) → a ≡ r.Found f → RecordSeen p at f
+pub record_seen : (p : List ℕ) (at : ℕ) (a : Option RecordAt) → RecordStep p at a → (f : RecordAt) → a ≡ Some f → RecordSeen p at f
 record_seen p at a s f e = rw e at s
 
-pub record_none : (p : List ℕ) (at : ℕ) (a : RecordRead) → RecordStep p at a → a ≡ r.Malformed → record_at p at ≡ broken
+pub record_none : (p : List ℕ) (at : ℕ) (a : Option RecordAt) → RecordStep p at a → a ≡ None → record_at p at ≡ broken
 record_none p at a s e = rw e at s
 
 -- the span of a name that is not followed
@@ -66,12 +63,12 @@ unread end = record { end = end; len = 0; labels = 0; first = 0 }
 question_made : List ℕ → ℕ → List ℕ → ℕ → QuestionAt
 question_made p at bs e = record { name = at; span = span_of bs e; rtype = word16 p e; class = word16 p (e + 2); next = e + 4 }
 
-question-of : (p : List ℕ) (at : ℕ) (bs : List ℕ) (e : ℕ) (f : QuestionAt) → question_from p at (name bs e) ≡ q.Found f
+question-of : (p : List ℕ) (at : ℕ) (bs : List ℕ) (e : ℕ) (f : QuestionAt) → question_from p at (name bs e) ≡ Some f
     → (e + 4 ≤ length p) × (question_made p at bs e ≡ f)
 unfolding question_made
 question-of p at bs e f h = go (leb (e + 4) (length p)) refl h
   where
-    go : (a : Bool) → leb (e + 4) (length p) ≡ a → cond a (q.Found (question_made p at bs e)) q.Malformed ≡ q.Found f
+    go : (a : Bool) → leb (e + 4) (length p) ≡ a → cond a (Some (question_made p at bs e)) None ≡ Some f
         → (e + 4 ≤ length p) × (question_made p at bs e ≡ f)
     go true t g = (leb-true _ _ t, cc)
     go false t g = let z : ◌≡◌ {A = ℕ} 0 1 = cc in absurd (omega arith)

@@ -1,3 +1,4 @@
+use Prim.Native.Nat.{◌-◌}
 use mathlib.Core.Path.{◌≡◌}
 use mathlib.Core.Bool.{false}
 use Rattle.wire.specs.Lists.{some}
@@ -6,8 +7,5 @@ use Rattle.wire.specs.message.Readable.{readable}
 use Rattle.facts.specs.Types.{type_conflicts}
 use Rattle.facts.proofs.some_type.Given as goal
 
-abbrev pub invariant-loop-left : goal.invariant-loop-left
-invariant-loop-left l = some type_conflicts (readable (record_at l.p) l.left l.here) ≡ false → some type_conflicts (readable (record_at l.p) l.initial.left l.initial.here) ≡ false
-
-abbrev pub decreases-loop-left : goal.decreases-loop-left
-decreases-loop-left l = l.left
+abbrev pub invariant-loop-seen : goal.invariant-loop-seen
+invariant-loop-seen l = some type_conflicts (readable (record_at l.p) (l._seen-end - l._seen) l.here) ≡ false → some type_conflicts (readable (record_at l.p) l._seen-end l.initial.here) ≡ false

@@ -3,7 +3,10 @@ use Rattle.claims.specs.records.Own.{own_type}
 use Rattle.own.specs.records.Records.{has_record, own_name, own_rdata}
 use Rattle.facts.specs.tiebreak.Later.{is_later, tie}
 use Rattle.wire.specs.message.Readable.{message_in}
-use Rattle.facts.specs.tiebreak.Lists.{theirs, own_list}
+use Rattle.facts.specs.tiebreak.Lists.{theirs, own_records}
+use Rattle.std.specs.Bool.{then_some}
+use Rattle.claims.specs.records.Own.{first_of}
+use Rattle.facts.proofs.tiebreak.Ties.{as_list}
 use Rattle.facts.specs.Facts.{theirs_later}
 use Rattle.facts.proofs.Owned.{own_part}
 use Rattle.facts.proofs.theirs_later.Goals as goal
@@ -23,4 +26,6 @@ returns c = let a = c.args in
     let z = c.own_type-2.ensures ∙ ap own_type g in
     let h = c.has_record.ensures ∙ ap (has_record a.setup) g in
     c.is_later.ensures ∙ ap is_later
-    (c.tie_by.ensures ∙ (λ j. tie (theirs (n j) (message_in a.p.now a.l)) (own_list (y j) (d j) (h j) (z j) (e j))))
+    (c.tie_by.ensures
+    ∙ (λ j. tie (theirs (n j) (message_in a.p.now a.l)) (own_records (record { first = y j; second = (c.then_some.ensures ∙ (λ k. then_some (h k) (z k))) j }) (d j) (e j)))
+    ∙ ap (tie (theirs (own_name a.setup (first_of a.claim)) (message_in a.p.now a.l))) (as_list _ _ _ _ _))

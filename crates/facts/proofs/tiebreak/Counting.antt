@@ -1,5 +1,7 @@
 -- The verdict from counts: how many records there are, how many stand earlier than an own record, and how many equal it, say what stands at each
 -- place of the sorted list. Assumes nothing.
+use Rattle.std.specs.declared.cmp.Ordering.{Ordering}
+use Rattle.std.specs.declared.cmp.Ordering.TheVariants.{Less, Equal, Greater}
 use mathlib.Core.Path.{◌≡◌, refl, sym, ap, ◌∙◌}
 use mathlib.Core.List.{List, [], ◌∷◌, Permᴰ}
 use mathlib.Core.Bool.{Bool, true, false, cond}
@@ -9,8 +11,6 @@ use native.Mathlib.Omega.{arith}
 use lib.ListN.{length, drop}
 use lib.Dec.{ltb}
 use borrow.Author.Tests.{lt-ltb, le-ltb, ltb-true, ltb-false}
-use Rattle.facts.specs.declared.tiebreak.Verdict.{Verdict}
-use Rattle.facts.specs.declared.tiebreak.Verdict.TheVariants.{Earlier, Same, Later}
 use Rattle.facts.specs.declared.tiebreak.Counts.{Counts}
 use Rattle.facts.specs.tiebreak.Later.{is_later, unless_same, in_turn, TieRecord, compare_records, insert_by, sort_by, tie}
 use Rattle.facts.specs.tiebreak.Counts.{count_one, count_all, none_counted, placed, beyond}
@@ -18,15 +18,15 @@ use Rattle.facts.proofs.tiebreak.Orders.{opposite, records-order}
 use Rattle.facts.proofs.tiebreak.Sorting.{Least, none, and, Sorted, empty, first, not-later_swap, not-later_trans, sort_sorted, sort_perm}
 
 -- counts without sums on the way
-abbrev one_earlier_lem : Verdict → ℕ
-one_earlier_lem Earlier = 1
-one_earlier_lem Same = 0
-one_earlier_lem Later = 0
+abbrev one_earlier_lem : Ordering → ℕ
+one_earlier_lem Less = 1
+one_earlier_lem Equal = 0
+one_earlier_lem Greater = 0
 
-abbrev one_same_lem : Verdict → ℕ
-one_same_lem Earlier = 0
-one_same_lem Same = 1
-one_same_lem Later = 0
+abbrev one_same_lem : Ordering → ℕ
+one_same_lem Less = 0
+one_same_lem Equal = 1
+one_same_lem Greater = 0
 
 unfoldable earlier_in : TieRecord → List TieRecord → ℕ
 earlier_in x [] = 0
@@ -60,12 +60,12 @@ on_top x (t ∷ ts) c = on_top x ts (count_one (compare_records t x) c) ∙ go (
         → ◌≡◌ {A = Counts} (record { all = a₁; earlier = e₁; same = s₁ }) (record { all = a₂; earlier = e₂; same = s₂ })
     three a₁ a₂ e₁ e₂ s₁ s₂ a e s = λ i. record { all = a i; earlier = e i; same = s i }
 
-    go : (v : Verdict)
+    go : (v : Ordering)
         → on_top_lem (count_one v c) (counts x ts)
         ≡ on_top_lem c (record { all = suc (length ts); earlier = one_earlier_lem v + earlier_in x ts; same = one_same_lem v + same_in x ts })
-    go Earlier = three _ _ _ _ _ _ (omega arith) (omega arith) (omega arith)
-    go Same = three _ _ _ _ _ _ (omega arith) (omega arith) (omega arith)
-    go Later = three _ _ _ _ _ _ (omega arith) (omega arith) (omega arith)
+    go Less = three _ _ _ _ _ _ (omega arith) (omega arith) (omega arith)
+    go Equal = three _ _ _ _ _ _ (omega arith) (omega arith) (omega arith)
+    go Greater = three _ _ _ _ _ _ (omega arith) (omega arith) (omega arith)
 
 counted : (x : TieRecord) (l : List TieRecord) → count_all x l none_counted ≡ counts x l
 counted x l = on_top x l none_counted ∙ (λ i. record { all = zero-add (length l) i; earlier = zero-add (earlier_in x l) i; same = zero-add (same_in x l) i })
@@ -108,31 +108,31 @@ sorted_counts x l =
 
 -- what stands at a place, by the counts
 module _ (k : ℕ) (c : Counts) where
-  pub placed-earlier : k < c.earlier → placed k c ≡ Earlier
+  pub placed-earlier : k < c.earlier → placed k c ≡ Less
   unfolding placed
   placed-earlier h = simp (lt-ltb k c.earlier h)
 
-  pub placed_same : c.earlier ≤ k → k < c.earlier + c.same → placed k c ≡ Same
+  pub placed_same : c.earlier ≤ k → k < c.earlier + c.same → placed k c ≡ Equal
   unfolding placed
   placed_same g h = simp (le-ltb k c.earlier g, lt-ltb k (c.earlier + c.same) h)
 
-  pub placed-later : c.earlier + c.same ≤ k → k < c.all → placed k c ≡ Later
+  pub placed-later : c.earlier + c.same ≤ k → k < c.all → placed k c ≡ Greater
   unfolding placed
   placed-later g h =
       let f : c.earlier ≤ k = omega arith in
       simp (le-ltb k c.earlier f, le-ltb k (c.earlier + c.same) g, lt-ltb k c.all h)
 
-  pub placed-out : c.earlier + c.same ≤ k → c.all ≤ k → placed k c ≡ Earlier
+  pub placed-out : c.earlier + c.same ≤ k → c.all ≤ k → placed k c ≡ Less
   unfolding placed
   placed-out g h =
       let f : c.earlier ≤ k = omega arith in
       simp (le-ltb k c.earlier f, le-ltb k (c.earlier + c.same) g, le-ltb k c.all h)
 
-  pub beyond-more : k < c.all → beyond k c ≡ Later
+  pub beyond-more : k < c.all → beyond k c ≡ Greater
   unfolding beyond
   beyond-more h = simp (lt-ltb k c.all h)
 
-  pub beyond-none : c.all ≤ k → beyond k c ≡ Same
+  pub beyond-none : c.all ≤ k → beyond k c ≡ Equal
   unfolding beyond
   beyond-none h = simp (le-ltb k c.all h)
 
@@ -178,11 +178,11 @@ module _ (x : TieRecord) where
   none-earlier s [] none h = refl
   none-earlier s (t ∷ ts) (and e l) h = go (compare_records x t) refl (not-later_trans compare_records records-order x s t h e) (none-earlier s ts l h)
     where
-      go : (v : Verdict) → compare_records x t ≡ v → is_later (compare_records x t) ≡ false → earlier_in x ts ≡ 0
+      go : (v : Ordering) → compare_records x t ≡ v → is_later (compare_records x t) ≡ false → earlier_in x ts ≡ 0
           → one_earlier_lem (compare_records t x) + earlier_in x ts ≡ 0
-      go Earlier e f again = rw (records-order.swap x t, e) (zero-add (earlier_in x ts) ∙ again)
-      go Same e f again = rw (records-order.swap x t, e) (zero-add (earlier_in x ts) ∙ again)
-      go Later e f again = let z : ◌≡◌ {A = ℕ} 0 1 = cc in absurd (omega arith)
+      go Less e f again = rw (records-order.swap x t, e) (zero-add (earlier_in x ts) ∙ again)
+      go Equal e f again = rw (records-order.swap x t, e) (zero-add (earlier_in x ts) ∙ again)
+      go Greater e f again = let z : ◌≡◌ {A = ℕ} 0 1 = cc in absurd (omega arith)
 
   -- behind a record that is later than x, none is the same as x
   none-same : (s : TieRecord) (ss : List TieRecord) → Least compare_records s ss → is_later (compare_records s x) ≡ true → same_in x ss ≡ 0
@@ -190,12 +190,12 @@ module _ (x : TieRecord) where
   none-same s [] none h = refl
   none-same s (t ∷ ts) (and e l) h = go (compare_records t x) refl (none-same s ts l h)
     where
-      go : (v : Verdict) → compare_records t x ≡ v → same_in x ts ≡ 0 → one_same_lem v + same_in x ts ≡ 0
-      go Earlier f again = zero-add (same_in x ts) ∙ again
-      go Same f again =
+      go : (v : Ordering) → compare_records t x ≡ v → same_in x ts ≡ 0 → one_same_lem v + same_in x ts ≡ 0
+      go Less f again = zero-add (same_in x ts) ∙ again
+      go Equal f again =
           let no : is_later (compare_records s x) ≡ false = not-later_trans compare_records records-order s t x e (ap is_later f) in
           let z : ◌≡◌ {A = ℕ} 0 1 = cc in absurd (omega arith)
-      go Later f again = zero-add (same_in x ts) ∙ again
+      go Greater f again = zero-add (same_in x ts) ∙ again
 
   -- the place `k` of a list in order is compared with x as the counts say
   at_place : (k : ℕ) (ss xs : List TieRecord) → Sorted compare_records ss
@@ -205,29 +205,29 @@ module _ (x : TieRecord) where
   at_place (suc k) [] xs empty = rw (placed-out (suc k) (counts x []) (omega arith) (omega arith))
   at_place zero (s ∷ ss) xs (first l sd) = go (compare_records s x) refl
     where
-      go : (v : Verdict) → compare_records s x ≡ v
+      go : (v : Ordering) → compare_records s x ≡ v
           → unless_same (compare_records s x) (in_turn compare_records ss xs) ≡ unless_same (placed 0 (counts x (s ∷ ss))) (in_turn compare_records ss xs)
-      go Earlier e = rw (placed-earlier 0 (counts x (s ∷ ss)) (rw e (omega arith)), e)
-      go Same e =
-          let back : compare_records x s ≡ Same = records-order.swap s x ∙ ap opposite e in
+      go Less e = rw (placed-earlier 0 (counts x (s ∷ ss)) (rw e (omega arith)), e)
+      go Equal e =
+          let back : compare_records x s ≡ Equal = records-order.swap s x ∙ ap opposite e in
           rw (placed_same 0 (counts x (s ∷ ss)) (rw (e, none-earlier s ss l (ap is_later back)) (omega arith)) (rw e (omega arith)), e)
-      go Later e =
-          let back : compare_records x s ≡ Earlier = records-order.swap s x ∙ ap opposite e in
+      go Greater e =
+          let back : compare_records x s ≡ Less = records-order.swap s x ∙ ap opposite e in
           rw (
             placed-later 0 (counts x (s ∷ ss)) (rw (e, none-earlier s ss l (ap is_later back), none-same s ss l (ap is_later e))
                 (omega arith)) (omega arith),
             e,
           )
   at_place (suc k) (s ∷ ss) xs (first l sd) =
-      at_place k ss xs sd ∙ ap (λ (v : Verdict). unless_same v (in_turn compare_records (drop (suc k) ss) xs)) (go (compare_records s x) refl)
+      at_place k ss xs sd ∙ ap (λ (v : Ordering). unless_same v (in_turn compare_records (drop (suc k) ss) xs)) (go (compare_records s x) refl)
     where
-      go : (v : Verdict) → compare_records s x ≡ v → placed k (counts x ss) ≡ placed (suc k) (counts x (s ∷ ss))
-      go Earlier e = rw e (on_earlier k (length ss) (earlier_in x ss) (same_in x ss))
-      go Same e =
-          let back : compare_records x s ≡ Same = records-order.swap s x ∙ ap opposite e in
+      go : (v : Ordering) → compare_records s x ≡ v → placed k (counts x ss) ≡ placed (suc k) (counts x (s ∷ ss))
+      go Less e = rw e (on_earlier k (length ss) (earlier_in x ss) (same_in x ss))
+      go Equal e =
+          let back : compare_records x s ≡ Equal = records-order.swap s x ∙ ap opposite e in
           rw e (on_same k (length ss) (earlier_in x ss) (same_in x ss) (none-earlier s ss l (ap is_later back)))
-      go Later e =
-          let back : compare_records x s ≡ Earlier = records-order.swap s x ∙ ap opposite e in
+      go Greater e =
+          let back : compare_records x s ≡ Less = records-order.swap s x ∙ ap opposite e in
           rw e (on_later k (length ss) (earlier_in x ss) (same_in x ss) (none-earlier s ss l (ap is_later back)) (none-same s ss l (ap is_later e)))
 
   -- past the own list
@@ -237,7 +237,7 @@ module _ (x : TieRecord) where
   past_place (suc k) [] = sym (beyond-none (suc k) (counts x []) (omega arith))
   past_place zero (s ∷ ss) = sym (beyond-more 0 (counts x (s ∷ ss)) (omega arith))
   past_place (suc k) (s ∷ ss) =
-      past_place k ss ∙ ap (λ (b : Bool). cond b Later Same) (ltb-on k (length ss) (suc (length ss)) (λ h. omega arith) (λ h. omega arith))
+      past_place k ss ∙ ap (λ (b : Bool). cond b Greater Equal) (ltb-on k (length ss) (suc (length ss)) (λ h. omega arith) (λ h. omega arith))
 
 -- the tiebreak from the counts, for own lists of one record and of two
 module _ (l : List TieRecord) (x : TieRecord) where

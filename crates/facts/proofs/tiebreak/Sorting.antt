@@ -1,27 +1,27 @@
 -- Sorting by a total order: the sorted list is in order, has the same elements, repeats with them, and does not depend on the order in which they
 -- came. Assumes nothing.
+use Rattle.std.specs.declared.cmp.Ordering.{Ordering}
+use Rattle.std.specs.declared.cmp.Ordering.TheVariants.{Less, Equal, Greater}
 use mathlib.Core.Path.{◌≡◌, refl, sym, ap, ◌∙◌}
 use mathlib.Core.List.Permᴰ
 use mathlib.Core.List.{List, [], ◌∷◌, Permᴰ}
 use mathlib.Core.Bool.{Bool, true, false, cond}
 use Prim.Native.Nat.{ℕ}
 use native.Mathlib.Omega.{arith}
-use Rattle.facts.specs.declared.tiebreak.Verdict.{Verdict}
-use Rattle.facts.specs.declared.tiebreak.Verdict.TheVariants.{Earlier, Same, Later}
 use Rattle.facts.specs.tiebreak.Later.{is_later, insert_by, sort_by}
 use Rattle.facts.proofs.tiebreak.Orders.{opposite, Order}
 
 -- an element that none of a list is earlier than
-pub data Least {A : Type 0} (by : A → A → Verdict) (x : A) : List A → Type 0 where
+pub data Least {A : Type 0} (by : A → A → Ordering) (x : A) : List A → Type 0 where
   none : Least by x []
   and : {y : A} {ys : List A} → is_later (by x y) ≡ false → Least by x ys → Least by x (y ∷ ys)
 
 -- a list in order: each element is one that no later one is earlier than
-pub data Sorted {A : Type 0} (by : A → A → Verdict) : List A → Type 0 where
+pub data Sorted {A : Type 0} (by : A → A → Ordering) : List A → Type 0 where
   empty : Sorted by []
   first : {x : A} {xs : List A} → Least by x xs → Sorted by xs → Sorted by (x ∷ xs)
 
-module _ {A : Type 0} (by : A → A → Verdict) (o : Order by) where
+module _ {A : Type 0} (by : A → A → Ordering) (o : Order by) where
   -- an element is put before another, or behind it
   before-it : (x y : A) (ys : List A) → is_later (by x y) ≡ false → insert_by by x (y ∷ ys) ≡ x ∷ (y ∷ ys)
   unfolding insert_by
@@ -35,29 +35,29 @@ module _ {A : Type 0} (by : A → A → Verdict) (o : Order by) where
   pub not-later_swap : (x y : A) → is_later (by x y) ≡ true → is_later (by y x) ≡ false
   not-later_swap x y e = rw (o.swap x y) (go (by x y) e)
     where
-      go : (v : Verdict) → is_later v ≡ true → is_later (opposite v) ≡ false
-      go Earlier e = let z : ◌≡◌ {A = ℕ} 0 1 = cc in absurd (omega arith)
-      go Same e = let z : ◌≡◌ {A = ℕ} 0 1 = cc in absurd (omega arith)
-      go Later e = refl
+      go : (v : Ordering) → is_later v ≡ true → is_later (opposite v) ≡ false
+      go Less e = let z : ◌≡◌ {A = ℕ} 0 1 = cc in absurd (omega arith)
+      go Equal e = let z : ◌≡◌ {A = ℕ} 0 1 = cc in absurd (omega arith)
+      go Greater e = refl
 
   pub not-later_trans : (x y z : A) → is_later (by x y) ≡ false → is_later (by y z) ≡ false → is_later (by x z) ≡ false
   not-later_trans x y z e f = go (by x y) (by y z) refl refl e f
     where
-      go : (u v : Verdict) → by x y ≡ u → by y z ≡ v → is_later u ≡ false → is_later v ≡ false → is_later (by x z) ≡ false
-      go Earlier Earlier a b e f = rw (o.trans x y z a b)
-      go Earlier Same a b e f = ap is_later (ap (by x) (sym (o.equal y z b)) ∙ a)
-      go Earlier Later a b e f = let z : ◌≡◌ {A = ℕ} 0 1 = cc in absurd (omega arith)
-      go Same v a b e f = ap is_later (ap (λ (t : A). by t z) (o.equal x y a) ∙ b) ∙ f
-      go Later v a b e f = let z : ◌≡◌ {A = ℕ} 0 1 = cc in absurd (omega arith)
+      go : (u v : Ordering) → by x y ≡ u → by y z ≡ v → is_later u ≡ false → is_later v ≡ false → is_later (by x z) ≡ false
+      go Less Less a b e f = rw (o.trans x y z a b)
+      go Less Equal a b e f = ap is_later (ap (by x) (sym (o.equal y z b)) ∙ a)
+      go Less Greater a b e f = let z : ◌≡◌ {A = ℕ} 0 1 = cc in absurd (omega arith)
+      go Equal v a b e f = ap is_later (ap (λ (t : A). by t z) (o.equal x y a) ∙ b) ∙ f
+      go Greater v a b e f = let z : ◌≡◌ {A = ℕ} 0 1 = cc in absurd (omega arith)
 
   -- neither is later than the other: they are equal
   both-not_later : (x y : A) → is_later (by x y) ≡ false → is_later (by y x) ≡ false → x ≡ y
   both-not_later x y e f = go (by x y) refl e (sym (ap is_later (o.swap x y)) ∙ f)
     where
-      go : (v : Verdict) → by x y ≡ v → is_later v ≡ false → is_later (opposite v) ≡ false → x ≡ y
-      go Earlier a e f = let z : ◌≡◌ {A = ℕ} 0 1 = cc in absurd (omega arith)
-      go Same a e f = o.equal x y a
-      go Later a e f = let z : ◌≡◌ {A = ℕ} 0 1 = cc in absurd (omega arith)
+      go : (v : Ordering) → by x y ≡ v → is_later v ≡ false → is_later (opposite v) ≡ false → x ≡ y
+      go Less a e f = let z : ◌≡◌ {A = ℕ} 0 1 = cc in absurd (omega arith)
+      go Equal a e f = o.equal x y a
+      go Greater a e f = let z : ◌≡◌ {A = ℕ} 0 1 = cc in absurd (omega arith)
 
   least-of : (x y : A) (ys : List A) → is_later (by x y) ≡ false → Least by y ys → Least by x ys
   least-of x y [] e none = none

@@ -1,14 +1,15 @@
 -- The laws of the tiebreak (specification, 'A claim's life', "Later"): it is a total order on sorted lists, and does not depend on the order in which
 -- records stand in a packet. Assumes nothing.
+use Rattle.std.specs.declared.cmp.Ordering.TheVariants.{Less, Equal, Greater}
 use mathlib.Core.Path.{◌≡◌, refl, sym, ap, ◌∙◌}
 use mathlib.Core.List.{List, [], ◌∷◌, Permᴰ}
 use mathlib.Core.Bool.{Bool, true, false}
 use Prim.Native.Nat.{ℕ, ◌<◌}
 use native.Mathlib.Omega.{arith}
 use lib.IntN.{neg_ℤ}
-use Rattle.facts.specs.declared.tiebreak.Verdict.TheVariants.{Earlier, Same, Later}
 use Rattle.facts.specs.tiebreak.Later.{number_of, is_later, in_turn, TieRecord, compare_records, sort_by, tie}
-use Rattle.facts.specs.tiebreak.Lists.{own_record, own_list}
+use Rattle.std.specs.Bool.{then_some}
+use Rattle.facts.specs.tiebreak.Lists.{own_record, own_list, own_records}
 use Rattle.facts.proofs.tiebreak.Orders.{opposite, opposite_number, Order, number-earlier, number_same, lists_order, records-order}
 use Rattle.facts.proofs.tiebreak.Sorting.{Least, none, and, Sorted, empty, first, perm_sort, sorted_sort}
 
@@ -30,15 +31,15 @@ module _ (a b : List TieRecord) where
   tie-negates = ap number_of tie-swap ∙ opposite_number (tie a b)
 
   -- so never do both sides win, nor both lose
-  pub one-wins : tie a b ≡ Earlier → tie b a ≡ Later
+  pub one-wins : tie a b ≡ Less → tie b a ≡ Greater
   one-wins e = tie-swap ∙ ap opposite e
 
   -- Same exactly when the sorted lists are equal
-  pub same_sorted : tie a b ≡ Same → sorted a ≡ sorted b
+  pub same_sorted : tie a b ≡ Equal → sorted a ≡ sorted b
   unfolding tie
   same_sorted e = sorted_order.equal (sorted a) (sorted b) e
 
-  pub sorted_same : sorted a ≡ sorted b → tie a b ≡ Same
+  pub sorted_same : sorted a ≡ sorted b → tie a b ≡ Equal
   unfolding tie
   sorted_same e = ap (λ (t : List TieRecord). in_turn compare_records t (sorted b)) e ∙ sorted_order.same (sorted b)
 
@@ -49,7 +50,7 @@ module _ (a b : List TieRecord) where
 
 -- transitive
 module _ (a b c : List TieRecord) where
-  pub tie-trans : tie a b ≡ Earlier → tie b c ≡ Earlier → tie a c ≡ Earlier
+  pub tie-trans : tie a b ≡ Less → tie b c ≡ Less → tie a c ≡ Less
   unfolding tie
   tie-trans e f = sorted_order.trans (sorted a) (sorted b) (sorted c) e f
 
@@ -76,8 +77,14 @@ rising_sort {xs} r = sorted_sort compare_records records-order xs (rising_sorted
 
 -- For two own lists: Same only if both claims carry the same types with the same data.
 module _ {a b : List TieRecord} (ra : Rising a) (rb : Rising b) where
-  pub own_same : tie a b ≡ Same → a ≡ b
+  pub own_same : tie a b ≡ Equal → a ≡ b
   own_same e = sym (rising_sort ra) ∙ same_sorted a b e ∙ rising_sort rb
+
+-- the own list, by the types that are handed over
+pub as_list : (rtype : ℕ) (d : List ℕ) (both : Bool) (rtype₂ : ℕ) (d₂ : List ℕ)
+    → own_records (record { first = rtype; second = then_some both rtype₂ }) d d₂ ≡ own_list rtype d both rtype₂ d₂
+as_list rtype d true rtype₂ d₂ = refl
+as_list rtype d false rtype₂ d₂ = refl
 
 -- the own list of a claim is such a list
 pub own_one : (t : ℕ) (d : List ℕ) (s : ℕ) (e : List ℕ) → Rising (own_list t d false s e)

@@ -1,10 +1,11 @@
 -- The two lists of a tiebreak (specification, 'A claim's life'): the message's Authority records under the claim's name, and the own records of the claim.
 -- Assumes nothing: these are definitions.
-use Rattle.std.specs.Prelude.{ℕ, List, [], ◌∷◌, Bool, cond}
+use Rattle.std.specs.Prelude.{ℕ, List, [], ◌∷◌, Bool, cond, Option, Some, None}
 use Rattle.wire.specs.message.Message.{Record, Message, class_of}
 use Rattle.wire.specs.message.Layout.{record_at}
 use Rattle.wire.specs.message.Readable.{readable}
 use Rattle.wire.specs.declared.message.Section.{Section}
+use Rattle.facts.specs.declared.tiebreak.OwnTypes.{OwnTypes}
 use Rattle.facts.specs.probe.Probe.{under}
 use Rattle.facts.specs.tiebreak.Later.{TieRecord}
 
@@ -30,3 +31,11 @@ own_record rtype d = record { class = 1; rtype = rtype; rdata = d }
 
 abbrev pub own_list : ℕ → List ℕ → Bool → ℕ → List ℕ → List TieRecord
 own_list rtype d both rtype₂ d₂ = own_record rtype d ∷ cond both (own_record rtype₂ d₂ ∷ []) []
+
+-- the same, by the types that are handed over
+abbrev pub second_record : Option ℕ → List ℕ → List TieRecord
+second_record None d = []
+second_record (Some rtype) d = own_record rtype d ∷ []
+
+abbrev pub own_records : OwnTypes → List ℕ → List ℕ → List TieRecord
+own_records own d d₂ = own_record own.first d ∷ second_record own.second d₂

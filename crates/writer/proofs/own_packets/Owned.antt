@@ -6,7 +6,7 @@ use Prim.Native.Nat.{ℕ, ◌+◌, ◌-◌, ◌<◌, ◌≤◌}
 use native.Mathlib.Numerals.{add-one}
 use native.Mathlib.Omega.{arith}
 use borrow.Author.Tests.{le-leb, eq-eqb}
-use lib.ListN.{length, get_or, take, drop, replicate, length-take, take-append-drop, drop_of_length-le, get_or-map}
+use lib.ListN.{length, get_or, take, drop, replicate, take-append-drop, drop_of_length-le, get_or-map}
 use lib.Seq.{sets, take_at, drop_at, drop-cons, length-take-le, drop-drop}
 use Rattle.wire.specs.labels.Labels.{encode}
 use Rattle.wire.specs.names.Names.{is_name}
@@ -57,9 +57,6 @@ module _ (bs : List ℕ) (r : OwnBytes) (e : r ≡ own_of bs) where
 
   pub own_long : r.len ≡ length (take r.len r.bytes)
   own_long = ap (λ (x : OwnBytes). x.len) e ∙ ap length (sym own_front)
-
-  pub own_fits : r.len ≤ length r.bytes
-  own_fits = omega (arith, own_long, length-take r.len r.bytes)
 
 -- what is fit and has room is put, so the packet ends behind it
 pub placed-grown : (fit fits : Bool) (v : Writing) (o pl : List ℕ) (placed : Result Spot Misfit) (o' pl' : List ℕ) → Placing fit fits v o pl placed o' pl'

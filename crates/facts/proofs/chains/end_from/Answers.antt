@@ -13,9 +13,3 @@ returns-in-Pointer c = from-pointer _ _ c.requires.ends _ _ _ c.piece_at.ensures
 
 pub returns-in-Root : goal.returns-in-Root
 returns-in-Root c = from-none _ _
-
-pub returns-in-Label : goal.returns-in-Label
-returns-in-Label c = from-none _ _
-
-pub returns-in-Bad : goal.returns-in-Bad
-returns-in-Bad c = from-none _ _

@@ -1,4 +1,3 @@
-use Prim.Native.Nat.{◌-◌}
 use mathlib.Core.Path.{◌≡◌}
 use lib.ListN.{length}
 use Rattle.facts.specs.chains.Chains.{Ends}
@@ -6,6 +5,3 @@ use Rattle.facts.proofs.chains.note_ends.Given as goal
 
 abbrev pub invariant-loop-at : goal.invariant-loop-at
 invariant-loop-at l = (length l.ends ≡ 8972) × Ends l.p l.ends
-
-abbrev pub decreases-loop-at : goal.decreases-loop-at
-decreases-loop-at l = length l.p - l.at

@@ -1,3 +1,4 @@
+use Prim.Native.Nat.{◌-◌}
 use Rattle.facts.specs.chains.Chains.{Whole}
 use mathlib.Core.Path.{◌≡◌}
 use Rattle.wire.specs.message.Layout.{record_at}
@@ -6,8 +7,5 @@ use Rattle.wire.specs.message.Readable.{readable}
 use Rattle.facts.specs.probe.Probe.{under}
 use Rattle.facts.proofs.probe.some_under.Given as goal
 
-abbrev pub invariant-loop-left : goal.invariant-loop-left
-invariant-loop-left l = (some (under l.name) (readable (record_at l.p) l.initial.left l.initial.here) ≡ some (under l.name) (readable (record_at l.p) l.left l.here)) × Whole (record_at l.p) l.ends l.left l.here
-
-abbrev pub decreases-loop-left : goal.decreases-loop-left
-decreases-loop-left l = l.left
+abbrev pub invariant-loop-read : goal.invariant-loop-read
+invariant-loop-read l = (some (under l.name) (readable (record_at l.p) l._read-end l.initial.here) ≡ some (under l.name) (readable (record_at l.p) (l._read-end - l._read) l.here)) × Whole (record_at l.p) l.ends (l._read-end - l._read) l.here
