@@ -383,7 +383,7 @@ fn finish(
 pub fn tick(table: &[Entry], store: &[u8], b: Browser, time: u64, out: &mut [u8]) -> Ticked
     ensures { Ticks b time table.now store.now out.old result out.new }
 {
-    let n = capi_cache::entry_count(table);
+    let n = table.len();
     let entries = capi_cache::table_refusal(table, time);
     let refusal = tick_refusal(entries, n, store, b, time, out.len());
     if refusal != 0 {
@@ -399,7 +399,7 @@ pub fn tick(table: &[Entry], store: &[u8], b: Browser, time: u64, out: &mut [u8]
 pub fn due(table: &[Entry], store: &[u8], b: Browser, time: u64) -> NextDue
     ensures { result ≡ due_of b time table.now store.now }
 {
-    let n = capi_cache::entry_count(table);
+    let n = table.len();
     let entries = capi_cache::table_refusal(table, time);
     let refusal = look_refusal(entries, n, store, b, time);
     if refusal != 0 {

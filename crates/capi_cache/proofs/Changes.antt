@@ -1,29 +1,18 @@
 -- What the covered steps of taking a record give, from what the code has called. Assumes nothing.
-use mathlib.Core.Path.{◌≡◌, refl, sym, ap, ap₂, ◌∙◌}
+use mathlib.Core.Path.{◌≡◌, sym, ap, ap₂, ◌∙◌}
 use mathlib.Core.Logic.{◌⊎◌, inl, inr}
 use mathlib.Core.List.{List}
-use mathlib.Core.Bool.{Bool, true, false, ◌&&◌}
 use Prim.Native.Nat.{ℕ, ◌*◌}
-use native.Mathlib.Omega.{arith}
 use lib.ListN.{get_or, replicate, set}
 use lib.Seq.{sets}
-use Rattle.cache.specs.entries.Cache.{cached_as, slot_with}
+use Rattle.cache.specs.entries.Cache.{slot_with}
 use Rattle.cache.specs.entries.Entries.{blank, soon, refreshed}
 use Rattle.cache.specs.declared.entries.Entry.{Entry}
 use Rattle.cache.specs.declared.records.Heard.{Heard}
 use Rattle.cache.specs.declared.records.Choice.{Choice}
 use Rattle.cache.specs.declared.records.Choice.TheVariants.{Leave, Expire, Refresh, Fill, TurnAway, PassOver}
 use Rattle.cache.specs.records.Taking.{entry_heard, changed_in, kept_in}
-use Rattle.cache.specs.records.Heard.{is_taken, owner_in, rdata_in}
-
--- a record that the rules are for is whole
-pub taken-whole : (h : Heard) → is_taken h ≡ true → h.whole ≡ true
-unfolding is_taken
-taken-whole h t = go h.whole refl (cached_as h.at.class h.at.rtype h.named) t
-  where
-    go : (w : Bool) → h.whole ≡ w → (b : Bool) → (w && b) ≡ true → h.whole ≡ true
-    go true e b k = e
-    go false e b k = let z : ◌≡◌ {A = ℕ} 0 1 = cc in absurd (omega arith)
+use Rattle.cache.specs.records.Heard.{owner_in, rdata_in}
 
 -- the owner and the rdata were laid over zeros
 pub kept : (slot : List ℕ) (h : Heard) (store : List ℕ) (i : ℕ) (zeros owner first d filled last : List ℕ) → zeros ≡ replicate 1024 0 → owner ≡ owner_in slot h → first ≡ sets zeros 0 owner

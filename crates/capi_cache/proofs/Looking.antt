@@ -2,32 +2,22 @@
 use Rattle.std.proofs.Common.{None, Option, Some}
 use mathlib.Core.Path.{◌≡◌, sym, ap, ◌∙◌}
 use mathlib.Core.List.{List}
-use Prim.Native.Nat.{ℕ, ◌+◌, ◌<◌, ◌≤◌, ◌^◌}
-use mathlib.Core.Bool.{Bool, true, false, cond}
+use Prim.Native.Nat.{ℕ, ◌+◌, ◌<◌, ◌≤◌}
+use mathlib.Core.Bool.{true, false}
 use native.Mathlib.Omega.{arith}
 use lib.ListN.{length, get_or, drop}
-use lib.Dec.{eqb}
 use borrow.Author.Tests.{ne_eqb}
 use Rattle.cache.specs.entries.Entries.{blank, live_of, matches}
 use Rattle.cache.specs.entries.Tables.{lowest}
-use Rattle.cache.specs.entries.Cache.{bad_store, bad_name, look_tests, entries_refusal, look_refusal, look_in}
+use Rattle.cache.specs.entries.Cache.{look_tests, entries_refusal, look_refusal, look_in}
 use Rattle.cache.specs.declared.entries.Entry.{Entry}
 use Rattle.cache.proofs.entries.Searches.{lowest-here, lowest-on, lowest-end, from-slot}
 use Rattle.cache.proofs.entries.Single.{match_from}
 use Rattle.cache.proofs.lookup.Refusing.{table_first}
 use Rattle.cache.specs.lookup.Answers.{looked_with, looked_of, looked_refusal}
 use Rattle.capi_cache.specs.Numbers.{looked_numbers, refused_look, found_look, nothing_look}
-use Rattle.capi_cache.proofs.Scan.{entries-fits}
 
 -- the number fits a byte
-pub refusal-fits : (now : ℕ) (es : List Entry) (store name : List ℕ) → looked_refusal (entries_refusal now es) (length es) store name < 2 ^ 8
-refusal-fits now es store name = go (entries_refusal now es) (entries-fits now es) (eqb (entries_refusal now es) 0) (bad_store es store) (bad_name name)
-  where
-    go : (n : ℕ) → n < 2 ^ 8 → (c a b : Bool) → cond c (cond a 8 (cond b 6 0)) n < 2 ^ 8
-    go n h true true b = omega arith
-    go n h true false true = omega arith
-    go n h true false false = omega arith
-    go n h false a b = h
 
 module _ (now : ℕ) (es : List Entry) (store name : List ℕ) (rtype from : ℕ) where
   -- a lookup's refusal, from that of its table

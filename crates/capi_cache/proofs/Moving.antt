@@ -1,8 +1,8 @@
 -- The records of a section one after the other: what is left makes of the cache what all make. Assumes nothing.
 use Rattle.std.proofs.Common.{None, Option, Some}
-use mathlib.Core.Path.{◌≡◌, refl, sym, ap, ap₂, subst, ◌∙◌}
+use Rattle.std.proofs.lemmas.Option.{same_Some}
+use mathlib.Core.Path.{◌≡◌, refl, sym, ap, subst, ◌∙◌}
 use mathlib.Core.List.{List}
-use mathlib.Core.Bool.{true, false}
 use Prim.Native.Nat.{ℕ, ◌+◌, ◌-◌, ◌<◌, ◌≤◌}
 use native.Mathlib.Omega.{arith}
 use lib.ListN.{length}
@@ -19,34 +19,34 @@ use Rattle.cache.specs.declared.records.Heard.{Heard}
 use Rattle.cache.specs.declared.records.Choice.{Choice}
 use Rattle.cache.specs.declared.records.Choice.TheVariants.{Leave, Expire, Refresh, Fill, TurnAway, PassOver}
 use Rattle.cache.specs.declared.Counts.{Counts}
-use Rattle.cache.specs.records.Heard.{heard_of, heard_at}
-use Rattle.cache.specs.records.Taking.{Shows, flushed_in, chosen_in, changed_in, kept_in, counting, take_heard}
+use Rattle.cache.specs.records.Heard.{heard_as, heard_of, heard_at}
+use Rattle.cache.specs.records.Taking.{flushed_in, chosen_in, changed_in, kept_in, counting, take_heard}
 use Rattle.cache.proofs.records.Rules.{Within, Fitting, flushed-length, changed-length, kept-length, chosen_within, chosen_fills, as_shown}
-use Rattle.capi_cache.proofs.Changes.{taken-whole}
 use Rattle.capi_cache.specs.hearing.Hearing.{heard_in}
 use Rattle.capi_cache.proofs.hearing.Shown.{heard-shows}
-use Rattle.capi_cache.specs.Sections.{Fits, Changing, records_of, cache_with}
+use Rattle.capi_cache.specs.Sections.{Changing, records_of, cache_with}
 
--- a record that is whole fits
-pub heard-fits : (p : List ℕ) (at : ℕ) → Fits (heard_at p at)
+-- the name of a record that is whole fits the owner's bytes of a slot
+pub heard-fits : (p : List ℕ) (at : ℕ) (h : Heard) → Some h ≡ heard_at p at → h.at.span.len ≤ 255
 unfolding heard_at
-heard-fits p at = go (whole_read p at) refl
+heard-fits p at h is = go (whole_read p at) refl is
   where
-    go : (a : Option RecordAt) → a ≡ whole_read p at → Fits (heard_of p a)
-    go (Some f) is w =
-        let met : RecordMet p at f = record_found p at (Some f) is f refl in
-        omega (arith, at_most-255 p f.owner (record_shown p f).owner met.end met.owner, met.span)
-    go None is w = let z : ◌≡◌ {A = ℕ} 0 1 = cc in absurd (omega arith)
+    go : (a : Option RecordAt) → a ≡ whole_read p at → Some h ≡ heard_of p a → h.at.span.len ≤ 255
+    go (Some f) w e =
+        let met : RecordMet p at f = record_found p at (Some f) w f refl in
+        let same : h ≡ heard_as p f = same_Some h (heard_as p f) e in
+        omega (arith, at_most-255 p f.owner (record_shown p f).owner met.end met.owner, met.span, ap (λ (k : Heard). k.at.span.len) same)
+    go None w e = let z : ◌≡◌ {A = ℕ} 0 1 = cc in absurd (omega arith)
 
 -- what is chosen can be done
-pub changing : (now : ℕ) (store slot : List ℕ) (h : Heard) (es : List Entry) (n : ℕ) → length es ≡ n → Fits h → Changing n h (chosen_in now store slot h es)
+pub changing : (now : ℕ) (store slot : List ℕ) (h : Heard) (es : List Entry) (n : ℕ) → length es ≡ n → h.at.span.len ≤ 255 → Changing n h (chosen_in now store slot h es)
 changing now store slot h es n len fits = go (chosen_in now store slot h es) (chosen_within now store slot h es) (chosen_fills now store slot h es)
   where
     go : (c : Choice) → Within c (length es) → Fitting h c → Changing n h c
     go Leave w f = tt
     go (Expire i) w f = omega (arith, w, len)
     go (Refresh i) w f = omega (arith, w, len)
-    go (Fill i) w f = (omega (arith, w, len), (fits (taken-whole h f.0), f.1))
+    go (Fill i) w f = (omega (arith, w, len), (fits, f.1))
     go TurnAway w f = tt
     go PassOver w f = tt
 
@@ -82,70 +82,69 @@ module _ (now : ℕ) (p : List ℕ) (all : Cache) (n m t o at left : ℕ) (c : C
   unfolding take_records
   gone l = ap (λ (rs : List Record). take_records now rs (cache_with c zs cs)) (sym (readable-none (record_at p) left at l)) ∙ g.same
 
-  pub broken_off : (h : Heard) → h ≡ heard_at p at → h.whole ≡ false → cache_with c zs cs ≡ all
+  pub broken_off : heard_at p at ≡ None → cache_with c zs cs ≡ all
   unfolding heard_at take_records
-  broken_off h is w = go (whole_read p at) refl (ap (λ (k : Heard). k.whole) (sym is) ∙ w)
+  broken_off none = go (whole_read p at) refl none
     where
-      go : (a : Option RecordAt) → a ≡ whole_read p at → (heard_of p a).whole ≡ false → cache_with c zs cs ≡ all
+      go : (a : Option RecordAt) → a ≡ whole_read p at → heard_of p a ≡ None → cache_with c zs cs ≡ all
       go (Some f) e k = let z : ◌≡◌ {A = ℕ} 0 1 = cc in absurd (omega arith)
       go None e k = ap (λ (rs : List Record). take_records now rs (cache_with c zs cs)) (sym (readable-broken (record_at p) left at (record_broken p at None e refl))) ∙ g.same
 
   -- one that is whole, before the rest
-  module _ (lt : 0 < left) (ss : List ℕ) (size : length ss ≡ 1024) where
-    abbrev h' : Heard
-    h' = heard_at p at
-
+  module _ (lt : 0 < left) (ss : List ℕ) (size : length ss ≡ 1024) (h : Heard) (is : Some h ≡ heard_at p at) where
     abbrev slot' : List ℕ
     slot' = heard_in p at ss
 
     abbrev es' : List Entry
-    es' = flushed_in now cs slot' h' zs
+    es' = flushed_in now cs slot' h zs
 
     abbrev x' : Choice
-    x' = chosen_in now cs slot' h' es'
+    x' = chosen_in now cs slot' h es'
 
-    after_is : cache_with (counting x' c) (changed_in now h' x' es') (kept_in slot' h' x' cs) ≡ take_heard now slot' h' (cache_with c zs cs)
+    after_is : cache_with (counting x' c) (changed_in now h x' es') (kept_in slot' h x' cs) ≡ take_heard now slot' h (cache_with c zs cs)
     unfolding take_heard
     after_is = refl
 
-    one : h'.whole ≡ true → take_records now (readable (record_at p) (left - 1) h'.at.next) (take_heard now slot' h' (cache_with c zs cs)) ≡ take_records now (readable (record_at p) left at) (cache_with c zs cs)
+    one : take_records now (readable (record_at p) (left - 1) h.at.next) (take_heard now slot' h (cache_with c zs cs)) ≡ take_records now (readable (record_at p) left at) (cache_with c zs cs)
     unfolding take_records heard_at
-    one w = go (whole_read p at) refl w (heard-shows p at ss size)
+    one = go (whole_read p at) refl is
       where
-        go : (a : Option RecordAt) → a ≡ whole_read p at → (heard_of p a).whole ≡ true → Shows p (heard_of p a) slot'
-            → take_records now (readable (record_at p) (left - 1) (heard_of p a).at.next) (take_heard now slot' (heard_of p a) (cache_with c zs cs)) ≡ take_records now (readable (record_at p) left at) (cache_with c zs cs)
-        go (Some f) e k shows =
+        of_whole : (f : RecordAt) → Some f ≡ whole_read p at
+            → take_records now (readable (record_at p) (left - 1) f.next) (take_heard now slot' (heard_as p f) (cache_with c zs cs)) ≡ take_records now (readable (record_at p) left at) (cache_with c zs cs)
+        of_whole f e =
             let met : RecordMet p at f = record_found p at (Some f) e f refl in
-            ap (take_records now (readable (record_at p) (left - 1) f.next)) (as_shown now p at f met slot' shows (cache_with c zs cs))
+            ap (take_records now (readable (record_at p) (left - 1) f.next)) (as_shown now p at f met slot' (heard-shows p at ss size f e) (cache_with c zs cs))
             ∙ ap (λ (rs : List Record). take_records now rs (cache_with c zs cs)) (sym (readable-item (record_at p) left at (record_shown p f) f.next lt met.here))
-        go None e k shows = let z : ◌≡◌ {A = ℕ} 0 1 = cc in absurd (omega arith)
 
-    goes_on_lem : h'.whole ≡ true → Going now p all n m t o h'.at.next (left - 1) (counting x' c) (changed_in now h' x' es') (kept_in slot' h' x' cs)
-    goes_on_lem w =
+        go : (a : Option RecordAt) → a ≡ whole_read p at → Some h ≡ heard_of p a
+            → take_records now (readable (record_at p) (left - 1) h.at.next) (take_heard now slot' h (cache_with c zs cs)) ≡ take_records now (readable (record_at p) left at) (cache_with c zs cs)
+        go (Some f) e same =
+            subst (λ (k : Heard). take_records now (readable (record_at p) (left - 1) k.at.next) (take_heard now slot' k (cache_with c zs cs)) ≡ take_records now (readable (record_at p) left at) (cache_with c zs cs))
+            (sym (same_Some h (heard_as p f) same)) (of_whole f e)
+        go None e same = let z : ◌≡◌ {A = ℕ} 0 1 = cc in absurd (omega arith)
+
+    goes_on_lem : Going now p all n m t o h.at.next (left - 1) (counting x' c) (changed_in now h x' es') (kept_in slot' h x' cs)
+    goes_on_lem =
         let k = counts_one x' c in
         record {
-          same = ap (take_records now (readable (record_at p) (left - 1) h'.at.next)) after_is ∙ one w ∙ g.same;
-          entries = changed-length now h' x' es' ∙ flushed-length now cs slot' h' zs ∙ g.entries;
-          store = kept-length slot' h' x' cs ∙ g.store;
+          same = ap (take_records now (readable (record_at p) (left - 1) h.at.next)) after_is ∙ one ∙ g.same;
+          entries = changed-length now h x' es' ∙ flushed-length now cs slot' h zs ∙ g.entries;
+          store = kept-length slot' h x' cs ∙ g.store;
           away = omega (arith, k.0, lt, g.away);
           over = omega (arith, k.1, lt, g.over);
         }
 
     -- what the code has made of the counts, the table and the store
-    pub goes_on : (h : Heard) (slot : List ℕ) → (h ≡ heard_at p at) × (slot ≡ heard_in p at ss) → h.whole ≡ true
-        → (x : Choice) (ys : List Entry) (bs : List ℕ)
+    pub goes_on : (slot : List ℕ) → slot ≡ heard_in p at ss → (x : Choice) (ys : List Entry) (bs : List ℕ)
         → (let es : List Entry = flushed_in now cs slot h zs in
-            let y : Choice = chosen_in now cs slot h es in (x ≡ y) × ((ys ≡ changed_in now h y es) × (bs ≡ kept_in slot h y cs)))
+        let y : Choice = chosen_in now cs slot h es in (x ≡ y) × ((ys ≡ changed_in now h y es) × (bs ≡ kept_in slot h y cs)))
         → (d : Counts) → d ≡ counting x c → (left' : ℕ) → left' ≡ left - 1 → Going now p all n m t o h.at.next left' d ys bs
-    goes_on h slot hear w x ys bs made d d-is left' left-is =
-        let x-is : x ≡ x' = made.0 ∙ ap₂ (λ (s : List ℕ) (k : Heard). chosen_in now cs s k (flushed_in now cs s k zs)) hear.1 hear.0 in
-        let ys-is : ys ≡ changed_in now h' x' es' =
-        made.1.0 ∙ ap₂ (λ (s : List ℕ) (k : Heard). changed_in now k (chosen_in now cs s k (flushed_in now cs s k zs)) (flushed_in now cs s k zs)) hear.1 hear.0 in
-        let bs-is : bs ≡ kept_in slot' h' x' cs = made.1.1 ∙ ap₂ (λ (s : List ℕ) (k : Heard). kept_in s k (chosen_in now cs s k (flushed_in now cs s k zs)) cs) hear.1 hear.0 in
-        let next-is : h.at.next ≡ h'.at.next = ap (λ (k : Heard). k.at.next) hear.0 in
-        subst (λ (k : ℕ). Going now p all n m t o k left' d ys bs) (sym next-is)
-        (subst (λ (k : ℕ). Going now p all n m t o h'.at.next k d ys bs) (sym left-is)
-        (subst (λ (k : Counts). Going now p all n m t o h'.at.next (left - 1) k ys bs) (sym (d-is ∙ ap (λ (y : Choice). counting y c) x-is))
-        (subst (λ (k : List Entry). Going now p all n m t o h'.at.next (left - 1) (counting x' c) k bs) (sym ys-is)
-        (subst (λ (k : List ℕ). Going now p all n m t o h'.at.next (left - 1) (counting x' c) (changed_in now h' x' es') k) (sym bs-is)
-        (goes_on_lem (sym (ap (λ (k : Heard). k.whole) hear.0) ∙ w))))))
+    goes_on slot heard x ys bs made d d-is left' left-is =
+        let x-is : x ≡ x' = made.0 ∙ ap (λ (s : List ℕ). chosen_in now cs s h (flushed_in now cs s h zs)) heard in
+        let ys-is : ys ≡ changed_in now h x' es' =
+        made.1.0 ∙ ap (λ (s : List ℕ). changed_in now h (chosen_in now cs s h (flushed_in now cs s h zs)) (flushed_in now cs s h zs)) heard in
+        let bs-is : bs ≡ kept_in slot' h x' cs = made.1.1 ∙ ap (λ (s : List ℕ). kept_in s h (chosen_in now cs s h (flushed_in now cs s h zs)) cs) heard in
+        subst (λ (k : ℕ). Going now p all n m t o h.at.next k d ys bs) (sym left-is)
+        (subst (λ (k : Counts). Going now p all n m t o h.at.next (left - 1) k ys bs) (sym (d-is ∙ ap (λ (y : Choice). counting y c) x-is))
+        (subst (λ (k : List Entry). Going now p all n m t o h.at.next (left - 1) (counting x' c) k bs) (sym ys-is)
+        (subst (λ (k : List ℕ). Going now p all n m t o h.at.next (left - 1) (counting x' c) (changed_in now h x' es') k) (sym bs-is) goes_on_lem)))

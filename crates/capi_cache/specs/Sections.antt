@@ -11,10 +11,6 @@ use Rattle.cache.specs.declared.records.Choice.{Choice}
 use Rattle.cache.specs.declared.records.Choice.TheVariants.{Leave, Expire, Refresh, Fill, TurnAway, PassOver}
 use Rattle.cache.specs.declared.Counts.{Counts}
 
--- a record's name fits the owner's bytes of a slot
-abbrev pub Fits : Heard → Type 0
-Fits h = h.whole ≡ true → h.at.span.len ≤ 255
-
 -- the slot of a change is one of a table of n entries, and a record that fills a slot fits it
 abbrev pub Changing : ℕ → Heard → Choice → Type 0
 Changing n h Leave = Unit {0}

@@ -14,15 +14,21 @@ ghost use Rattle.cache.specs.lookup.Answers.{looked_of};
 ghost use Rattle.cache.specs.Answers.{taken_of};
 ghost use Rattle.cache.specs.records.Heard.{owner_in, rdata_in};
 ghost use Rattle.cache.specs.records.Taking.{flushed_in, likely_from, equal_in, free_from, chosen_in, entry_heard, changed_in, kept_in, counting};
-ghost use Rattle.capi_cache.specs.Refusals.{greater, no_most, most_with, ended};
+ghost use Rattle.capi_cache.specs.Refusals.{no_most, most_with, ended};
 ghost use Rattle.capi_cache.specs.Numbers.{refused_look, found_look, nothing_look, refused_take, counted_take, taken_numbers, looked_numbers};
 ghost use Rattle.capi_cache.specs.Types.{type_among, Passed};
-ghost use Rattle.capi_cache.specs.Sections.{Fits, Changing, Taking, Counted, records_of, cache_with, counts_in};
+ghost use Rattle.capi_cache.specs.Sections.{Changing, Taking, Counted, records_of, cache_with, counts_in};
 
-use cache::entries::Entry;
 use cache::Counts;
-use cache::records::{Choice, Heard};
-use wire::message::Section;
+use cache::entries::{Entry, MOST_OWNER, MOST_RDATA, is_live, is_live_of, to_expire};
+use cache::lookup::{LATEST, is_size, is_store_of, look_refusal, met_at};
+use cache::records::{
+    Choice, Heard, chosen, fill_from, flush_from, flush_heard, has_bytes, may_hold, seek_from,
+};
+use wire::buffer::put;
+use wire::message::{Section, read_from};
+use wire::rdata::part;
+use wire::refusals::{TABLE, TIME};
 
 // What taking a message answers in numbers, for callers in other languages.
 #[repr(C)]
@@ -70,7 +76,10 @@ fn blank_entry() -> Entry
 pub fn entry_or_blank(table: &[Entry], i: usize) -> Entry
     ensures { result ≡ get_or table.now i blank }
 {
-    if i < table.len() { table[i] } else { blank_entry() }
+    if i < table.len() {
+        return table[i];
+    }
+    blank_entry()
 }
 
 // The latest time of receipt and the greatest lengths of some entries. No entry is tested by a branch of its own.
@@ -92,37 +101,14 @@ fn no_most() -> Most
     }
 }
 
-// The later of two times.
-fn later(a: u64, b: u64) -> u64
-    ensures { result ≡ greater a b }
-{
-    if a < b {
-        return b;
-    }
-    a
-}
-
-// The greater of two lengths.
-fn longer(a: u32, b: u32) -> u32
-    ensures { result ≡ greater a b }
-{
-    if a < b {
-        return b;
-    }
-    a
-}
-
 // Of one entry more.
 fn most_with(m: Most, e: Entry) -> Most
     ensures { result ≡ most_with m e }
 {
-    let received = later(m.received, e.received);
-    let rdata = longer(m.rdata, e.rdata);
-    let owner = longer(m.owner, e.owner as u32);
     Most {
-        received,
-        rdata,
-        owner,
+        received: m.received.max(e.received),
+        rdata: m.rdata.max(e.rdata),
+        owner: m.owner.max(e.owner as u32),
     }
 }
 
@@ -130,20 +116,11 @@ fn most_with(m: Most, e: Entry) -> Most
 fn at_end(m: Most, n: usize, time: u64) -> u8
     ensures { result ≡ ended time m n }
 {
-    if cache::lookup::LATEST < time {
-        return wire::refusals::TIME;
+    if LATEST < time || time < m.received {
+        return TIME;
     }
-    if time < m.received {
-        return wire::refusals::TIME;
-    }
-    if !cache::lookup::is_size(n) {
-        return wire::refusals::TABLE;
-    }
-    if (cache::entries::MOST_OWNER as u32) < m.owner {
-        return wire::refusals::TABLE;
-    }
-    if cache::entries::MOST_RDATA < m.rdata {
-        return wire::refusals::TABLE;
+    if !is_size(n) || (MOST_OWNER as u32) < m.owner || MOST_RDATA < m.rdata {
+        return TABLE;
     }
     0
 }
@@ -175,25 +152,13 @@ fn refused_look(refusal: u8) -> LookedNumbers
 fn found_look(slot: usize, name: &[u8]) -> LookedNumbers
     ensures { result ≡ found_look name.now slot }
 {
-    let met = cache::lookup::met_at(slot, name);
+    let met = met_at(slot, name);
     LookedNumbers {
         refusal: 0,
         found: true,
         slot: met.slot,
         name_labels: met.labels,
         name_first_label: met.first,
-    }
-}
-
-fn nothing_look() -> LookedNumbers
-    ensures { result ≡ nothing_look }
-{
-    LookedNumbers {
-        refusal: 0,
-        found: false,
-        slot: 0,
-        name_labels: 0,
-        name_first_label: 0,
     }
 }
 
@@ -219,16 +184,16 @@ pub fn kurgashel_cache_look_up(
     ensures { result ≡ looked_numbers (looked_of time table.now store.now name.now rtype from) }
 {
     let n = table.len();
-    let refusal = cache::lookup::look_refusal(table_refusal(table, time), n, store, name);
+    let refusal = look_refusal(table_refusal(table, time), n, store, name);
     if refusal != 0 {
         return refused_look(refusal);
     }
     for i in from..n {
-        if cache::entries::is_live_of(table[i], i, store, time, name, rtype) {
+        if is_live_of(table[i], i, store, time, name, rtype) {
             return found_look(i, name);
         }
     }
-    nothing_look()
+    refused_look(0)
 }
 
 // Rule 1 on every entry, in place.
@@ -236,9 +201,9 @@ fn flush(table: &mut [Entry], store: &[u8], time: u64, slot: &[u8], h: Heard)
     ensures { table.new ≡ flushed_in time store.now slot.now h table.old }
 {
     let n = table.len();
-    let first = cache::records::flush_from(h, n);
+    let first = flush_from(h, n);
     for i in first..n {
-        table[i] = cache::records::flush_heard(table[i], i, store, time, slot, h);
+        table[i] = flush_heard(table[i], i, store, time, slot, h);
     }
 }
 
@@ -281,7 +246,7 @@ fn likely_slot(table: &[Entry], time: u64, h: Heard, from: usize) -> usize
 {
     let n = table.len();
     for i in from..n {
-        if cache::records::may_hold(table[i], time, h) {
+        if may_hold(table[i], time, h) {
             return i;
         }
     }
@@ -294,11 +259,11 @@ fn equal_slot(table: &[Entry], store: &[u8], time: u64, slot: &[u8], h: Heard) -
     ensures { result ≡ equal_in time store.now slot.now h table.now }
 {
     let n = table.len();
-    let first = cache::records::seek_from(h, n);
+    let first = seek_from(h, n);
     let near = past_others(table, h, first);
     let mut i = likely_slot(table, time, h, near);
     while i < n {
-        if cache::records::has_bytes(table[i], i, store, slot, h) {
+        if has_bytes(table[i], i, store, slot, h) {
             return i;
         }
         i = likely_slot(table, time, h, i + 1);
@@ -312,7 +277,7 @@ fn free_slot(table: &[Entry], time: u64, from: usize) -> usize
 {
     let n = table.len();
     for i in from..n {
-        if !cache::entries::is_live(table[i], time) {
+        if !is_live(table[i], time) {
             return i;
         }
     }
@@ -325,9 +290,9 @@ fn choose(table: &[Entry], store: &[u8], time: u64, slot: &[u8], h: Heard) -> Ch
 {
     let n = table.len();
     let equal = equal_slot(table, store, time, slot, h);
-    let from = cache::records::fill_from(h, n, equal);
+    let from = fill_from(h, n, equal);
     let free = free_slot(table, time, from);
-    cache::records::chosen(h, n, equal, free)
+    chosen(h, n, equal, free)
 }
 
 // Rule 3 on the lowest live equal entry: it has the times and the TTL of the record that is taken now.
@@ -336,12 +301,10 @@ fn refresh_entry(e: Entry, time: u64, ttl: u32) -> Entry
     ensures { result ≡ refreshed time ttl e }
 {
     Entry {
-        rtype: e.rtype,
-        owner: e.owner,
-        rdata: e.rdata,
         received: time,
         expiry: time + 1000 * ttl as u64,
         ttl: ttl as u64,
+        ..e
     }
 }
 
@@ -375,9 +338,9 @@ fn keep(store: &mut [u8], i: usize, slot: &[u8], h: Heard)
 {
     let f = h.at;
     let mut filled = blank_slot();
-    wire::buffer::put(&mut filled, 0, wire::rdata::part(slot, 0, f.span.len));
-    wire::buffer::put(&mut filled, 256, wire::rdata::part(slot, 256, h.len));
-    wire::buffer::put(store, 1024 * i, &filled);
+    put(&mut filled, 0, part(slot, 0, f.span.len));
+    put(&mut filled, 256, part(slot, 256, h.len));
+    put(store, 1024 * i, &filled);
 }
 
 // What was chosen of a record is done.
@@ -387,7 +350,7 @@ fn change(table: &mut [Entry], store: &mut [u8], time: u64, slot: &[u8], h: Hear
 {
     match c {
         Choice::Expire(i) => {
-            table[i] = cache::entries::to_expire(table[i], time);
+            table[i] = to_expire(table[i], time);
         }
         Choice::Refresh(i) => {
             table[i] = refresh_entry(table[i], time, h.at.ttl);
@@ -402,7 +365,7 @@ fn change(table: &mut [Entry], store: &mut [u8], time: u64, slot: &[u8], h: Hear
 
 // The rules for one record: what became of it is answered.
 fn take_record(table: &mut [Entry], store: &mut [u8], time: u64, slot: &[u8], h: Heard) -> Choice
-    requires { ((time ≤ 2 ^ 62) × (length store.old ≡ 1024 * length table.old)) × Fits h }
+    requires { ((time ≤ 2 ^ 62) × (length store.old ≡ 1024 * length table.old)) × (h.at.span.len ≤ 255) }
     ensures { (let es : List Entry = flushed_in time store.old slot.now h table.old in
         let c : Choice = chosen_in time store.old slot.now h es in
         (result ≡ c) × ((table.new ≡ changed_in time h c es) × (store.new ≡ kept_in slot.now h c store.old))) }
@@ -449,11 +412,10 @@ fn take_section(
 {
     let mut counts = before;
     let mut at = s.at;
-    for k in 0..s.count {
-        let h = hearing::hear(slot, message, at);
-        if !h.whole {
+    for _k in 0..s.count {
+        let Some(h) = hearing::hear(slot, message, at) else {
             return counts;
-        }
+        };
         let c = take_record(table, store, time, slot, h);
         counts = counted(counts, c);
         at = h.at.next;
@@ -462,13 +424,13 @@ fn take_section(
 }
 
 // The counts in numbers.
-fn counted_take(counts: Counts) -> TakenNumbers
-    ensures { result ≡ counted_take counts.turned counts.passed }
+fn counted_take(c: Counts) -> TakenNumbers
+    ensures { result ≡ counted_take c.turned c.passed }
 {
     TakenNumbers {
         refusal: 0,
-        turned: counts.turned,
-        passed: counts.passed,
+        turned: c.turned,
+        passed: c.passed,
     }
 }
 
@@ -490,10 +452,10 @@ pub fn kurgashel_cache_take(
     if entries != 0 {
         return refused_take(entries);
     }
-    if !cache::lookup::is_store_of(table.len(), store.len()) {
-        return refused_take(wire::refusals::TABLE);
+    if !is_store_of(table.len(), store.len()) {
+        return refused_take(TABLE);
     }
-    match wire::message::read_from(message, port) {
+    match read_from(message, port) {
         Ok(l) => {
             let none = Counts {
                 turned: 0,
@@ -504,7 +466,15 @@ pub fn kurgashel_cache_take(
             }
             let mut slot = blank_slot();
             let answers = take_section(table, store, time, message, l.answers, &mut slot, none);
-            let all = take_section(table, store, time, message, l.additionals, &mut slot, answers);
+            let all = take_section(
+                table,
+                store,
+                time,
+                message,
+                l.additionals,
+                &mut slot,
+                answers,
+            );
             counted_take(all)
         }
         Err(refusal) => refused_take(refusal.number()),

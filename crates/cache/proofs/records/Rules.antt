@@ -3,7 +3,7 @@ use Rattle.std.proofs.Common.{None, Option, Some}
 use mathlib.Core.Path.{◌≡◌, refl, sym, ap, ap₂, ◌∙◌}
 use mathlib.Core.List.{List, [], ◌∷◌}
 use mathlib.Core.Bool.{Bool, true, false, cond, not, ◌&&◌, and-false}
-use Prim.Native.Nat.{ℕ, zero, suc, ◌+◌, ◌*◌, ◌<◌, ◌≤◌}
+use Prim.Native.Nat.{ℕ, suc, ◌+◌, ◌*◌, ◌<◌, ◌≤◌}
 use native.Mathlib.Omega.{arith}
 use lib.ListN.{length, get_or, set, drop, length-set}
 use lib.Seq.{sets, length-sets}
@@ -24,7 +24,7 @@ use Rattle.cache.specs.declared.entries.Entry.{Entry}
 use Rattle.cache.specs.declared.records.Heard.{Heard}
 use Rattle.cache.specs.declared.records.Choice.{Choice}
 use Rattle.cache.specs.declared.records.Choice.TheVariants.{Leave, Expire, Refresh, Fill, TurnAway, PassOver}
-use Rattle.cache.specs.records.Heard.{heard_of, is_taken, is_flushing, is_sought, owner_in, rdata_in, may_hold, has_bytes, holds_heard, live_heard, flushed_heard, first_slot, is_filling, chosen_among, chosen_of}
+use Rattle.cache.specs.records.Heard.{heard_as, is_taken, is_flushing, is_sought, owner_in, rdata_in, may_hold, has_bytes, holds_heard, live_heard, flushed_heard, first_slot, is_filling, chosen_among, chosen_of}
 use Rattle.cache.specs.records.Taking.{Shows, flushed_in, equal_in, free_from, chosen_in, entry_heard, changed_in, kept_in, counting, changed_cache, take_heard}
 use Rattle.cache.proofs.entries.Searches.{found_at}
 use Rattle.cache.proofs.entries.Shape.{length-each}
@@ -151,10 +151,6 @@ left_alone_lem now slot h c none =
     ∙ same_cache now slot h (with_entries (flushed_in now c.store slot h c.entries) c)
     ∙ ap (λ (es : List Entry). with_entries es c) (flushes_none now c.store slot h c.entries (not-flushing h none))
 
-pub not-whole : (h : Heard) → h.whole ≡ false → is_taken h ≡ false
-unfolding is_taken
-not-whole h n = simp n
-
 -- ---- a record that the rules are for
 over : (now : ℕ) (store slot : List ℕ) (h : Heard) (es : List Entry) → is_taken h ≡ true → ltb 768 h.len ≡ true → chosen_in now store slot h es ≡ PassOver
 unfolding chosen_in chosen_of
@@ -215,9 +211,9 @@ module _ (now : ℕ) (store slot : List ℕ) (h : Heard) (es : List Entry) (t : 
   unfolding chosen_in chosen_of
   chosen_slot = simp (t, l) (by_number (equal_in now store slot h es) equal (λ i is. (found_at (holds_heard now store slot h) es i is).0) equal_number (eqb h.at.ttl 0) refl)
 
-module _ (now : ℕ) (p : List ℕ) (at : ℕ) (f : RecordAt) (met : RecordMet p at f) (slot : List ℕ) (shows : Shows p (heard_of p (Some f)) slot) where
+module _ (now : ℕ) (p : List ℕ) (at : ℕ) (f : RecordAt) (met : RecordMet p at f) (slot : List ℕ) (shows : Shows p (heard_as p f) slot) where
   abbrev h : Heard
-  h = heard_of p (Some f)
+  h = heard_as p f
 
   abbrev x : Record
   x = record_shown p f

@@ -1,6 +1,6 @@
 -- One record of a message against the entries (specification, 'The cache'), as the code finds it: its owner and rdata lie in the slot that it would fill. Of a
 -- record that is whole these are the rules of `entries` on what it shows (proofs/records). Assumes nothing: these are definitions.
-use Rattle.std.specs.Prelude.{ℕ, List, Bool, true, false, cond, not, ◌&&◌, length, take, drop, ltb, leb, eqb, None, Option, Some}
+use Rattle.std.specs.Prelude.{ℕ, List, Bool, cond, not, ◌&&◌, length, take, drop, ltb, leb, eqb, None, Option, Some}
 use Rattle.wire.specs.case_folding.Fold.{same_name}
 use Rattle.wire.specs.rdata.Rdata.{rdata_at, form_at}
 use Rattle.wire.specs.rdata.Answers.{data_of}
@@ -15,20 +15,20 @@ use Rattle.cache.specs.declared.records.Heard.{Heard}
 use Rattle.cache.specs.declared.records.Choice.{Choice}
 use Rattle.cache.specs.declared.records.Choice.TheVariants.{Leave, Expire, Refresh, Fill, TurnAway, PassOver}
 
--- the record at an offset, if it is whole
-abbrev pub blank_record : RecordAt
-blank_record = record { owner = 0; span = record { end = 0; len = 0; labels = 0; first = 0 }; rtype = 0; class = 0; ttl = 0; rdata = 0; rdlength = 0; next = 0 }
+-- a record as it lies that is whole, and that at an offset
+abbrev pub heard_as : List ℕ → RecordAt → Heard
+heard_as p f = record { at = f; len = length (data_of (rdata_at p f)); named = (form_at p f).named }
 
-abbrev pub heard_of : List ℕ → Option RecordAt → Heard
-heard_of p (Some f) = record { whole = true; at = f; len = length (data_of (rdata_at p f)); named = (form_at p f).named }
-heard_of p None = record { whole = false; at = blank_record; len = 0; named = false }
+abbrev pub heard_of : List ℕ → Option RecordAt → Option Heard
+heard_of p (Some f) = Some (heard_as p f)
+heard_of p None = None
 
-unfoldable pub heard_at : List ℕ → ℕ → Heard
+unfoldable pub heard_at : List ℕ → ℕ → Option Heard
 heard_at p at = heard_of p (whole_read p at)
 
 -- the rules are for it; rule 1 is, with the top class bit; rules 2 and 3 are, where its rdata fits a slot
 unfoldable pub is_taken : Heard → Bool
-is_taken h = h.whole && cached_as h.at.class h.at.rtype h.named
+is_taken h = cached_as h.at.class h.at.rtype h.named
 
 unfoldable pub is_flushing : Heard → Bool
 is_flushing h = top_bit h.at.class && is_taken h

@@ -30,7 +30,7 @@ use Rattle.wire.specs.declared.rdata.Form.{Form}
 use Rattle.wire.specs.declared.message.RecordAt.{RecordAt}
 use Rattle.cache.specs.records.Heard.{heard_of, heard_at}
 use Rattle.cache.specs.declared.records.Heard.{Heard}
-use Rattle.capi_cache.specs.hearing.Hearing.{nothing_heard, heard_with, name_over, named_over, rdata_over, record_over, owner_over, heard_in}
+use Rattle.capi_cache.specs.hearing.Hearing.{heard_with, name_over, named_over, rdata_over, record_over, owner_over, heard_in}
 use Rattle.capi_cache.proofs.hearing.Shown.{named-rdata, rdata-length}
 
 -- a part of a slot, from a place to its end, that a name was written into
@@ -51,13 +51,13 @@ module _ (p : List ℕ) (f : RecordAt) where
   by-rdata : (x : Rdata) → rdata_at p f ≡ x → heard_with p f ≡ heard_of p (cond (fits x) (Some f) None)
   by-rdata x e = ap (λ (y : Rdata). heard_of p (cond (fits y) (Some f) None)) e
 
-  pub heard-unfit : rdata_at p f ≡ unfit → nothing_heard ≡ heard_with p f
+  pub heard-unfit : rdata_at p f ≡ unfit → None ≡ heard_with p f
   heard-unfit e = sym (by-rdata unfit e)
 
   pub heard-fit : (d : List ℕ) → rdata_at p f ≡ rdata d → (n : ℕ) → n ≡ length d → (named : Bool) → named ≡ (form_at p f).named
-      → ◌≡◌ {A = Heard} (record { whole = true; at = f; len = n; named = named }) (heard_with p f)
+      → ◌≡◌ {A = Option Heard} (Some (record { at = f; len = n; named = named })) (heard_with p f)
   heard-fit d e n size named m =
-      ap₂ (λ (k : ℕ) (b : Bool). record { whole = true; at = f; len = k; named = b }) (size ∙ sym (ap (λ (x : Rdata). length (data_of x)) e)) m ∙ sym (by-rdata (rdata d) e)
+      ap₂ (λ (k : ℕ) (b : Bool). Some (record { at = f; len = k; named = b })) (size ∙ sym (ap (λ (x : Rdata). length (data_of x)) e)) m ∙ sym (by-rdata (rdata d) e)
 
   -- rdata that holds no name
   module _ (g : Form) (is : g ≡ form_at p f) (n : g.named ≡ false) where
@@ -71,11 +71,11 @@ module _ (p : List ℕ) (f : RecordAt) where
     unfolding rdata_over
     plain_over slot = sym (simp none)
 
-    pub plain-not : (b : Bool) → b ≡ fits (rdata_at p f) → b ≡ false → nothing_heard ≡ heard_with p f
+    pub plain-not : (b : Bool) → b ≡ fits (rdata_at p f) → b ≡ false → None ≡ heard_with p f
     plain-not b e k = heard-unfit (is-unfit (rdata_at p f) (sym e ∙ k))
 
     pub plain-heard : f.rdata + f.rdlength ≤ length p → (b : Bool) → b ≡ fits (rdata_at p f) → b ≡ true
-        → ◌≡◌ {A = Heard} (record { whole = true; at = f; len = f.rdlength; named = false }) (heard_with p f)
+        → ◌≡◌ {A = Option Heard} (Some (record { at = f; len = f.rdlength; named = false })) (heard_with p f)
     plain-heard room b e k =
         let d = plain-is p f none (sym e ∙ k) in
         heard-fit part d f.rdlength (sym (length-take-le f.rdlength (drop f.rdata p) (omega (arith, length-drop f.rdata p, room)))) false (sym none)
@@ -109,7 +109,7 @@ module _ (p : List ℕ) (f : RecordAt) where
         named-rdata p f room (sym named-is)
         ∙ ap (λ (y : Form). cond (leb (y.before + y.behind) f.rdlength) (ending_name (take y.before (drop f.rdata p)) (take y.behind (drop (f.rdata + (f.rdlength - y.behind)) p)) (f.rdata + (f.rdlength - y.behind)) (name_at p (f.rdata + y.before))) unfit) (sym is)
 
-    pub named-short : (slot : List ℕ) → f.rdlength < g.before + g.behind → (nothing_heard ≡ heard_with p f) × (slot ≡ named_over p f g slot)
+    pub named-short : (slot : List ℕ) → f.rdlength < g.before + g.behind → (None ≡ heard_with p f) × (slot ≡ named_over p f g slot)
     named-short slot l = (heard-unfit (ends_by ∙ simp (lt-leb _ _ l)), sym (simp (lt-leb _ _ l)))
 
     module _ (l : g.before + g.behind ≤ f.rdlength) (n : Option Span) (n-is : n ≡ found_of x) (slot : List ℕ) (size : length slot ≡ 1024) (s₁ : List ℕ) (s₁_is : s₁ ≡ sets slot 256 front) where
@@ -123,7 +123,7 @@ module _ (p : List ℕ) (f : RecordAt) where
       long = ap length s₁_is ∙ length-sets slot 256 front ∙ size
 
       -- a malformed name leaves the slot as it was
-      pub named-malformed : n ≡ None → (last : List ℕ) → last ≡ with_name (take (length s₁ - (256 + g.before)) (drop (256 + g.before) s₁)) x → (nothing_heard ≡ heard_with p f) × (put_mid (256 + g.before) (length s₁ - (256 + g.before)) s₁ last ≡ named_over p f g slot)
+      pub named-malformed : n ≡ None → (last : List ℕ) → last ≡ with_name (take (length s₁ - (256 + g.before)) (drop (256 + g.before) s₁)) x → (None ≡ heard_with p f) × (put_mid (256 + g.before) (length s₁ - (256 + g.before)) s₁ last ≡ named_over p f g slot)
       named-malformed k last e =
           let bad : x ≡ malformed = as_malformed x n n-is k in (
             heard-unfit (ending ∙ ap (ending_name front back to) bad),
@@ -159,10 +159,10 @@ module _ (p : List ℕ) (f : RecordAt) where
         pub named-size : (s₃ : List ℕ) → s₃ ≡ sets s₂ (256 + g.before + s.len) back → length s₃ ≡ length slot
         named-size s₃ e₃ = ap length (named-over s₃ e₃ ∙ over_named slot) ∙ rdata-length p f slot
 
-        pub named-elsewhere : (s.end ≡ to → ⊥) → nothing_heard ≡ heard_with p f
+        pub named-elsewhere : (s.end ≡ to → ⊥) → None ≡ heard_with p f
         named-elsewhere z = heard-unfit (ending ∙ ap (ending_name front back to) found.1 ∙ simp (ne_eqb _ _ z))
 
-        pub named-heard : s.end ≡ to → ◌≡◌ {A = Heard} (record { whole = true; at = f; len = g.before + s.len + g.behind; named = true }) (heard_with p f)
+        pub named-heard : s.end ≡ to → ◌≡◌ {A = Option Heard} (Some (record { at = f; len = g.before + s.len + g.behind; named = true })) (heard_with p f)
         named-heard z =
             let a : length front ≡ g.before = length-take-le g.before (drop f.rdata p) (omega (arith, length-drop f.rdata p, room, l)) in
             let b : length back ≡ g.behind = length-take-le g.behind (drop to p) (omega (arith, length-drop to p, room, l)) in
@@ -192,15 +192,15 @@ module _ (p : List ℕ) (at : ℕ) (slot : List ℕ) (size : length slot ≡ 102
   unfolding heard_at heard_in whole_read
   by-record y e = (ap (λ (z : Option RecordAt). heard_of p (whole_from p z)) (sym e), ap₂ (record_over p) (sym e) owner_over_lem)
 
-  pub no_owner : n ≡ None → (nothing_heard ≡ heard_at p at) × (s₁ ≡ heard_in p at slot)
+  pub no_owner : n ≡ None → (None ≡ heard_at p at) × (s₁ ≡ heard_in p at slot)
   no_owner k = by-record None (sym (record_bad p at n n-is k))
 
   module _ (s : Span) (k : n ≡ Some s) (a : Option RecordAt) (is : a ≡ record_behind p at s) where
-    pub no_record_lem : a ≡ None → (nothing_heard ≡ heard_at p at) × (s₁ ≡ heard_in p at slot)
+    pub no_record_lem : a ≡ None → (None ≡ heard_at p at) × (s₁ ≡ heard_in p at slot)
     no_record_lem e = by-record None (sym (record_behind_lem p at n n-is s k a is) ∙ e)
 
     module _ (f : RecordAt) (e : a ≡ Some f) where
-      pub a-record : (h : Heard) (last : List ℕ) → (h ≡ heard_with p f) × (last ≡ rdata_over p f s₁) → (h ≡ heard_at p at) × (last ≡ heard_in p at slot)
+      pub a-record : (h : Option Heard) (last : List ℕ) → (h ≡ heard_with p f) × (last ≡ rdata_over p f s₁) → (h ≡ heard_at p at) × (last ≡ heard_in p at slot)
       a-record h last w = let q = by-record (Some f) (sym (record_behind_lem p at n n-is s k a is) ∙ e) in (w.0 ∙ q.0, w.1 ∙ q.1)
 
       pub rdata-within : f.rdata + f.rdlength ≤ length p

@@ -32,6 +32,6 @@ loop-i-preserved c =
 pub returns : goal.returns
 returns c =
     let is : c.look_refusal-refusal.result ≡ looked_refusal (entries_refusal c.args.time c.args.table.now) (length c.args.table.now) c.args.store.now c.args.name.now = cc (c.look_refusal-refusal.ensures, c.table_refusal.ensures) in
-    c.nothing_look.ensures
+    c.refused_look-2.ensures
     ∙ is-nothing c.args.time c.args.table.now c.args.store.now c.args.name.now c.args.rtype c.args.from (sym is ∙ c.if-refusal-ne0.false)
     (search_end c.args.time c.args.table.now c.args.store.now c.args.name.now c.args.rtype c.args.from c.loop-i.i c.loop-i.invariant (omega (arith)))

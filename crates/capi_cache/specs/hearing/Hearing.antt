@@ -1,6 +1,6 @@
 -- What a record leaves in the bytes of a slot that it is heard into: the owner from the first byte on, the rdata, its name expanded, from byte 256 on. The other
 -- bytes stay. Assumes nothing: these are definitions.
-use Rattle.std.specs.Prelude.{ℕ, ◌+◌, ◌-◌, List, false, cond, length, take, drop, leb, None, Option, Some}
+use Rattle.std.specs.Prelude.{ℕ, ◌+◌, ◌-◌, List, cond, length, take, drop, leb, None, Option, Some}
 use Rattle.std.proofs.lemmas.List.Edits.{sets}
 use Rattle.wire.specs.names.Names.{Reading, name, malformed, name_at}
 use Rattle.wire.specs.rdata.Rdata.{form_at}
@@ -8,14 +8,11 @@ use Rattle.wire.specs.message.Layout.{record_read}
 use Rattle.wire.specs.message.Readable.{whole_from}
 use Rattle.wire.specs.declared.rdata.Form.{Form}
 use Rattle.wire.specs.declared.message.RecordAt.{RecordAt}
-use Rattle.cache.specs.records.Heard.{blank_record, heard_of}
+use Rattle.cache.specs.records.Heard.{heard_of}
 use Rattle.cache.specs.declared.records.Heard.{Heard}
 
--- no record; and a record as it lies, if its rdata is as its type asks
-abbrev pub nothing_heard : Heard
-nothing_heard = record { whole = false; at = blank_record; len = 0; named = false }
-
-abbrev pub heard_with : List ℕ → RecordAt → Heard
+-- a record as it lies, if its rdata is as its type asks
+abbrev pub heard_with : List ℕ → RecordAt → Option Heard
 heard_with p f = heard_of p (whole_from p (Some f))
 
 -- a name over bytes from a place on, and more bytes behind it; as they were where it is malformed
