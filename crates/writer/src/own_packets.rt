@@ -1,7 +1,7 @@
 // Writes the own packets (specification, 'Writing a packet': "ID 0. Responses have flags 0x8400, probes 0. .. by rising type, class 1."; "Unicast answers
 // carry the query's ID"; "Our own probes now set the bit"): a response of any of the own records, a claim's probe, and a reply to a plain resolver. Questions
 // and records are put by `writer`.
-ghost use Rattle.std.specs.Prelude.{◌≡◌, cond, map, ◌+◌, ◌≤◌, ◌<◌, length};
+ghost use Rattle.std.specs.Prelude.{◌≡◌, map, ◌+◌, ◌≤◌, ◌<◌, length};
 ghost use Rattle.claims.specs.records.Own.{records};
 ghost use Rattle.std.proofs.lemmas.List.Edits.{sets};
 ghost use Rattle.writer.specs.Items.{put_question, put_record};
@@ -9,10 +9,10 @@ ghost use Rattle.wire.specs.message.Message.{Question};
 ghost use Rattle.wire.specs.refusals.Numbers.{refused_by};
 ghost use Rattle.writer.specs.Writer.{question_of, held_in, Grown};
 ghost use Rattle.writer.specs.own_packets.Packets.{put_all, header_bytes};
-ghost use Rattle.writer.specs.own_packets.Ready.{HeaderReady, spot_after, OwnReady, Picks, listed, ListReady, AskReady, PacketReady};
+ghost use Rattle.writer.specs.own_packets.Ready.{HeaderReady, spot_after, OwnReady, Picks, listed, AnswerStyle, ListReady, AskReady, PacketReady};
 ghost use Rattle.writer.specs.own_packets.Styles.{response_style, probe_style, plain_style, class_in, ttl_in, asked, own_record, packet_in};
 ghost use Rattle.writer.specs.own_packets.Own.{refusal_of, length_of, response_records, probe_records, response_packet, probe_packet, plain_packet};
-ghost use Rattle.writer.specs.own_packets.Own.{write_tests, refusal, unless_refused, answer_to, laid_over};
+ghost use Rattle.writer.specs.own_packets.Own.{write_tests, refusal, unless_refused, answer_to, chosen_packet, laid_over};
 ghost use Rattle.writer.specs.own_packets.Goodbye.{goodbye_style, goodbye_packet};
 
 use crate::{Misfit, Spot};
@@ -36,16 +36,21 @@ const PROBE_CLASS: u16 = 0x8001;
 // The TTL of records in a reply to a plain resolver.
 const PLAIN_TTL: u32 = 10;
 
-// How a packet of own records is written: its header, whether a question stands in front and of which type and class, the section of the records
+// The type and the class of a question.
+#[derive(Clone, Copy)]
+pub struct Asked {
+    pub qtype: u16,
+    pub qclass: u16,
+}
+
+// How a packet of own records is written: its header, the type and the class of the question in front, if there is one, the section of the records
 // (Authority, else Answers), the TTL of all of them (none: each has its own), whether those that are not shared have the class's top bit, and whether the
 // target of the SRV is written whole.
 #[derive(Clone, Copy)]
 pub struct Style {
     pub id: u16,
     pub flags: u16,
-    pub asks: bool,
-    pub qtype: u16,
-    pub qclass: u16,
+    pub asks: Option<Asked>,
     pub authority: bool,
     pub ttl: Option<u32>,
     pub flush: bool,
@@ -79,9 +84,7 @@ fn response_style(id: u16) -> Style
     Style {
         id,
         flags: RESPONSE_FLAGS,
-        asks: false,
-        qtype: 0,
-        qclass: 0,
+        asks: None,
         authority: false,
         ttl: None,
         flush: true,
@@ -96,9 +99,10 @@ fn probe_style() -> Style
     Style {
         id: 0,
         flags: 0,
-        asks: true,
-        qtype: 255,
-        qclass: PROBE_CLASS,
+        asks: Some(Asked {
+            qtype: 255,
+            qclass: PROBE_CLASS,
+        }),
         authority: true,
         ttl: None,
         flush: false,
@@ -113,21 +117,12 @@ fn plain_style(id: u16, qtype: u16, qclass: u16) -> Style
     Style {
         id,
         flags: RESPONSE_FLAGS,
-        asks: true,
-        qtype,
-        qclass,
+        asks: Some(Asked { qtype, qclass }),
         authority: false,
         ttl: Some(PLAIN_TTL),
         flush: false,
         whole: true,
     }
-}
-
-// One of two numbers.
-fn either(first: bool, a: usize, b: usize) -> usize
-    ensures { result ≡ cond first a b }
-{
-    if first { a } else { b }
 }
 
 // Writes a header; there are no additional records.
@@ -269,10 +264,10 @@ fn write_asked(style: Style, name: &[u8], out: &mut [u8], places: &mut [usize]) 
     ensures { Grown (put_all put_question (held_in out.old places.old 12 0) (asked style name.now))
         out.old places.old result out.new places.new }
 {
-    if !style.asks {
+    let Some(asked) = style.asks else {
         return Spot { end: 12, count: 0 };
-    }
-    let placed = crate::put_question(out, 12, places, 0, name, style.qtype, style.qclass);
+    };
+    let placed = crate::put_question(out, 12, places, 0, name, asked.qtype, asked.qclass);
     spot_after(placed, 12, 0)
 }
 
@@ -283,10 +278,12 @@ fn write_packet(s: Setup, style: Style, name: &[u8], list: Picked, out: &mut [u8
     ensures value { result ≡ length (packet_in s style name.now (listed list)) }
     ensures out_after { out.new ≡ laid_over (packet_in s style name.now (listed list)) out.old }
 {
-    let n = list.n;
-    let questions = either(style.asks, 1, 0);
-    let answers = either(style.authority, 0, n);
-    let authorities = either(style.authority, n, 0);
+    let questions = if style.asks.is_some() { 1 } else { 0 };
+    let (answers, authorities) = if style.authority {
+        (0, list.n)
+    } else {
+        (list.n, 0)
+    };
     put_header(
         out,
         style.id as usize,
@@ -301,19 +298,36 @@ fn write_packet(s: Setup, style: Style, name: &[u8], list: Picked, out: &mut [u8
     r.end
 }
 
-// Writes a response with this ID of the chosen ones of the own records that the set-up has: PTR, SRV, TXT, A, AAAA, and the two NSEC.
-pub fn respond(s: Setup, id: u16, chosen: Set, out: &mut [u8]) -> Result<Option<usize>, Refusal>
-    ensures answer { result ≡ answer_to s out.old (response_packet s id chosen) }
-    ensures out { out.new ≡ laid_over (unless_refused (refusal s out.old) (response_packet s id chosen)) out.old }
+// Writes the chosen ones of the own records that the set-up has, in a style that asks nothing.
+fn write_chosen(
+    s: Setup,
+    style: Style,
+    chosen: Set,
+    out: &mut [u8],
+) -> Result<Option<usize>, Refusal>
+    requires { AnswerStyle style }
+    ensures answer { result ≡ answer_to s out.old (chosen_packet s style chosen) }
+    ensures out { out.new ≡ laid_over (unless_refused (refusal s out.old) (chosen_packet s style chosen)) out.old }
     ensures number { refusal_of result ≡ refusal s out.old }
-    ensures sent { length_of result ≡ length (unless_refused (refusal s out.old) (response_packet s id chosen)) }
+    ensures sent { length_of result ≡ length (unless_refused (refusal s out.old) (chosen_packet s style chosen)) }
 {
     check_call(s, out.len())?;
     let list = pick(s, chosen);
     if list.n == 0 {
         return Ok(None);
     }
-    Ok(Some(write_packet(s, response_style(id), b"", list, out)))
+    Ok(Some(write_packet(s, style, b"", list, out)))
+}
+
+// Writes a response with this ID of the chosen ones of the own records that the set-up has: PTR, SRV, TXT, A, AAAA, and the two NSEC.
+#[tactic(auto, unfolding(crate::specs::own_packets::Own::response_packet))]
+pub fn respond(s: Setup, id: u16, chosen: Set, out: &mut [u8]) -> Result<Option<usize>, Refusal>
+    ensures answer { result ≡ answer_to s out.old (response_packet s id chosen) }
+    ensures out { out.new ≡ laid_over (unless_refused (refusal s out.old) (response_packet s id chosen)) out.old }
+    ensures number { refusal_of result ≡ refusal s out.old }
+    ensures sent { length_of result ≡ length (unless_refused (refusal s out.old) (response_packet s id chosen)) }
+{
+    write_chosen(s, response_style(id), chosen, out)
 }
 
 // Writes a claim's probe.
@@ -364,29 +378,18 @@ fn goodbye_style() -> Style
     ensures { result ≡ goodbye_style }
 {
     Style {
-        id: 0,
-        flags: RESPONSE_FLAGS,
-        asks: false,
-        qtype: 0,
-        qclass: 0,
-        authority: false,
         ttl: Some(0),
-        flush: true,
-        whole: false,
+        ..response_style(0)
     }
 }
 
 // Writes a goodbye to the chosen ones of the own records that the set-up has.
+#[tactic(auto, unfolding(crate::specs::own_packets::Goodbye::goodbye_packet))]
 pub fn goodbye(s: Setup, chosen: Set, out: &mut [u8]) -> Result<Option<usize>, Refusal>
     ensures answer { result ≡ answer_to s out.old (goodbye_packet s chosen) }
     ensures out { out.new ≡ laid_over (unless_refused (refusal s out.old) (goodbye_packet s chosen)) out.old }
     ensures number { refusal_of result ≡ refusal s out.old }
     ensures sent { length_of result ≡ length (unless_refused (refusal s out.old) (goodbye_packet s chosen)) }
 {
-    check_call(s, out.len())?;
-    let parting = pick(s, chosen);
-    if parting.n == 0 {
-        return Ok(None);
-    }
-    Ok(Some(write_packet(s, goodbye_style(), b"", parting, out)))
+    write_chosen(s, goodbye_style(), chosen, out)
 }

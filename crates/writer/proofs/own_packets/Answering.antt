@@ -1,5 +1,5 @@
 -- A packet in a style: the header, the question, the records, and what the buffer then is; a response and a probe. Assumes nothing.
-use mathlib.Core.Path.{◌≡◌, refl, sym, ap, ap₂, ◌∙◌, subst}
+use mathlib.Core.Path.{◌≡◌, refl, sym, ap, ◌∙◌, subst}
 use mathlib.Core.List.{List, [], ◌∷◌, ◌++◌, map}
 use mathlib.Core.Bool.{Bool, true, false, cond, not}
 use Prim.Native.Nat.{ℕ, ◌+◌, ◌-◌, ◌<◌, ◌≤◌}
@@ -25,15 +25,16 @@ use Rattle.writer.specs.Items.{Writing, put_question, put_record}
 use Rattle.writer.specs.Writer.{held_in, spot_of, room_in, question_of, name_fits, question_fits, Placing, Grown}
 use Rattle.writer.proofs.Use.{question-size, question-count, question-low, record_low, held-so}
 use Rattle.writer.specs.declared.own_packets.Picked.{Picked}
+use Rattle.writer.specs.declared.own_packets.Asked.{Asked}
 use Rattle.writer.specs.declared.own_packets.Style.{Style}
 use Rattle.writer.specs.own_packets.Packets.{header_bytes, header, put_all, packet_of}
-use Rattle.writer.specs.own_packets.Styles.{probe_style, own_record, asked, styled_message, packet_in}
-use Rattle.writer.specs.own_packets.Own.{refusal_of, length_of, response_records, probe_records, none_if_empty, probe_packet}
+use Rattle.writer.specs.own_packets.Styles.{probe_style, own_record, questions_of, asked, styled_message, packet_in}
+use Rattle.writer.specs.own_packets.Own.{refusal_of, length_of, response_records, probe_records, none_if_empty, chosen_packet, probe_packet}
 use Rattle.writer.specs.own_packets.Own.{write_tests, refusal, unless_refused, sent_of, written_of, answer_to, laid_over}
-use Rattle.writer.specs.own_packets.Ready.{spot_after, TtlSmall, each, ListReady, listed, Picks, asked_size, asked_labels, AskReady, most_places, PacketReady}
+use Rattle.writer.specs.own_packets.Ready.{spot_after, AnswerStyle, each, ListReady, listed, Picks, asked_size, asked_labels, AskReady, most_places, PacketReady}
 use Rattle.writer.proofs.own_packets.Owned.{own_front, placed-grown, own_shaped}
 use Rattle.writer.proofs.own_packets.Room.{response_size, response_labels, probe-size, probe-labels, claim_size_lem, claim_labels}
-use Rattle.std.specs.Prelude.{Option, Some, None, Result, Ok, Err}
+use Rattle.std.specs.Prelude.{Option, Some, None, is_some, Result, Ok, Err}
 use Rattle.wire.specs.declared.refusals.Refusal.{Refusal}
 use Rattle.wire.specs.declared.refusals.Refusal.TheVariants.{Buffer}
 use Rattle.wire.specs.declared.refusals.Refusal.TheVariants as cause
@@ -119,11 +120,9 @@ all-low s ok style w (i ∷ is) =
 
 -- the question, if the style asks one
 module _ (style : Style) (name o pl : List ℕ) (ready : AskReady style name o pl) where
-  pub asked-not : style.asks ≡ false → Grown (put_all put_question (held_in o pl 12 0) (asked style name)) o pl (spot_of 12 0) o pl
+  pub asked-not : style.asks ≡ None → Grown (put_all put_question (held_in o pl 12 0) (asked style name)) o pl (spot_of 12 0) o pl
   asked-not t =
-      subst (λ (b : Bool). Grown (put_all put_question (held_in o pl 12 0) (cond b (question_of name style.qtype style.qclass ∷ []) [])) o pl (spot_of 12 0) o
-      pl)
-      (sym t) none
+      subst (λ (b : Option Asked). Grown (put_all put_question (held_in o pl 12 0) (questions_of b name)) o pl (spot_of 12 0) o pl) (sym t) none
     where
       long : length (take 12 o) ≡ 12
       long = length-take-le 12 o (omega (arith, ready.room))
@@ -136,15 +135,15 @@ module _ (style : Style) (name o pl : List ℕ) (ready : AskReady style name o p
         counted = refl;
       }
 
-  module _ (t : style.asks ≡ true) where
+  module _ (one : Asked) (t : style.asks ≡ Some one) where
     size : 12 + (length name + 4) ≤ length o
-    size = let e : asked_size style name ≡ length name + 4 = ap (λ (b : Bool). cond b (length name + 4) 0) t in omega (arith, ready.room)
+    size = let e : asked_size style name ≡ length name + 4 = ap (λ (b : Option Asked). cond (is_some b) (length name + 4) 0) t in omega (arith, ready.room)
 
     labels : labels_in name ≤ length pl
-    labels = let e : asked_labels style name ≡ labels_in name = ap (λ (b : Bool). cond b (labels_in name) 0) t in omega (arith, ready.slots)
+    labels = let e : asked_labels style name ≡ labels_in name = ap (λ (b : Option Asked). cond (is_some b) (labels_in name) 0) t in omega (arith, ready.slots)
 
     few : length name + 4 ≤ 16372
-    few = let e : asked_size style name ≡ length name + 4 = ap (λ (b : Bool). cond b (length name + 4) 0) t in omega (arith, ready.small)
+    few = let e : asked_size style name ≡ length name + 4 = ap (λ (b : Option Asked). cond (is_some b) (length name + 4) 0) t in omega (arith, ready.small)
 
     question-fits : question_fits (room_in o pl 12 0) name ≡ true
     unfolding name_fits
@@ -155,34 +154,33 @@ module _ (style : Style) (name o pl : List ℕ) (ready : AskReady style name o p
         simp (le-leb _ _ a, le-leb _ _ b, le-leb _ _ c)
 
     pub asked-grown : (placed : Result Spot Misfit) (o' pl' : List ℕ)
-        → Placing (is_name name) (question_fits (room_in o pl 12 0) name) (put_question (held_in o pl 12 0) (question_of name style.qtype style.qclass)) o pl
+        → Placing (is_name name) (question_fits (room_in o pl 12 0) name) (put_question (held_in o pl 12 0) (question_of name one.qtype one.qclass)) o pl
         placed o' pl'
         → (r : Spot) → r ≡ spot_after placed 12 0 → Grown (put_all put_question (held_in o pl 12 0) (asked style name)) o pl r o' pl'
     asked-grown placed o' pl' p r e =
-        subst (λ (b : Bool). Grown (put_all put_question (held_in o pl 12 0) (cond b (question_of name style.qtype style.qclass ∷ []) [])) o pl r o' pl')
-        (sym t) (placed-grown _ _ _ o pl placed o' pl' p (ready.named t) question-fits 12 0 r e)
+        subst (λ (b : Option Asked). Grown (put_all put_question (held_in o pl 12 0) (questions_of b name)) o pl r o' pl')
+        (sym t) (placed-grown _ _ _ o pl placed o' pl' p (ready.named (ap is_some t)) question-fits 12 0 r e)
 
 -- the header and the question take so much at most
-pub asked-size : (style : Style) (name : List ℕ) → (style.asks ≡ true → is_name name ≡ true) → (w : Writing)
+pub asked-size : (style : Style) (name : List ℕ) → (is_some style.asks ≡ true → is_name name ≡ true) → (w : Writing)
     → (length w.bytes ≤ length (put_all put_question w (asked style name)).bytes)
     × (length (put_all put_question w (asked style name)).bytes ≤ length w.bytes + asked_size style name)
     × (length (put_all put_question w (asked style name)).places ≤ length w.places + asked_labels style name)
 asked-size style name named w = go style.asks refl
   where
-    q : Question
-    q = question_of name style.qtype style.qclass
-
-    go : (b : Bool) → style.asks ≡ b
-        → (length w.bytes ≤ length (put_all put_question w (cond b (q ∷ []) [])).bytes)
-        × (length (put_all put_question w (cond b (q ∷ []) [])).bytes ≤ length w.bytes + cond b (length name + 4) 0)
-        × (length (put_all put_question w (cond b (q ∷ []) [])).places ≤ length w.places + cond b (labels_in name) 0)
-    go true t = (question-low w q, omega (arith, question-size w q (named t)), question-count w q)
-    go false t = (omega arith, omega arith, omega arith)
+    go : (b : Option Asked) → style.asks ≡ b
+        → (length w.bytes ≤ length (put_all put_question w (questions_of b name)).bytes)
+        × (length (put_all put_question w (questions_of b name)).bytes ≤ length w.bytes + cond (is_some b) (length name + 4) 0)
+        × (length (put_all put_question w (questions_of b name)).places ≤ length w.places + cond (is_some b) (labels_in name) 0)
+    go (Some one) t =
+        let q : Question = question_of name one.qtype one.qclass in
+        (question-low w q, omega (arith, question-size w q (named (ap is_some t))), question-count w q)
+    go None t = (omega arith, omega arith, omega arith)
 
 -- the counts of the header
-count_asked : (b : Bool) (q : Question) → cond b 1 0 ≡ length (cond b (q ∷ []) [])
-count_asked true q = refl
-count_asked false q = refl
+count_asked : (b : Option Asked) (name : List ℕ) → cond (is_some b) 1 0 ≡ length (questions_of b name)
+count_asked (Some one) name = refl
+count_asked None name = refl
 
 count_answers : (b : Bool) (rs : List Record) (n : ℕ) → n ≡ length rs → cond b 0 n ≡ length (cond b [] rs)
 count_answers true rs n e = refl
@@ -215,7 +213,7 @@ module _ (s : Setup) (style : Style) (name : List ℕ) (list : Picked) (o : List
       (length-map os (own_record s style) ∙ length-map (take list.n list.order) record_at
       ∙ length-take-le list.n list.order (omega (arith, sized.0, sized.1)))
 
-  module _ (nq na nn : ℕ) (eq : nq ≡ cond style.asks 1 0) (ea : na ≡ cond style.authority 0 list.n)
+  module _ (nq na nn : ℕ) (eq : nq ≡ cond (is_some style.asks) 1 0) (ea : na ≡ cond style.authority 0 list.n)
       (en : nn ≡ cond style.authority list.n 0) where
     abbrev H : List ℕ
     H = header_bytes style.id style.flags nq na nn 0
@@ -225,13 +223,13 @@ module _ (s : Setup) (style : Style) (name : List ℕ) (list : Picked) (o : List
 
     header_is : w₀ ≡ header (styled_message s style name os)
     header_is =
-        let x : nq ≡ length (asked style name) = eq ∙ count_asked style.asks (question_of name style.qtype style.qclass) in
+        let x : nq ≡ length (asked style name) = eq ∙ count_asked style.asks name in
         let y : na ≡ length (cond style.authority [] rs) = ea ∙ count_answers style.authority rs list.n number in
         let z : nn ≡ length (cond style.authority rs []) = en ∙ count_authorities style.authority rs list.n number in
         λ i. record { bytes = header_bytes style.id style.flags (x i) (y i) (z i) 0; places = [] }
 
     pub counts_small : (nq < 65536) × (na < 65536) × (nn < 65536)
-    counts_small = (go₁ style.asks eq, go₂ style.authority ea, go₃ style.authority en)
+    counts_small = (go₁ (is_some style.asks) eq, go₂ style.authority ea, go₃ style.authority en)
       where
         go₁ : (b : Bool) → nq ≡ cond b 1 0 → nq < 65536
         go₁ true e = omega arith
@@ -320,7 +318,7 @@ module _ (s : Setup) (style : Style) (name : List ℕ) (list : Picked) (o : List
           )
 
 -- the packet is longer than nothing
-pub packet_some : (s : Setup) (ok : Valid s) (style : Style) (name : List ℕ) (os : List Own) → (style.asks ≡ true → is_name name ≡ true) → 1 ≤ length
+pub packet_some : (s : Setup) (ok : Valid s) (style : Style) (name : List ℕ) (os : List Own) → (is_some style.asks ≡ true → is_name name ≡ true) → 1 ≤ length
     (packet_in s style name os)
 unfolding packet_of
 packet_some s ok style name os named =
@@ -337,42 +335,42 @@ module _ (s : Setup) (o : List ℕ) (v : Result (Unit {0}) Refusal) (is : v ≡ 
   ok = valid s (fine s o v is t)
 
   -- own records in a style that asks nothing
-  module _ (st : Style) (silent : st.asks ≡ false) (ttls : TtlSmall st.ttl) (chosen : Set) (list : Picked) (p : Picks (response_records s chosen) list) where
+  module _ (st : Style) (quiet : AnswerStyle st) (chosen : Set) (list : Picked) (p : Picks (response_records s chosen) list) where
     abbrev those : List ℕ
-    those = none_if_empty (response_records s chosen) (packet_in s st [] (response_records s chosen))
+    those = chosen_packet s st chosen
 
-    unasked : st.asks ≡ true → is_name [] ≡ true
-    unasked f = let e : ◌≡◌ {A = Bool} false true = sym silent ∙ f in let z : ◌≡◌ {A = ℕ} 0 1 = cc in absurd (omega arith)
+    unasked : is_some st.asks ≡ true → is_name [] ≡ true
+    unasked f = let e : ◌≡◌ {A = Bool} false true = sym (ap is_some quiet.unasked) ∙ f in let z : ◌≡◌ {A = ℕ} 0 1 = cc in absurd (omega arith)
 
     no_question : asked_size st [] ≡ 0
-    no_question = ap (λ (b : Bool). cond b (length {A = ℕ} [] + 4) 0) silent
+    no_question = ap (λ (b : Option Asked). cond (is_some b) (length {A = ℕ} [] + 4) 0) quiet.unasked
 
     no_labels : asked_labels st [] ≡ 0
-    no_labels = ap (λ (b : Bool). cond b (labels_in []) 0) silent
+    no_labels = ap (λ (b : Option Asked). cond (is_some b) (labels_in []) 0) quiet.unasked
 
     pub empty-nothing : list.n ≡ 0 → Answered s those o (Ok None) o
     empty-nothing z =
         let e : response_records s chosen ≡ [] = sym p.those ∙ ap (λ (k : ℕ). map record_at (take k list.order)) z in
         nothing s o v is t those (ap (λ (l : List Own). none_if_empty l (packet_in s st [] (response_records s chosen))) e)
 
-    pub response_ready : (style : Style) → style ≡ st → PacketReady s style [] (listed list) o
-    response_ready style e = rw (e, p.those) (record {
+    pub response_ready : PacketReady s st [] (listed list) o
+    response_ready = rw p.those (record {
       ok = fine s o v is t;
       named = unasked;
-      counts = ttls;
+      counts = quiet.counts;
       room = omega (arith, h, no_question, response_size s ok chosen);
       small = omega (arith, h, no_question, response_size s ok chosen);
       slots = omega (arith, h, no_labels, response_labels s ok chosen);
     })
 
-    pub response_sent : (list.n ≡ 0 → ⊥) → (style : Style) → style ≡ st → (n : ℕ) (o₁ : List ℕ) → n ≡ length (packet_in s style [] (listed list))
-        → o₁ ≡ laid_over (packet_in s style [] (listed list)) o → Answered s those o (Ok (Some n)) o₁
-    response_sent nz style e n o₁ en w =
+    pub response_sent : (list.n ≡ 0 → ⊥) → (n : ℕ) (o₁ : List ℕ) → n ≡ length (packet_in s st [] (listed list))
+        → o₁ ≡ laid_over (packet_in s st [] (listed list)) o → Answered s those o (Ok (Some n)) o₁
+    response_sent nz n o₁ en w =
         sent s o v is t those n o₁ (omega (arith, ap length packet, packet_some s ok st [] (response_records s chosen) unasked))
         (en ∙ ap length (as_listed ∙ sym packet)) (w ∙ ap (λ (l : List ℕ). laid_over l o) (as_listed ∙ sym packet))
       where
-        as_listed : packet_in s style [] (listed list) ≡ packet_in s st [] (response_records s chosen)
-        as_listed = ap₂ (λ (x : Style) (l : List Own). packet_in s x [] l) e p.those
+        as_listed : packet_in s st [] (listed list) ≡ packet_in s st [] (response_records s chosen)
+        as_listed = ap (packet_in s st []) p.those
 
         some : (l : List Own) → (length l ≡ 0 → ⊥) → (b : List ℕ) → none_if_empty l b ≡ b
         some [] z b = absurd (z refl)

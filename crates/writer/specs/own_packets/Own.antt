@@ -13,6 +13,7 @@ use Rattle.wire.specs.message.Message.{Question, Message}
 use Rattle.own.specs.declared.records.Setup.{Setup}
 use Rattle.own.specs.records.Setups.{valid_setup}
 use Rattle.own.specs.records.Records.{has_record, own_name}
+use Rattle.writer.specs.declared.own_packets.Style.{Style}
 use Rattle.writer.specs.own_packets.Styles.{response_style, probe_style, plain_style, styled_message, packet_in}
 
 -- "Records in responses go in the order PTR, SRV, TXT, A, AAAA": those that are chosen and that the set-up has
@@ -42,8 +43,12 @@ abbrev pub none_if_empty : List Own → List ℕ → List ℕ
 none_if_empty [] packet = []
 none_if_empty (o ∷ os) packet = packet
 
+-- in any style
+abbrev pub chosen_packet : Setup → Style → Set → List ℕ
+chosen_packet s style chosen = none_if_empty (response_records s chosen) (packet_in s style [] (response_records s chosen))
+
 unfoldable pub response_packet : Setup → ℕ → Set → List ℕ
-response_packet s id chosen = none_if_empty (response_records s chosen) (packet_in s (response_style id) [] (response_records s chosen))
+response_packet s id chosen = chosen_packet s (response_style id) chosen
 
 unfoldable pub probe_packet : Setup → Claim → List ℕ
 probe_packet s claim = packet_in s probe_style (own_name s (first_of claim)) (probe_records s claim)
