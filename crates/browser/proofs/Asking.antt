@@ -1,4 +1,5 @@
 -- What a start gives, and the browser after a query. Assumes nothing.
+use Rattle.std.proofs.Common.{None, Option}
 use mathlib.Core.Path.{◌≡◌, sym, ap, ◌∙◌}
 use mathlib.Core.Bool.{Bool, true, cond}
 use mathlib.Core.List.{List}
@@ -6,8 +7,6 @@ use Prim.Native.Nat.{ℕ, ◌≤◌, ◌<◌}
 use lib.Dec.{leb}
 use borrow.Author.Tests.{le-leb, lt-leb, ne_eqb}
 use Rattle.own.specs.declared.records.Service.{Service}
-use Rattle.cache.specs.declared.entries.Slot.{Slot}
-use Rattle.cache.specs.declared.entries.Slot.TheVariants.{Nowhere}
 use Rattle.browser.specs.declared.Browser.{Browser}
 use Rattle.browser.specs.declared.Started.{Started}
 use Rattle.browser.specs.declared.Answer.TheVariants.{Refused, Quiet}
@@ -35,7 +34,7 @@ module _ (service : Service) (protocol domain : List ℕ) (time draw refresh n :
       series = time;
       count = 0;
       query = time;
-      owed = Nowhere;
+      owed = None;
       last = time;
     };
   } in
@@ -43,7 +42,7 @@ module _ (service : Service) (protocol domain : List ℕ) (time draw refresh n :
   unfolding start_of begun
   starts none = (sym (simp (sym is ∙ none)), sym (sym is ∙ none))
 
-module _ (b : Browser) (now : ℕ) (owed : Slot) (at : ℕ) (is : at ≡ series_at b) where
+module _ (b : Browser) (now : ℕ) (owed : Option ℕ) (at : ℕ) (is : at ≡ series_at b) where
   pub asked-refresh : now < at → record {
     service = b.service;
     protocol = b.protocol;

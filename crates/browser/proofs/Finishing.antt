@@ -1,12 +1,11 @@
 -- What a tick that is not refused ends in, from what was written. Assumes nothing.
+use Rattle.std.proofs.Common.{None, Option}
 use mathlib.Core.Path.{◌≡◌, refl, sym, ap, ◌∙◌}
 use mathlib.Core.Bool.{Bool, true, false, ◌||◌}
 use mathlib.Core.List.{List, []}
 use Prim.Native.Nat.{ℕ, ◌≤◌, ◌<◌}
 use lib.Dec.{leb}
 use borrow.Author.Tests.{lt-ltb, le-ltb}
-use Rattle.cache.specs.declared.entries.Slot.{Slot}
-use Rattle.cache.specs.declared.entries.Slot.TheVariants.{Nowhere}
 use Rattle.writer.specs.own_packets.Own.{laid_over}
 use Rattle.browser.specs.declared.Browser.{Browser}
 use Rattle.browser.specs.declared.Answer.TheVariants.{Quiet, Sent}
@@ -21,7 +20,7 @@ module _ (b : Browser) (now : ℕ) (store : List ℕ) (next : ℕ) (owed known :
   unfolding ended_packet
   packet_owed h = simp (lt-ltb _ _ h)
 
-  pub finish_owed : 0 < owed.n → (d : Draft) (out' : List ℕ) → Writes false b store owed out d out' → (stop : Slot) → stop ≡ stop_at owed d.answers
+  pub finish_owed : 0 < owed.n → (d : Draft) (out' : List ℕ) → Writes false b store owed out d out' → (stop : Option ℕ) → stop ≡ stop_at owed d.answers
       → (more : Bool) → more ≡ (is_owed stop || leb next now) → (r : Browser) → r ≡ resumed b now stop
       → Ends b now store next owed known out (record { answer = Sent d.end; more = more; browser = r }) out'
   unfolding ended_tick
@@ -30,7 +29,7 @@ module _ (b : Browser) (now : ℕ) (store : List ℕ) (next : ℕ) (owed known :
         answers =
             (λ i. record {
               answer = Sent (w.ended i);
-              more = (m ∙ ap (λ (x : Slot). is_owed x || leb next now) at) i;
+              more = (m ∙ ap (λ (x : Option ℕ). is_owed x || leb next now) at) i;
               browser = (k ∙ ap (resumed b now) at) i;
             }) ∙ sym (simp (lt-ltb _ _ h));
         writes = w.bytes ∙ sym (ap (λ (p : List ℕ). laid_over p out) (packet_owed h));
@@ -45,7 +44,7 @@ module _ (b : Browser) (now : ℕ) (store : List ℕ) (next : ℕ) (owed known :
     unfolding ended_packet
     packet_asked h = simp (le-ltb _ _ none, le-ltb _ _ h)
 
-    pub finish_quiet : now < next → (r : Browser) → r ≡ resumed b now Nowhere
+    pub finish_quiet : now < next → (r : Browser) → r ≡ resumed b now None
         → Ends b now store next owed known out (record { answer = Quiet; more = false; browser = r }) out
     unfolding ended_tick
     finish_quiet h r k = record {
@@ -53,7 +52,7 @@ module _ (b : Browser) (now : ℕ) (store : List ℕ) (next : ℕ) (owed known :
       writes = sym (ap (λ (p : List ℕ). laid_over p out) (packet_none h));
     }
 
-    pub finish_asked : next ≤ now → (d : Draft) (out' : List ℕ) → Writes true b store known out d out' → (stop : Slot) → stop ≡ stop_at known d.answers
+    pub finish_asked : next ≤ now → (d : Draft) (out' : List ℕ) → Writes true b store known out d out' → (stop : Option ℕ) → stop ≡ stop_at known d.answers
         → (more : Bool) → more ≡ (is_owed stop || false) → (r : Browser) → r ≡ asked b now stop
         → Ends b now store next owed known out (record { answer = Sent d.end; more = more; browser = r }) out'
     unfolding ended_tick

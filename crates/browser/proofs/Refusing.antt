@@ -1,4 +1,5 @@
 -- The refusals of a tick, of a list and of the next due time, from that of the table's entries; and what is known where there is none. Assumes nothing.
+use Rattle.std.proofs.Common.{None, Option, Some}
 use mathlib.Core.Path.{◌≡◌, refl, sym, ap, ◌∙◌}
 use mathlib.Core.Bool.{Bool, true, false, cond, not, ◌||◌}
 use mathlib.Core.List.{List}
@@ -15,8 +16,6 @@ use Rattle.cache.proofs.lookup.Refusing.{size_most}
 use Rattle.browser.specs.declared.Browser.{Browser}
 use Rattle.browser.specs.service.Service.{right_labels}
 use Rattle.browser.specs.service.Sound.{Sound}
-use Rattle.cache.specs.declared.entries.Slot.{Slot}
-use Rattle.cache.specs.declared.entries.Slot.TheVariants.{At, Nowhere}
 use Rattle.browser.specs.declared.list.Listed.{Listed}
 use Rattle.browser.specs.list.Listing.{listed_from}
 use Rattle.browser.specs.refresh.Refresh.{next_query}
@@ -152,22 +151,22 @@ module _ (b : Browser) (now : ℕ) (es : List Entry) (store : List ℕ) where
   list_refused from differs =
       λ i. record {
         refusal = look-number b now es store i;
-        slot = sym (ap (λ (c : Bool). cond c (listed_from now store b es from) Nowhere)
+        slot = sym (ap (λ (c : Bool). cond c (listed_from now store b es from) None)
             (some_left differs)) i;
       }
 
   -- the answer from what was found
-  list_given : (from : ℕ) → number ≡ 0 → (s : Slot) → listed_from now store b es from ≡ s → ◌≡◌ {A = Listed} (record { refusal = 0; slot = s })
+  list_given : (from : ℕ) → number ≡ 0 → (s : Option ℕ) → listed_from now store b es from ≡ s → ◌≡◌ {A = Listed} (record { refusal = 0; slot = s })
       (list_of b now es store from)
   unfolding list_of
   list_given from ok s found =
       λ i. record {
         refusal = sym (none_left ok) i;
-        slot = (sym found ∙ sym (ap (λ (k : ℕ). cond (eqb k 0) (listed_from now store b es from) Nowhere) (none_left ok))) i;
+        slot = (sym found ∙ sym (ap (λ (k : ℕ). cond (eqb k 0) (listed_from now store b es from) None) (none_left ok))) i;
       }
 
-  pub list_found : (from : ℕ) → number ≡ 0 → (i : ℕ) → listed_from now store b es from ≡ At i → found_list i ≡ list_of b now es store from
-  list_found from ok i found = list_given from ok (At i) found
+  pub list_found : (from : ℕ) → number ≡ 0 → (i : ℕ) → listed_from now store b es from ≡ Some i → found_list i ≡ list_of b now es store from
+  list_found from ok i found = list_given from ok (Some i) found
 
-  pub list_nothing : (from : ℕ) → number ≡ 0 → listed_from now store b es from ≡ Nowhere → refused_list 0 ≡ list_of b now es store from
-  list_nothing from ok found = list_given from ok Nowhere found
+  pub list_nothing : (from : ℕ) → number ≡ 0 → listed_from now store b es from ≡ None → refused_list 0 ≡ list_of b now es store from
+  list_nothing from ok found = list_given from ok None found

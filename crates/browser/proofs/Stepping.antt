@@ -1,4 +1,5 @@
 -- What a tick makes of a browser: it is refused, sends no query, or sends one. Assumes nothing.
+use Rattle.std.proofs.Common.{None, Option}
 use mathlib.Core.Path.{◌≡◌, refl, ap, ap₂, ◌∙◌}
 use mathlib.Core.Bool.{Bool, true, false, cond, ◌&&◌}
 use mathlib.Core.List.{List, [], ◌∷◌}
@@ -8,8 +9,6 @@ use lib.Dec.{eqb}
 use lib.ListN.{length}
 use borrow.Author.Tests.{eqb-true, ne_eqb}
 use Rattle.cache.specs.declared.entries.Entry.{Entry}
-use Rattle.cache.specs.declared.entries.Slot.{Slot}
-use Rattle.cache.specs.declared.entries.Slot.TheVariants.{Nowhere}
 use Rattle.browser.specs.declared.Browser.{Browser}
 use Rattle.browser.specs.known_answers.Known.{known_from, known_owed}
 use Rattle.browser.specs.query.Query.{asking, packet_for, stop_for}
@@ -21,8 +20,8 @@ use Rattle.browser.proofs.Refusing.{tick-number, tick-passed}
 
 pub data Step (s : State) (now room : ℕ) (t : Browser) : Type 0 where
   refused : asks s now room ≡ false → t ≡ s.browser → Step s now room t
-  kept : asks s now room ≡ false → s.browser.last ≤ now → (owed : Slot) → t ≡ resumed s.browser now owed → Step s now room t
-  sent : asks s now room ≡ true → s.browser.last ≤ now → (owed : Slot) → t ≡ asked s.browser now owed → Step s now room t
+  kept : asks s now room ≡ false → s.browser.last ≤ now → (owed : Option ℕ) → t ≡ resumed s.browser now owed → Step s now room t
+  sent : asks s now room ≡ true → s.browser.last ≤ now → (owed : Option ℕ) → t ≡ asked s.browser now owed → Step s now room t
 
 pub step : (s : State) (now room : ℕ) → Step s now room (after s (tick now room)).browser
 unfolding asks tick_of turn_of
@@ -68,18 +67,18 @@ step s now room = go (eqb (tick_refusal b now es store room) 0) refl
         inner (i ∷ is) k = kept (says true e (i ∷ is) k ∙ some i is) low (stop_for now s.store s.entries [] (i ∷ is)) (turned true e (i ∷ is) k)
         inner [] k = split (query_due now s.store s.browser s.entries) refl
           where
-            stop : Slot
+            stop : Option ℕ
             stop = stop_for now s.store s.entries (asking s.browser) (known_from now s.store s.browser s.entries 0)
 
             either : (c : Bool) → query_due now s.store s.browser s.entries ≡ c
-                → (turn_with now s.store s.browser s.entries []).browser ≡ cond c (asked s.browser now stop) (resumed s.browser now Nowhere)
+                → (turn_with now s.store s.browser s.entries []).browser ≡ cond c (asked s.browser now stop) (resumed s.browser now None)
             either c q = ap (λ (d : Bool). (cond {A = Turn} d
                 (record {
                   packet = packet_for now s.store s.entries (asking s.browser)
                       (known_from now s.store s.browser s.entries 0);
                   browser = asked s.browser now stop;
                 })
-                (record { packet = []; browser = resumed s.browser now Nowhere })).browser) q ∙ out c
+                (record { packet = []; browser = resumed s.browser now None })).browser) q ∙ out c
               where
                 out : (d : Bool) → (cond {A = Turn} d
                     (record {
@@ -87,12 +86,12 @@ step s now room = go (eqb (tick_refusal b now es store room) 0) refl
                           (known_from now s.store s.browser s.entries 0);
                       browser = asked s.browser now stop;
                     })
-                    (record { packet = []; browser = resumed s.browser now Nowhere })).browser
-                    ≡ cond d (asked s.browser now stop) (resumed s.browser now Nowhere)
+                    (record { packet = []; browser = resumed s.browser now None })).browser
+                    ≡ cond d (asked s.browser now stop) (resumed s.browser now None)
                 out true = refl
                 out false = refl
 
             split : (c : Bool) → query_due now s.store s.browser s.entries ≡ c → Step s now room
                 (tick_of s.browser now s.entries s.store room).browser
             split true q = sent (says true e [] k ∙ q) low stop (turned true e [] k ∙ either true q)
-            split false q = kept (says true e [] k ∙ q) low Nowhere (turned true e [] k ∙ either false q)
+            split false q = kept (says true e [] k ∙ q) low None (turned true e [] k ∙ either false q)

@@ -1,4 +1,5 @@
 -- What a tick comes to: from the passes over the table and what was written to the answer, the state and the bytes. Assumes nothing.
+use Rattle.std.proofs.Common.{None, Option, Some}
 use mathlib.Core.Path.{◌≡◌, refl, sym, ap, subst, ◌∙◌}
 use mathlib.Core.Bool.{Bool, true, false, cond, ◌||◌}
 use mathlib.Core.List.{List, [], ◌∷◌}
@@ -8,8 +9,6 @@ use lib.ListN.{length, take, drop, drop_of_length-le}
 use lib.Dec.{ltb, leb, eqb}
 use borrow.Author.Tests.{lt-ltb, le-ltb, ltb-true, ltb-false, le-leb, lt-leb, ne_eqb}
 use Rattle.cache.specs.declared.entries.Entry.{Entry}
-use Rattle.cache.specs.declared.entries.Slot.{Slot}
-use Rattle.cache.specs.declared.entries.Slot.TheVariants.{At, Nowhere}
 use Rattle.cache.specs.entries.Cache.{entries_refusal}
 use Rattle.writer.specs.own_packets.Own.{laid_over}
 use Rattle.browser.specs.declared.Browser.{Browser}
@@ -78,9 +77,9 @@ module _ (b : Browser) (now : ℕ) (es : List Entry) (store out : List ℕ) wher
     unfolding known_from known_in
     owed_slots = go b.owed
       where
-        go : (s : Slot) → known_in now store b (or_no_slot s) (drop (or_no_slot s) es) ≡ known_owed now store b es s
-        go (At i) = refl
-        go Nowhere =
+        go : (s : Option ℕ) → known_in now store b (or_no_slot s) (drop (or_no_slot s) es) ≡ known_owed now store b es s
+        go (Some i) = refl
+        go None =
             let l = passed.size in
             let far : length es ≤ no_slot = omega arith in
             ap (known_in now store b no_slot) (drop_of_length-le es far)
@@ -161,30 +160,30 @@ module _ (b : Browser) (now : ℕ) (es : List Entry) (store out : List ℕ) wher
         not-due : query_due now store b es ≡ false
         not-due = sym (due-is now store b es) ∙ lt-leb next now late
 
-        quiet_turn : ◌≡◌ {A = Turn} turn (record { packet = []; browser = resumed b now Nowhere })
+        quiet_turn : ◌≡◌ {A = Turn} turn (record { packet = []; browser = resumed b now None })
         unfolding turn_of
         quiet_turn = ap (turn_with now store b es) empty ∙ ap (λ (c : Bool). cond c (record {
           packet = packet_for now store es (asking b)
               (known_from now store b es 0);
           browser = asked b now (stop_for now store es (asking b) (known_from now store b es 0));
         })
-            (record { packet = []; browser = resumed b now Nowhere })) not-due
+            (record { packet = []; browser = resumed b now None })) not-due
 
         quiet_packet : ended_packet b store now next owed known ≡ []
         unfolding ended_packet
         quiet_packet = simp (le-ltb 0 owed.n nought, lt-ltb now next late)
 
-        quiet_tick : ◌≡◌ {A = Ticked} (ended_tick b store now next owed known) (record { answer = Quiet; more = false; browser = resumed b now Nowhere })
+        quiet_tick : ◌≡◌ {A = Ticked} (ended_tick b store now next owed known) (record { answer = Quiet; more = false; browser = resumed b now None })
         unfolding ended_tick
         quiet_tick = simp (le-ltb 0 owed.n nought, lt-ltb now next late)
 
-        nothing-due : false ≡ is_due now store (resumed b now Nowhere) es
+        nothing-due : false ≡ is_due now store (resumed b now None) es
         unfolding is_due resumed
-        nothing-due = sym (resumed-due now store b Nowhere es ∙ not-due)
+        nothing-due = sym (resumed-due now store b None es ∙ not-due)
 
         done-quiet : Ticks b now es store out (ended_tick b store now next owed known) (laid_over (ended_packet b store now next owed known) out)
         done-quiet =
-            let r : Ticked = record { answer = Quiet; more = false; browser = resumed b now Nowhere } in
+            let r : Ticked = record { answer = Quiet; more = false; browser = resumed b now None } in
             subst (λ (x : Ticked). Ticks b now es store out x (laid_over (ended_packet b store now next owed known) out)) (sym quiet_tick)
             (subst (λ (p : List ℕ). Ticks b now es store out r (laid_over p out)) (sym quiet_packet)
             (answered r [] (sym (ap (λ (t : Turn). t.packet) quiet_turn)) refl
@@ -210,7 +209,7 @@ module _ (b : Browser) (now : ℕ) (es : List Entry) (store out : List ℕ) wher
               (known_from now store b es 0);
           browser = asked b now (stop_for now store es (asking b) (known_from now store b es 0));
         })
-            (record { packet = []; browser = resumed b now Nowhere })) is-due
+            (record { packet = []; browser = resumed b now None })) is-due
 
         asked-packet : ended_packet b store now next owed known ≡ draft_packet true b store known
         unfolding ended_packet

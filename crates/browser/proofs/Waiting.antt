@@ -1,4 +1,5 @@
 -- A tick with nothing due changes only the last time, and the next due time is exact. Assumes nothing.
+use Rattle.std.proofs.Common.{None, Option, Some}
 use mathlib.Core.Path.{◌≡◌, refl, sym, ap, ap₂, subst, ◌∙◌}
 use mathlib.Core.Bool.{Bool, true, false, cond, ◌||◌}
 use mathlib.Core.List.{List, []}
@@ -7,8 +8,6 @@ use native.Mathlib.Omega.{arith}
 use lib.Dec.{eqb}
 use mathlib.Mathlib.Data.Bool.Basic.{or-eq-false-eq-eq-false-and-eq-false as neither}
 use Rattle.cache.specs.declared.entries.Entry.{Entry}
-use Rattle.cache.specs.declared.entries.Slot.{Slot}
-use Rattle.cache.specs.declared.entries.Slot.TheVariants.{At, Nowhere}
 use Rattle.browser.specs.declared.Browser.{Browser}
 use Rattle.browser.specs.declared.Answer.TheVariants.{Quiet}
 use Rattle.browser.specs.known_answers.Known.{known_from, known_owed}
@@ -19,18 +18,18 @@ use Rattle.browser.specs.Waiting.{IdleTick, Next, NextExact}
 use Rattle.browser.proofs.refresh.Due.{resumed-due}
 use Rattle.browser.proofs.refresh.Next.{query-then, query-by}
 
-not-owed : (owed : Slot) → is_owed owed ≡ false → owed ≡ Nowhere
-not-owed (At i) h = let z : ◌≡◌ {A = ℕ} 0 1 = cc in absurd (omega arith)
-not-owed Nowhere h = refl
+not-owed : (owed : Option ℕ) → is_owed owed ≡ false → owed ≡ None
+not-owed (Some i) h = let z : ◌≡◌ {A = ℕ} 0 1 = cc in absurd (omega arith)
+not-owed None h = refl
 
 abbrev quiet : Browser → ℕ → Turn
-quiet b now = record { packet = []; browser = resumed b now Nowhere }
+quiet b now = record { packet = []; browser = resumed b now None }
 
-idle_turn : (now : ℕ) (store : List ℕ) (b : Browser) (es : List Entry) → b.owed ≡ Nowhere → query_due now store b es ≡ false → turn_of now store b es
+idle_turn : (now : ℕ) (store : List ℕ) (b : Browser) (es : List Entry) → b.owed ≡ None → query_due now store b es ≡ false → turn_of now store b es
     ≡ quiet b now
 unfolding turn_of
 idle_turn now store b es o q =
-    ap (λ (owed : Slot). turn_with now store b es (known_owed now store b es owed)) o
+    ap (λ (owed : Option ℕ). turn_with now store b es (known_owed now store b es owed)) o
     ∙ ap (λ (c : Bool). cond {A = Turn} c
     (record {
       packet = packet_for now store es (asking b) (known_from now store b es 0);
@@ -39,8 +38,8 @@ idle_turn now store b es o q =
     })
     (quiet b now)) q
 
-more : (now : ℕ) (store : List ℕ) (b : Browser) (es : List Entry) → query_due now store (resumed b now Nowhere) es ≡ false
-    → (is_owed (resumed b now Nowhere).owed || query_due now store (resumed b now Nowhere) es) ≡ false
+more : (now : ℕ) (store : List ℕ) (b : Browser) (es : List Entry) → query_due now store (resumed b now None) es ≡ false
+    → (is_owed (resumed b now None).owed || query_due now store (resumed b now None) es) ≡ false
 unfolding resumed
 more now store b es h = h
 
@@ -48,9 +47,9 @@ pub idle_tick : IdleTick
 unfolding tick_of ticked_packet is_due
 idle_tick b now es store room ok idle =
     let p = (neither (is_owed b.owed) (query_due now store b es)).0 idle in
-    let o : b.owed ≡ Nowhere = not-owed b.owed p.0 in
+    let o : b.owed ≡ None = not-owed b.owed p.0 in
     let t : turn_of now store b es ≡ quiet b now = idle_turn now store b es o p.1 in
-    let still : query_due now store (resumed b now Nowhere) es ≡ false = resumed-due now store b Nowhere es ∙ p.1 in (
+    let still : query_due now store (resumed b now None) es ≡ false = resumed-due now store b None es ∙ p.1 in (
       ap₂ (λ (n : ℕ) (r : Turn). record {
         answer = answer_for n (cond (eqb n 0) r.packet []);
         more = cond (eqb n 0) (is_owed r.browser.owed || query_due now store r.browser es) false;

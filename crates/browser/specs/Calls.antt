@@ -1,14 +1,12 @@
 -- The calls of a browser: a start, a tick on a lent cache, the next due time, and the list: the answer, the state after the call and the packet that it sends.
 -- Assumes nothing: these are definitions.
-use Rattle.std.specs.Prelude.{ℕ, ◌≡◌, Bool, true, false, cond, not, ◌||◌, List, [], ◌∷◌, ltb, eqb, length, replicate}
+use Rattle.std.specs.Prelude.{ℕ, ◌≡◌, Bool, true, false, cond, not, ◌||◌, List, [], ◌∷◌, ltb, eqb, length, replicate, Option, Some, None}
 use Rattle.wire.specs.refusals.Numbers.{first_refusal}
 use Rattle.wire.specs.declared.refusals.Refusal.TheVariants.{Buffer, Draw, Setup, Table, Time}
 use Rattle.claims.specs.Time.{last_time, last_kept}
 use Rattle.own.specs.declared.records.Service.{Service}
 use Rattle.writer.specs.own_packets.Own.{small_buffer, unless_refused, laid_over}
 use Rattle.cache.specs.declared.entries.Entry.{Entry}
-use Rattle.cache.specs.declared.entries.Slot.{Slot}
-use Rattle.cache.specs.declared.entries.Slot.TheVariants as slot
 use Rattle.cache.specs.entries.Cache.{bad_time, bad_table, bad_store}
 use Rattle.browser.specs.declared.Browser.{Browser}
 use Rattle.browser.specs.declared.Answer.{Answer}
@@ -89,7 +87,7 @@ blank = record {
   series = 0;
   count = 0;
   query = 0;
-  owed = slot.Nowhere;
+  owed = None;
   last = 0;
 }
 
@@ -104,7 +102,7 @@ begun service protocol domain time draw refresh = record {
   series = time;
   count = 0;
   query = time;
-  owed = slot.Nowhere;
+  owed = None;
   last = time;
 }
 
@@ -118,16 +116,16 @@ start_of service protocol domain time draw refresh =
 -- ---- a tick
 
 -- something is owed
-abbrev pub is_owed : Slot → Bool
-is_owed (slot.At i) = true
-is_owed slot.Nowhere = false
+abbrev pub is_owed : Option ℕ → Bool
+is_owed (Some i) = true
+is_owed None = false
 
 -- a step is due: a packet behind a truncated query, or a query
 unfoldable pub is_due : ℕ → List ℕ → Browser → List Entry → Bool
 is_due now store b es = is_owed b.owed || query_due now store b es
 
 -- the state after a tick that sends no query; from some slot on known answers are owed then
-unfoldable pub resumed : Browser → ℕ → Slot → Browser
+unfoldable pub resumed : Browser → ℕ → Option ℕ → Browser
 resumed b now owed = record {
   service = b.service;
   protocol = b.protocol;
@@ -142,7 +140,7 @@ resumed b now owed = record {
 }
 
 -- after one that sends a query: of the series where one of it is due, else "the gaps unchanged"
-unfoldable pub asked : Browser → ℕ → Slot → Browser
+unfoldable pub asked : Browser → ℕ → Option ℕ → Browser
 asked b now owed = record {
   service = b.service;
   protocol = b.protocol;
@@ -172,7 +170,7 @@ turn_with now store b es [] =
     let known : List ℕ = known_from now store b es 0 in
     cond (query_due now store b es)
     (record { packet = packet_for now store es (asking b) known; browser = asked b now (stop_for now store es (asking b) known) })
-    (record { packet = []; browser = resumed b now slot.Nowhere })
+    (record { packet = []; browser = resumed b now None })
 
 unfoldable pub turn_of : ℕ → List ℕ → Browser → List Entry → Turn
 turn_of now store b es = turn_with now store b es (known_owed now store b es b.owed)
@@ -208,11 +206,11 @@ due_of b now es store =
 
 unfoldable pub list_of : Browser → ℕ → List Entry → List ℕ → ℕ → Listed
 list_of b now es store from =
-    let number : ℕ = look_refusal b now es store in record { refusal = number; slot = cond (eqb number 0) (listed_from now store b es from) slot.Nowhere }
+    let number : ℕ = look_refusal b now es store in record { refusal = number; slot = cond (eqb number 0) (listed_from now store b es from) None }
 
 -- the answers of a list
 abbrev pub refused_list : ℕ → Listed
-refused_list number = record { refusal = number; slot = slot.Nowhere }
+refused_list number = record { refusal = number; slot = None }
 
 abbrev pub found_list : ℕ → Listed
-found_list i = record { refusal = 0; slot = slot.At i }
+found_list i = record { refusal = 0; slot = Some i }

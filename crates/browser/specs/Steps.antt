@@ -1,11 +1,9 @@
 -- The steps of the calls, in the code's terms: from what a pass over the table gives. What they come to is in Calls (proofs/Ticking.antt,
 -- proofs/Refusing.antt). Assumes nothing: these are definitions.
-use Rattle.std.specs.Prelude.{ℕ, ◌≡◌, Bool, true, false, cond, not, ◌||◌, List, [], ◌∷◌, ltb, leb, eqb, length}
+use Rattle.std.specs.Prelude.{ℕ, ◌≡◌, Bool, true, false, cond, not, ◌||◌, List, [], ◌∷◌, ltb, leb, eqb, length, Option, Some, None}
 use Rattle.wire.specs.refusals.Numbers.{first_refusal}
 use Rattle.wire.specs.declared.refusals.Refusal.TheVariants.{Buffer, Setup, Table, Time}
 use Rattle.writer.specs.own_packets.Own.{small_buffer, laid_over}
-use Rattle.cache.specs.declared.entries.Slot.{Slot}
-use Rattle.cache.specs.declared.entries.Slot.TheVariants as slot
 use Rattle.cache.specs.entries.Cache.{is_store_of}
 use Rattle.browser.specs.declared.Browser.{Browser}
 use Rattle.browser.specs.declared.Answer.TheVariants.{Refused, Quiet, Sent}
@@ -29,9 +27,9 @@ look_refusal_with entries n bytes b now = tick_refusal_with entries n bytes b no
 abbrev pub no_slot : ℕ
 no_slot = 18446744073709551615
 
-abbrev pub or_no_slot : Slot → ℕ
-or_no_slot (slot.At i) = i
-or_no_slot slot.Nowhere = no_slot
+abbrev pub or_no_slot : Option ℕ → ℕ
+or_no_slot (Some i) = i
+or_no_slot None = no_slot
 
 -- from which slot on what is owed, and what a query lists, are gathered
 abbrev pub owed_start : Browser → ℕ
@@ -57,7 +55,7 @@ ended_tick b store now next owed known =
     cond (ltb 0 owed.n)
     (sent_tick (draft_packet false b store owed) (is_owed (draft_stop false b store owed) || leb next now) (resumed b now (draft_stop false b store owed)))
     (cond (ltb now next)
-    (record { answer = Quiet; more = false; browser = resumed b now slot.Nowhere })
+    (record { answer = Quiet; more = false; browser = resumed b now None })
     (sent_tick (draft_packet true b store known) (is_owed (draft_stop true b store known)) (asked b now (draft_stop true b store known))))
 
 pub record Ends (b : Browser) (now : ℕ) (store : List ℕ) (next : ℕ) (owed known : Plan) (out : List ℕ) (r : Ticked) (out' : List ℕ) : Type 0 where

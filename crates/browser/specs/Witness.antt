@@ -1,9 +1,8 @@
 -- Calls to which the theorems apply, so that they are not about nothing: a browser for _http._tcp.local over a table of three entries, two of which show one
 -- target. Proved in proofs/Witness.antt by evaluation. Assumes nothing.
-use Rattle.std.specs.Prelude.{ℕ, ◌≡◌, true, false, List, [], ◌∷◌, ◌++◌, replicate, take}
+use Rattle.std.specs.Prelude.{ℕ, ◌≡◌, true, false, List, [], ◌∷◌, ◌++◌, replicate, take, Some, None}
 use Rattle.own.specs.declared.records.Service.{Service}
 use Rattle.cache.specs.declared.entries.Entry.{Entry}
-use Rattle.cache.specs.declared.entries.Slot.TheVariants.{At, Nowhere}
 use Rattle.browser.specs.declared.Ticked.{Ticked}
 use Rattle.browser.specs.declared.Answer.TheVariants.{Sent}
 use Rattle.browser.specs.service.Sound.{Sound}
@@ -97,6 +96,6 @@ pub record Witness : Type 0 where
   pub refresh_asks : asks (after_all begun ticks) 80000 1452 ≡ true
   pub once : is_due 80000 store (after_all begun (ticks ++ (tick 80000 1452 ∷ []))).browser entries ≡ false
   -- a query with TC lists six of seven; the next tick sends the seventh with no question, and nothing is owed then
-  pub truncated : ((tick_at crowd 20).answer ≡ Sent 1270) × (((tick_at crowd 20).more ≡ true) × (owing.browser.owed ≡ At 6))
+  pub truncated : ((tick_at crowd 20).answer ≡ Sent 1270) × (((tick_at crowd 20).more ≡ true) × (owing.browser.owed ≡ Some 6))
   pub flags : take 4 (ticked_packet crowd.browser 20 crowd.entries crowd.store 1452) ≡ 0 ∷ 0 ∷ 2 ∷ 0 ∷ []
-  pub rest : ((tick_at owing 20).answer ≡ Sent 234) × (((tick_at owing 20).more ≡ false) × ((tick_at owing 20).browser.owed ≡ Nowhere))
+  pub rest : ((tick_at owing 20).answer ≡ Sent 234) × (((tick_at owing 20).more ≡ false) × ((tick_at owing 20).browser.owed ≡ None))

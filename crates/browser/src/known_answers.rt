@@ -103,19 +103,9 @@ pub(crate) fn plan_with(plan: Plan, e: Entry, i: usize, store: &[u8], b: Browser
 pub(crate) fn gather(table: &[Entry], store: &[u8], b: Browser, time: u64, from: usize) -> Plan
     ensures { result ≡ plan_from time store.now b from (drop from table.now) empty_plan }
 {
-    let n = capi_cache::entry_count(table);
     let mut plan = no_plan();
-    let mut i = from;
-    while i < n {
-        plan = plan_with(
-            plan,
-            capi_cache::entry_or_blank(table, i),
-            i,
-            store,
-            b,
-            time,
-        );
-        i += 1;
+    for i in from..table.len() {
+        plan = plan_with(plan, table[i], i, store, b, time);
     }
     plan
 }

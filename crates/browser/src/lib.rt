@@ -15,7 +15,7 @@ ghost use Rattle.browser.specs.Calls.{refusal_of, is_owed, blank, wrong_draws, w
 ghost use Rattle.browser.specs.Steps.{tick_refusal_with, look_refusal_with, owed_start, asked_start, Ends, refused_tick, refused_due, due_with};
 
 use crate::known_answers::Plan;
-use cache::entries::{Entry, Slot};
+use cache::entries::Entry;
 use own::records::Service;
 
 // A browser: the service label, the protocol and the domain as in a set-up; the two start draws; when the last query of the series was sent, or, before the
@@ -31,7 +31,7 @@ pub struct Browser {
     pub series: u64,
     pub count: u64,
     pub query: u64,
-    pub owed: Slot,
+    pub owed: Option<usize>,
     pub last: u64,
 }
 
@@ -90,7 +90,7 @@ pub fn blank_browser() -> Browser
         series: 0,
         count: 0,
         query: 0,
-        owed: Slot::Nowhere,
+        owed: None,
         last: 0,
     }
 }
@@ -161,7 +161,7 @@ pub fn start(
             series: time,
             count: 0,
             query: time,
-            owed: Slot::Nowhere,
+            owed: None,
             last: time,
         },
     }
@@ -235,11 +235,7 @@ pub(crate) fn look_refusal(entries: u8, n: usize, store: &[u8], b: Browser, time
 fn owed_start(b: Browser) -> usize
     ensures { result ≡ owed_start b }
 {
-    let owed = b.owed;
-    match owed {
-        Slot::At(i) => i,
-        Slot::Nowhere => NO_SLOT,
-    }
+    b.owed.unwrap_or(NO_SLOT)
 }
 
 // For a query: the first where one is to be sent now, or one behind every table.
@@ -256,7 +252,7 @@ fn asked_start(owed: Plan, next: u64, time: u64) -> usize
 }
 
 // A browser after a tick that sends no query.
-fn resume(b: Browser, time: u64, owed: Slot) -> Browser
+fn resume(b: Browser, time: u64, owed: Option<usize>) -> Browser
     ensures { result ≡ resumed b time owed }
 {
     let service = b.service;
@@ -277,7 +273,7 @@ fn resume(b: Browser, time: u64, owed: Slot) -> Browser
 }
 
 // A browser after a tick that sends a query.
-fn ask(b: Browser, time: u64, owed: Slot) -> Browser
+fn ask(b: Browser, time: u64, owed: Option<usize>) -> Browser
     requires { Sound b }
     ensures { result ≡ asked b time owed }
 {
@@ -332,27 +328,17 @@ fn refused_due(refusal: u8) -> NextDue
 fn due_at(b: Browser, time: u64, next: u64) -> NextDue
     ensures { result ≡ due_with b time next }
 {
-    let owed = b.owed;
-    match owed {
-        Slot::At(_) => NextDue {
-            refusal: 0,
-            at: time,
-        },
-        Slot::Nowhere => NextDue {
-            refusal: 0,
-            at: next,
-        },
+    NextDue {
+        refusal: 0,
+        at: if b.owed.is_some() { time } else { next },
     }
 }
 
 // Whether more is due: something is owed, or a query is due.
-fn is_more(owed: Slot, asks: bool) -> bool
+fn is_more(owed: Option<usize>, asks: bool) -> bool
     ensures { result ≡ (is_owed owed || asks) }
 {
-    match owed {
-        Slot::At(_) => true,
-        Slot::Nowhere => asks,
-    }
+    owed.is_some() || asks
 }
 
 // What is sent of what is owed, or else of what is known where a query is due, and the browser then.
@@ -381,7 +367,7 @@ fn finish(
         return Ticked {
             answer: Answer::Quiet,
             more: false,
-            browser: resume(b, time, Slot::Nowhere),
+            browser: resume(b, time, None),
         };
     }
     let w = crate::query::write(b, true, known, store, out);
@@ -397,7 +383,7 @@ fn finish(
 pub fn tick(table: &[Entry], store: &[u8], b: Browser, time: u64, out: &mut [u8]) -> Ticked
     ensures { Ticks b time table.now store.now out.old result out.new }
 {
-    let n = capi_cache::entry_count(table);
+    let n = table.len();
     let entries = capi_cache::table_refusal(table, time);
     let refusal = tick_refusal(entries, n, store, b, time, out.len());
     if refusal != 0 {
@@ -413,7 +399,7 @@ pub fn tick(table: &[Entry], store: &[u8], b: Browser, time: u64, out: &mut [u8]
 pub fn due(table: &[Entry], store: &[u8], b: Browser, time: u64) -> NextDue
     ensures { result ≡ due_of b time table.now store.now }
 {
-    let n = capi_cache::entry_count(table);
+    let n = table.len();
     let entries = capi_cache::table_refusal(table, time);
     let refusal = look_refusal(entries, n, store, b, time);
     if refusal != 0 {

@@ -4,13 +4,14 @@ ghost use Rattle.browser.specs.list.Listing.{is_shown, shows_too, is_listed};
 ghost use Rattle.browser.specs.Calls.{list_of, refused_list, found_list};
 
 use crate::Browser;
-use cache::entries::{Entry, Slot};
+use cache::entries::Entry;
+use capi_cache::{entry_or_blank, table_refusal};
 
 // The number of a refusal, or 0; and the lowest listed slot, if there is one.
 #[derive(Clone, Copy)]
 pub struct Listed {
     pub refusal: u8,
-    pub slot: Slot,
+    pub slot: Option<usize>,
 }
 
 // Whether the entry in slot i is a live, well-formed PTR entry of the name.
@@ -69,13 +70,11 @@ pub(crate) fn stays_listed(
 pub(crate) fn is_listed(table: &[Entry], store: &[u8], b: Browser, time: u64, i: usize) -> bool
     ensures { result ≡ is_listed time store.now b table.now i }
 {
-    let e = capi_cache::entry_or_blank(table, i);
+    let e = entry_or_blank(table, i);
     let mut listed = is_shown(e, i, store, b, time);
-    let mut j = 0;
-    while j < i {
-        let d = capi_cache::entry_or_blank(table, j);
+    for j in 0..i {
+        let d = entry_or_blank(table, j);
         listed = stays_listed(listed, d, j, e, i, store, b, time);
-        j += 1;
     }
     listed
 }
@@ -85,7 +84,7 @@ pub(crate) fn refused_list(refusal: u8) -> Listed
 {
     Listed {
         refusal,
-        slot: Slot::Nowhere,
+        slot: None,
     }
 }
 
@@ -94,7 +93,7 @@ pub(crate) fn found_list(slot: usize) -> Listed
 {
     Listed {
         refusal: 0,
-        slot: Slot::At(slot),
+        slot: Some(slot),
     }
 }
 
@@ -103,7 +102,7 @@ pub(crate) fn nothing_listed() -> Listed
 {
     Listed {
         refusal: 0,
-        slot: Slot::Nowhere,
+        slot: None,
     }
 }
 
@@ -112,18 +111,16 @@ pub(crate) fn nothing_listed() -> Listed
 pub fn list(table: &[Entry], store: &[u8], b: Browser, time: u64, from: usize) -> Listed
     ensures { result ≡ list_of b time table.now store.now from }
 {
-    let n = capi_cache::entry_count(table);
-    let entries = capi_cache::table_refusal(table, time);
+    let n = table.len();
+    let entries = table_refusal(table, time);
     let refusal = crate::look_refusal(entries, n, store, b, time);
     if refusal != 0 {
         return refused_list(refusal);
     }
-    let mut i = from;
-    while i < n {
+    for i in from..n {
         if is_listed(table, store, b, time, i) {
             return found_list(i);
         }
-        i += 1;
     }
     nothing_listed()
 }

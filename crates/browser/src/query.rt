@@ -8,8 +8,7 @@ ghost use Rattle.browser.specs.query.Drafts.{no_header, head_bytes, opened, reco
 
 use crate::Browser;
 use crate::known_answers::{Known, MOST_KNOWN, Plan};
-use cache::entries::Slot;
-use writer::{Placed, Spot};
+use writer::Spot;
 
 // The most bytes of a packet.
 pub const MOST_PACKET: usize = 1452;
@@ -32,15 +31,15 @@ fn known_count(plan: Plan) -> usize
 }
 
 // The slot of the first known answer of a plan behind the first k.
-pub(crate) fn stop_at(plan: Plan, k: usize) -> Slot
+pub(crate) fn stop_at(plan: Plan, k: usize) -> Option<usize>
     ensures { result ≡ stop_at plan k }
 {
     if k < known_count(plan) {
         let known = plan.known;
         let first = known[k];
-        return Slot::At(first.slot);
+        return Some(first.slot);
     }
-    Slot::Nowhere
+    None
 }
 
 // Writes the question, if one is asked, behind room for a header.
@@ -55,20 +54,12 @@ fn open(b: Browser, asks: bool, out: &mut [u8], places: &mut [usize]) -> Spot
     let bytes = name.bytes;
     let len = name.len;
     match writer::put_question(out, 12, places, 0, &bytes[..len], wire::rdata::PTR, 1) {
-        Placed::Done(spot) => spot,
-        Placed::Full => Spot { end: 12, count: 0 },
-        Placed::Unfit => Spot { end: 12, count: 0 },
+        Ok(spot) => spot,
+        Err(_) => Spot { end: 12, count: 0 },
     }
 }
 
-// A packet under construction after a known answer: where it ends, and whether the answer was put.
-#[derive(Clone, Copy)]
-struct Step {
-    spot: Spot,
-    put: bool,
-}
-
-// Writes a known answer behind the packet `out[..at.end]`, unless it would pass 1,452 bytes.
+// Writes a known answer behind the packet `out[..at.end]`, unless it would pass 1,452 bytes: where the packet ends then.
 fn put_known(
     store: &[u8],
     len: usize,
@@ -76,45 +67,32 @@ fn put_known(
     at: Spot,
     out: &mut [u8],
     places: &mut [usize],
-) -> Step
+) -> Option<Spot>
     requires { Composing at out.old places.old }
-    ensures { Puts (held_in out.old places.old at.end at.count) (record_in store.now len k) result
+    ensures { Puts (held_in out.old places.old at.end at.count) (record_in store.now len k) at result
         out.new places.new }
 {
     let slot = cache::entries::slot_of(store, k.slot);
     let owner = wire::rdata::part(slot, 0, len);
     let target = wire::rdata::part(slot, 256, k.len as usize);
-    let end = at.end;
-    let count = at.count;
-    match writer::put_record(
+    let Ok(spot) = writer::put_record(
         out,
-        end,
+        at.end,
         places,
-        count,
+        at.count,
         false,
         owner,
         wire::rdata::PTR,
         1,
         k.ttl,
         target,
-    ) {
-        Placed::Done(spot) => {
-            if spot.end <= MOST_PACKET {
-                return Step { spot, put: true };
-            }
-            Step {
-                spot: at,
-                put: false,
-            }
-        }
-        Placed::Full => Step {
-            spot: at,
-            put: false,
-        },
-        Placed::Unfit => Step {
-            spot: at,
-            put: false,
-        },
+    ) else {
+        return None;
+    };
+    if spot.end <= MOST_PACKET {
+        Some(spot)
+    } else {
+        None
     }
 }
 
@@ -136,23 +114,18 @@ fn compose(
     let known = plan.known;
     let n = known_count(plan);
     let mut at = first;
-    let mut j = 0;
-    while j < n {
-        let k = known[j];
-        let step = put_known(store, len, k, at, out, places);
-        let spot = step.spot;
-        at = spot;
-        if !step.put {
+    for j in 0..n {
+        let Some(spot) = put_known(store, len, known[j], at, out, places) else {
             return Draft {
                 end: at.end,
                 answers: j,
             };
-        }
-        j += 1;
+        };
+        at = spot;
     }
     Draft {
         end: at.end,
-        answers: j,
+        answers: n,
     }
 }
 

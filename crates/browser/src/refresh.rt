@@ -88,12 +88,9 @@ pub(crate) fn next_query(table: &[Entry], store: &[u8], b: Browser, time: u64) -
     requires { Sound b }
     ensures { result ≡ next_query time store.now b table.now }
 {
-    let n = capi_cache::entry_count(table);
     let mut t = series_from(b, time);
-    let mut i = 0;
-    while i < n {
-        t = sooner_of(t, capi_cache::entry_or_blank(table, i), i, store, b, time);
-        i += 1;
+    for (i, e) in table.iter().enumerate() {
+        t = sooner_of(t, *e, i, store, b, time);
     }
     t
 }

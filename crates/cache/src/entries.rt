@@ -4,6 +4,9 @@ ghost use Rattle.std.specs.Prelude.{◌≡◌, ◌*◌, take, drop};
 ghost use Rattle.wire.specs.rdata.Answers.{start_in};
 ghost use Rattle.cache.specs.entries.Entries.{is_live, slot_of, is_of, live_of, soon, heard_ahead, too_long};
 
+use wire::case_folding::same_name;
+use wire::rdata::part;
+
 // "type, lengths, received, expiry", and "the TTL as received"; the times are in milliseconds, the TTL in seconds. The length of rdata has four bytes and the
 // TTL eight, so that the entry has no padding and its values are all its bytes. No rule reads the TTL: any number may stand in a table that is lent.
 #[repr(C)]
@@ -15,13 +18,6 @@ pub struct Entry {
     pub received: u64,
     pub expiry: u64,
     pub ttl: u64,
-}
-
-// A slot of the table, or that there is none.
-#[derive(Clone, Copy)]
-pub enum Slot {
-    At(usize),
-    Nowhere,
 }
 
 // The most bytes of an owner and of rdata that an entry may have.
@@ -42,69 +38,48 @@ pub fn slot_of<'a>(store: &'a [u8], i: usize) -> &'a [u8]
     ensures start { result.ref_ptr ≡ start_in store.now (1024 * i) store.entry.ref_ptr }
 {
     if store.len() / 1024 < i {
-        return wire::rdata::part(store, store.len(), 0);
+        return part(store, store.len(), 0);
     }
-    wire::rdata::part(store, 1024 * i, 1024)
+    part(store, 1024 * i, 1024)
 }
 
 // The rdata of so many bytes in slot i. Of a slot that the store has it is a part of the store itself.
 pub fn rdata_of<'a>(store: &'a [u8], i: usize, len: usize) -> &'a [u8]
     ensures { result.now ≡ take len (drop 256 (slot_of store.now i)) }
 {
-    if i < store.len() / 1024 {
-        if len <= MOST_RDATA as usize {
-            let at = 1024 * i + 256;
-            let end = at + len;
-            return &store[at..end];
-        }
+    if i < store.len() / 1024 && len <= MOST_RDATA as usize {
+        let at = 1024 * i + 256;
+        let end = at + len;
+        return &store[at..end];
     }
-    wire::rdata::part(slot_of(store, i), 256, len)
+    part(slot_of(store, i), 256, len)
 }
 
 // Whether the entry in slot i is of a name and a type. The type and the lengths are compared before any byte is folded.
 pub fn is_of(e: Entry, i: usize, store: &[u8], name: &[u8], rtype: u16) -> bool
     ensures { result ≡ is_of store.now name.now rtype i e }
 {
-    if e.rtype != rtype {
-        return false;
-    }
     let len = e.owner as usize;
-    if len != name.len() {
-        return false;
-    }
-    wire::case_folding::same_name(wire::rdata::part(slot_of(store, i), 0, len), name)
+    e.rtype == rtype && len == name.len() && same_name(part(slot_of(store, i), 0, len), name)
 }
 
 // Whether the entry in slot i is a live one of a name and a type. The type, in which most entries differ, is compared first.
 pub fn is_live_of(e: Entry, i: usize, store: &[u8], time: u64, name: &[u8], rtype: u16) -> bool
     ensures { result ≡ live_of time store.now name.now rtype i e }
 {
-    if e.rtype != rtype {
-        return false;
-    }
-    if !is_live(e, time) {
-        return false;
-    }
-    is_of(e, i, store, name, rtype)
+    e.rtype == rtype && is_live(e, time) && is_of(e, i, store, name, rtype)
 }
 
 // The lesser of the expiry and now plus 1,000.
 pub fn to_expire(e: Entry, time: u64) -> Entry
     ensures { result ≡ soon time e }
 {
-    if e.expiry <= time {
-        return e;
-    }
-    if e.expiry - time <= 1000 {
+    if e.expiry <= time || e.expiry - time <= 1000 {
         return e;
     }
     Entry {
-        rtype: e.rtype,
-        owner: e.owner,
-        rdata: e.rdata,
-        received: e.received,
         expiry: time + 1000,
-        ttl: e.ttl,
+        ..e
     }
 }
 
@@ -119,8 +94,5 @@ pub fn is_ahead(e: Entry, time: u64) -> bool
 pub fn is_too_long(e: Entry) -> bool
     ensures { result ≡ too_long e }
 {
-    if MOST_OWNER < e.owner {
-        return true;
-    }
-    MOST_RDATA < e.rdata
+    MOST_OWNER < e.owner || MOST_RDATA < e.rdata
 }

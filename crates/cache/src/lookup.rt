@@ -31,20 +31,14 @@ pub enum Looked {
 pub fn is_size(n: usize) -> bool
     ensures { result ≡ is_size n }
 {
-    if n < 1 {
-        return false;
-    }
-    n <= MOST_ENTRIES
+    1 <= n && n <= MOST_ENTRIES
 }
 
 // Whether a store of so many bytes is that of a table of n entries. The size is tested before it is multiplied.
 pub fn is_store_of(n: usize, bytes: usize) -> bool
     ensures { result ≡ is_store_of n bytes }
 {
-    if !is_size(n) {
-        return false;
-    }
-    bytes == SLOT * n
+    is_size(n) && bytes == SLOT * n
 }
 
 // The number of a lookup's refusal, or 0, where `entries` is that of its table of n entries.

@@ -7,37 +7,31 @@ ghost use Rattle.cache.specs.entries.Cache.{cached_as};
 ghost use Rattle.cache.specs.records.Heard.{is_taken, is_flushing, is_sought, is_alike, may_hold, has_bytes, live_heard, flushed_heard};
 ghost use Rattle.cache.specs.records.Heard.{first_slot, is_filling, chosen_of};
 
-use crate::entries::Entry;
+use crate::entries::{Entry, MOST_RDATA, is_live, rdata_of, slot_of, to_expire};
+use wire::case_folding::same_name;
+use wire::expansion::same_bytes;
+use wire::message::RecordAt;
+use wire::rdata::{A, AAAA, NSEC, PTR, SRV, TXT, part};
 
-// A record of a message as it lies; whether it is whole, how many bytes its rdata has, names expanded, and whether it holds a name, which of an NSEC says
-// that it is of the restricted kind.
+// A record of a message as it lies, which is whole; how many bytes its rdata has, names expanded, and whether it holds a name, which of an NSEC says that it is
+// of the restricted kind.
 #[derive(Clone, Copy)]
 pub struct Heard {
-    pub whole: bool,
-    pub at: wire::message::RecordAt,
+    pub at: RecordAt,
     pub len: usize,
     pub named: bool,
 }
 
-// What becomes of a record: a kind of change, and the slot that it changes.
+// What becomes of a record: nothing; the entry in a slot is to expire, is refreshed, or takes the record; the record is turned away; it is passed over.
 #[derive(Clone, Copy)]
-pub struct Choice {
-    pub kind: u8,
-    pub slot: usize,
+pub enum Choice {
+    Leave,
+    Expire(usize),
+    Refresh(usize),
+    Fill(usize),
+    TurnAway,
+    PassOver,
 }
-
-// The kinds of change: none; an entry is to expire; it is refreshed; it takes the record; the record is turned away; it is passed over.
-pub const LEAVE: u8 = 0;
-
-pub const EXPIRE: u8 = 1;
-
-pub const REFRESH: u8 = 2;
-
-pub const FILL: u8 = 3;
-
-pub const TURN_AWAY: u8 = 4;
-
-pub const PASS_OVER: u8 = 5;
 
 // Whether records of a class and a type are cached; of NSEC only the restricted kind is.
 pub fn is_cached(class: u16, rtype: u16, restricted: bool) -> bool
@@ -46,57 +40,32 @@ pub fn is_cached(class: u16, rtype: u16, restricted: bool) -> bool
     if class % 32768 != 1 {
         return false;
     }
-    if rtype == wire::rdata::A {
-        return true;
+    match rtype {
+        A | PTR | TXT | AAAA | SRV => true,
+        NSEC => restricted,
+        _ => false,
     }
-    if rtype == wire::rdata::PTR {
-        return true;
-    }
-    if rtype == wire::rdata::TXT {
-        return true;
-    }
-    if rtype == wire::rdata::AAAA {
-        return true;
-    }
-    if rtype == wire::rdata::SRV {
-        return true;
-    }
-    if rtype != wire::rdata::NSEC {
-        return false;
-    }
-    restricted
 }
 
 // Whether the rules are for a record.
 pub fn is_taken(h: Heard) -> bool
     ensures { result ≡ is_taken h }
 {
-    let f = h.at;
-    if !h.whole {
-        return false;
-    }
-    is_cached(f.class, f.rtype, h.named)
+    is_cached(h.at.class, h.at.rtype, h.named)
 }
 
 // Whether rule 1 is for a record.
 pub fn is_flushing(h: Heard) -> bool
     ensures { result ≡ is_flushing h }
 {
-    let f = h.at;
-    if f.class < 32768 {
-        return false;
-    }
-    is_taken(h)
+    32768 <= h.at.class && is_taken(h)
 }
 
 // Whether rules 2 and 3 are for a record: its rdata fits a slot.
 pub fn is_sought(h: Heard) -> bool
     ensures { result ≡ is_sought h }
 {
-    if (crate::entries::MOST_RDATA as usize) < h.len {
-        return false;
-    }
-    is_taken(h)
+    h.len <= MOST_RDATA as usize && is_taken(h)
 }
 
 // Whether the owner in slot i, of `len` bytes, is that of a record, the first `span` bytes of the slot that it would fill. It takes numbers and no record, so
@@ -104,43 +73,28 @@ pub fn is_sought(h: Heard) -> bool
 pub fn is_owner(store: &[u8], i: usize, len: usize, slot: &[u8], span: usize) -> bool
     ensures { result ≡ same_name (take len (slot_of store.now i)) (take span slot.now) }
 {
-    let held = wire::rdata::part(crate::entries::slot_of(store, i), 0, len);
-    wire::case_folding::same_name(held, wire::rdata::part(slot, 0, span))
+    same_name(part(slot_of(store, i), 0, len), part(slot, 0, span))
 }
 
 // Whether an entry agrees with a record in its type and in the length of its owner, and is live: before any byte is looked at.
 fn is_alike(e: Entry, time: u64, h: Heard) -> bool
     ensures { result ≡ is_alike time h e }
 {
-    let f = h.at;
-    if e.rtype != f.rtype {
-        return false;
-    }
-    if e.owner as usize != f.span.len {
-        return false;
-    }
-    crate::entries::is_live(e, time)
+    e.rtype == h.at.rtype && e.owner as usize == h.at.span.len && is_live(e, time)
 }
 
 // Whether an entry may hold a record: it agrees with it in the length of its rdata too. Nearly all others are told by this, before any byte is looked at.
 pub fn may_hold(e: Entry, time: u64, h: Heard) -> bool
     ensures { result ≡ may_hold time h e }
 {
-    if !is_alike(e, time, h) {
-        return false;
-    }
-    e.rdata as usize == h.len
+    is_alike(e, time, h) && e.rdata as usize == h.len
 }
 
 // Whether the entry in slot i is a live one of a record's name and type.
 pub fn is_live_heard(e: Entry, i: usize, store: &[u8], time: u64, slot: &[u8], h: Heard) -> bool
     ensures { result ≡ live_heard time store.now slot.now h i e }
 {
-    let f = h.at;
-    if !is_alike(e, time, h) {
-        return false;
-    }
-    is_owner(store, i, e.owner as usize, slot, f.span.len)
+    is_alike(e, time, h) && is_owner(store, i, e.owner as usize, slot, h.at.span.len)
 }
 
 // Whether the bytes of the entry in slot i are a record's: its rdata, in which records of a name and a type differ, is compared before its owner. An entry that
@@ -148,62 +102,42 @@ pub fn is_live_heard(e: Entry, i: usize, store: &[u8], time: u64, slot: &[u8], h
 pub fn has_bytes(e: Entry, i: usize, store: &[u8], slot: &[u8], h: Heard) -> bool
     ensures { result ≡ has_bytes store.now slot.now h i e }
 {
-    let f = h.at;
-    let held = crate::entries::rdata_of(store, i, e.rdata as usize);
-    let heard = wire::rdata::part(slot, 256, h.len);
-    if !wire::expansion::same_bytes(held, heard) {
-        return false;
-    }
-    is_owner(store, i, e.owner as usize, slot, f.span.len)
+    let held = rdata_of(store, i, e.rdata as usize);
+    let heard = part(slot, 256, h.len);
+    same_bytes(held, heard) && is_owner(store, i, e.owner as usize, slot, h.at.span.len)
 }
 
 // Rule 1 on the entry in slot i.
 pub fn flush_heard(e: Entry, i: usize, store: &[u8], time: u64, slot: &[u8], h: Heard) -> Entry
     ensures { result ≡ flushed_heard time store.now slot.now h i e }
 {
-    if time <= e.received {
+    if time <= e.received || time - e.received <= 1000 {
         return e;
     }
-    if time - e.received <= 1000 {
+    if !is_live_heard(e, i, store, time, slot, h) || !is_flushing(h) {
         return e;
     }
-    if !is_live_heard(e, i, store, time, slot, h) {
-        return e;
-    }
-    if !is_flushing(h) {
-        return e;
-    }
-    crate::entries::to_expire(e, time)
+    to_expire(e, time)
 }
 
 // The slot at which a rule begins in a table of n entries: the first where it is for a record, else none.
 pub fn flush_from(h: Heard, n: usize) -> usize
     ensures { result ≡ first_slot (is_flushing h) n }
 {
-    if is_flushing(h) {
-        return 0;
-    }
-    n
+    if is_flushing(h) { 0 } else { n }
 }
 
 pub fn seek_from(h: Heard, n: usize) -> usize
     ensures { result ≡ first_slot (is_sought h) n }
 {
-    if is_sought(h) {
-        return 0;
-    }
-    n
+    if is_sought(h) { 0 } else { n }
 }
 
 // Where the search for an entry that is not live begins, after that for an equal one gave `equal`: only where there is none and the TTL is not 0.
 pub fn fill_from(h: Heard, n: usize, equal: usize) -> usize
     ensures { result ≡ first_slot (is_filling h n equal) n }
 {
-    let f = h.at;
-    if equal < n {
-        return n;
-    }
-    if f.ttl == 0 {
+    if equal < n || h.at.ttl == 0 {
         return n;
     }
     seek_from(h, n)
@@ -214,44 +148,22 @@ pub fn chosen(h: Heard, n: usize, equal: usize, free: usize) -> Choice
     ensures { result ≡ chosen_of h n equal free }
 {
     if !is_taken(h) {
-        return Choice {
-            kind: LEAVE,
-            slot: 0,
-        };
+        return Choice::Leave;
     }
-    if (crate::entries::MOST_RDATA as usize) < h.len {
-        return Choice {
-            kind: PASS_OVER,
-            slot: 0,
-        };
+    if (MOST_RDATA as usize) < h.len {
+        return Choice::PassOver;
     }
-    let f = h.at;
     if equal < n {
-        if f.ttl == 0 {
-            return Choice {
-                kind: EXPIRE,
-                slot: equal,
-            };
+        if h.at.ttl == 0 {
+            return Choice::Expire(equal);
         }
-        return Choice {
-            kind: REFRESH,
-            slot: equal,
-        };
+        return Choice::Refresh(equal);
     }
-    if f.ttl == 0 {
-        return Choice {
-            kind: LEAVE,
-            slot: 0,
-        };
+    if h.at.ttl == 0 {
+        return Choice::Leave;
     }
     if free < n {
-        return Choice {
-            kind: FILL,
-            slot: free,
-        };
+        return Choice::Fill(free);
     }
-    Choice {
-        kind: TURN_AWAY,
-        slot: 0,
-    }
+    Choice::TurnAway
 }

@@ -1,14 +1,14 @@
 -- What the covered functions give, from what they have called and tested. Assumes nothing.
+use Rattle.std.proofs.Common.{None, Option, Some}
 use Prim.Native.Nat.{ℕ, ◌+◌, ◌-◌}
-use mathlib.Core.Path.{◌≡◌, sym, ap, ap₂, ◌∙◌}
-use mathlib.Core.Bool.{true, false}
+use mathlib.Core.Path.{◌≡◌, refl, sym, ap, ap₂, ◌∙◌}
+use mathlib.Core.Bool.{Bool}
+use Rattle.std.specs.Option.{is_some, unwrap_or}
 use mathlib.Core.List.{List}
 use lib.ListN.{length, replicate}
 use lib.Seq.{sets}
 use borrow.Author.Tests.{eq-eqb, ne_eqb}
 use Rattle.own.specs.declared.records.Service.{Service}
-use Rattle.cache.specs.declared.entries.Slot.{Slot}
-use Rattle.cache.specs.declared.entries.Slot.TheVariants.{At, Nowhere}
 use Rattle.browser.specs.declared.Browser.{Browser}
 use Rattle.browser.specs.declared.Started.{Started}
 use Rattle.browser.specs.declared.Ticked.{Ticked}
@@ -22,25 +22,19 @@ use Rattle.capi_browser.specs.Numbers.{owed_of, owed_number, browser_of, numbers
 use Rattle.capi_browser.specs.Labels.{service_of, exactly}
 
 -- ---- what is owed
-pub owed_none : (n : ℕ) → n ≡ 0 → Nowhere ≡ owed_of n
+pub owed_none : (n : ℕ) → n ≡ 0 → None ≡ owed_of n
 unfolding owed_of
 owed_none n z = sym (simp (eq-eqb _ _ z))
 
-pub owed_some : (n : ℕ) → (n ≡ 0 → ⊥) → At (n - 1) ≡ owed_of n
+pub owed_some : (n : ℕ) → (n ≡ 0 → ⊥) → Some (n - 1) ≡ owed_of n
 unfolding owed_of
 owed_some n z = sym (simp (ne_eqb _ _ z))
 
-pub number-last : (s : Slot) (i : ℕ) → s ≡ At i → i ≡ 18446744073709551615 → i ≡ owed_number s
-number-last s i is e = sym (ap owed_number is ∙ simp (eq-eqb _ _ e))
-
-pub number-next : (s : Slot) (i : ℕ) → s ≡ At i → (i ≡ 18446744073709551615 → ⊥) → i + 1 ≡ owed_number s
-number-next s i is z = sym (ap owed_number is ∙ simp (ne_eqb _ _ z))
-
 -- ---- a browser, and its numbers
-pub browser_is : (b : BrowserNumbers) (owed : Slot) → owed ≡ owed_of b.owed
+pub browser_is : (b : BrowserNumbers) (owed : Option ℕ) → owed ≡ owed_of b.owed
     → ◌≡◌ {A = Browser} (record { service = record { bytes = b.service; len = b.len }; protocol = b.protocol; domain = b.domain; draw = b.draw; refresh = b.refresh; series = b.series; count = b.count; query = b.query; owed = owed; last = b.last }) (browser_of b)
 unfolding browser_of
-browser_is b owed is = ap (λ (s : Slot). record { service = record { bytes = b.service; len = b.len }; protocol = b.protocol; domain = b.domain; draw = b.draw; refresh = b.refresh; series = b.series; count = b.count; query = b.query; owed = s; last = b.last }) is
+browser_is b owed is = ap (λ (s : Option ℕ). record { service = record { bytes = b.service; len = b.len }; protocol = b.protocol; domain = b.domain; draw = b.draw; refresh = b.refresh; series = b.series; count = b.count; query = b.query; owed = s; last = b.last }) is
 
 pub numbers-are : (b : Browser) (n : ℕ) → n ≡ owed_number b.owed
     → ◌≡◌ {A = BrowserNumbers} (record { service = b.service.bytes; protocol = b.protocol; domain = b.domain; len = b.service.len; draw = b.draw; refresh = b.refresh; series = b.series; count = b.count; query = b.query; owed = n; last = b.last }) (numbers_of b)
@@ -60,13 +54,14 @@ ticked-are r n l b x y z =
     ap₂ (λ (k m : ℕ). record { refusal = k; more = r.more; length = m; browser = b }) x y
     ∙ ap (λ (s : BrowserNumbers). record { refusal = refusal_of r.answer; more = r.more; length = length_of r.answer; browser = s }) z
 
-pub listed_at : (r : Listed) (i : ℕ) → r.slot ≡ At i → ◌≡◌ {A = ListedNumbers} (record { refusal = r.refusal; found = true; slot = i }) (listed_numbers r)
+pub listed-are : (r : Listed) (found : Bool) (slot : ℕ) → found ≡ is_some r.slot → slot ≡ unwrap_or r.slot 0
+    → ◌≡◌ {A = ListedNumbers} (record { refusal = r.refusal; found = found; slot = slot }) (listed_numbers r)
 unfolding listed_numbers
-listed_at r i is = sym (ap (listed_with r.refusal) is)
-
-pub listed-none : (r : Listed) → r.slot ≡ Nowhere → ◌≡◌ {A = ListedNumbers} (record { refusal = r.refusal; found = false; slot = 0 }) (listed_numbers r)
-unfolding listed_numbers
-listed-none r is = sym (ap (listed_with r.refusal) is)
+listed-are r found slot f s = ap₂ (λ (b : Bool) (i : ℕ). record { refusal = r.refusal; found = b; slot = i }) f s ∙ at r.slot
+  where
+    at : (o : Option ℕ) → ◌≡◌ {A = ListedNumbers} (record { refusal = r.refusal; found = is_some o; slot = unwrap_or o 0 }) (listed_with r.refusal o)
+    at (Some i) = refl
+    at None = refl
 
 -- ---- labels
 pub service-laid : (label bytes : List ℕ) → bytes ≡ sets (replicate 16 0) 0 label → ◌≡◌ {A = Service} (record { bytes = bytes; len = length label }) (service_of label)

@@ -1,7 +1,5 @@
 -- A browser's state and the answers of its calls in numbers, for callers in other languages. Assumes nothing: these are definitions.
-use Rattle.std.specs.Prelude.{ℕ, ◌+◌, ◌-◌, true, false, cond, eqb}
-use Rattle.cache.specs.declared.entries.Slot.{Slot}
-use Rattle.cache.specs.declared.entries.Slot.TheVariants.{At, Nowhere}
+use Rattle.std.specs.Prelude.{ℕ, ◌+◌, ◌-◌, true, false, cond, eqb, Option, Some, None}
 use Rattle.browser.specs.declared.Browser.{Browser}
 use Rattle.browser.specs.declared.Started.{Started}
 use Rattle.browser.specs.declared.Ticked.{Ticked}
@@ -15,12 +13,12 @@ use Rattle.capi_browser.specs.declared.ListedNumbers.{ListedNumbers}
 use Rattle.capi_browser.specs.declared.DueNumbers.{DueNumbers}
 
 -- the slot from which on known answers are owed: 0 for none, and else the slot plus 1. The greatest number of a slot, which no table has, stays.
-unfoldable pub owed_of : ℕ → Slot
-owed_of n = cond (eqb n 0) Nowhere (At (n - 1))
+unfoldable pub owed_of : ℕ → Option ℕ
+owed_of n = cond (eqb n 0) None (Some (n - 1))
 
-abbrev pub owed_number : Slot → ℕ
-owed_number (At i) = cond (eqb i 18446744073709551615) i (i + 1)
-owed_number Nowhere = 0
+abbrev pub owed_number : Option ℕ → ℕ
+owed_number (Some i) = cond (eqb i 18446744073709551615) i (i + 1)
+owed_number None = 0
 
 -- a browser of its numbers, and its numbers
 unfoldable pub browser_of : BrowserNumbers → Browser
@@ -59,9 +57,9 @@ started_numbers r = record { refusal = refusal_of r.answer; browser = numbers_of
 unfoldable pub ticked_numbers : Ticked → TickedNumbers
 ticked_numbers r = record { refusal = refusal_of r.answer; more = r.more; length = length_of r.answer; browser = numbers_of r.browser }
 
-abbrev pub listed_with : ℕ → Slot → ListedNumbers
-listed_with refusal (At i) = record { refusal = refusal; found = true; slot = i }
-listed_with refusal Nowhere = record { refusal = refusal; found = false; slot = 0 }
+abbrev pub listed_with : ℕ → Option ℕ → ListedNumbers
+listed_with refusal (Some i) = record { refusal = refusal; found = true; slot = i }
+listed_with refusal None = record { refusal = refusal; found = false; slot = 0 }
 
 unfoldable pub listed_numbers : Listed → ListedNumbers
 listed_numbers r = listed_with r.refusal r.slot

@@ -11,7 +11,7 @@ ghost use Rattle.capi_browser.specs.Labels.{service_of, exactly};
 
 use browser::list::Listed;
 use browser::{Answer, Browser, NextDue, Started, Ticked};
-use cache::entries::{Entry, Slot};
+use cache::entries::Entry;
 use own::records::Service;
 
 // A browser's state in numbers: its labels, the length of the service label, and what `browser::Browser` keeps; `owed` is 0 for nothing, and else the slot
@@ -67,30 +67,19 @@ pub struct DueNumbers {
     pub time: u64,
 }
 
-// The greatest number of a slot, which no table has.
-const LAST_SLOT: usize = 18446744073709551615;
-
 // From which slot on known answers are owed, in a number and back.
-fn owed_of(n: u64) -> Slot
+fn owed_of(n: u64) -> Option<usize>
     ensures { result ≡ owed_of n }
 {
-    if n == 0 {
-        return Slot::Nowhere;
-    }
-    Slot::At((n - 1) as usize)
+    if n == 0 { None } else { Some((n - 1) as usize) }
 }
 
-fn owed_number(owed: Slot) -> u64
+fn owed_number(owed: Option<usize>) -> u64
     ensures { result ≡ owed_number owed }
 {
     match owed {
-        Slot::At(i) => {
-            if i == LAST_SLOT {
-                return i as u64;
-            }
-            i as u64 + 1
-        }
-        Slot::Nowhere => 0,
+        Some(i) => (i as u64).saturating_add(1),
+        None => 0,
     }
 }
 
@@ -189,18 +178,10 @@ fn ticked_numbers(ticked: Ticked) -> TickedNumbers
 fn listed_numbers(listed: Listed) -> ListedNumbers
     ensures { result ≡ listed_numbers listed }
 {
-    let slot = listed.slot;
-    match slot {
-        Slot::At(i) => ListedNumbers {
-            refusal: listed.refusal,
-            found: true,
-            slot: i,
-        },
-        Slot::Nowhere => ListedNumbers {
-            refusal: listed.refusal,
-            found: false,
-            slot: 0,
-        },
+    ListedNumbers {
+        refusal: listed.refusal,
+        found: listed.slot.is_some(),
+        slot: listed.slot.unwrap_or(0),
     }
 }
 

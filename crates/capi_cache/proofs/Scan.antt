@@ -2,7 +2,7 @@
 use mathlib.Core.Path.{◌≡◌, refl, sym, ap, ap₂, ◌∙◌}
 use mathlib.Core.List.{List, [], ◌∷◌}
 use mathlib.Core.Bool.{Bool, true, false, cond, not, ◌||◌}
-use Prim.Native.Nat.{ℕ, ◌+◌, ◌<◌, ◌≤◌, ◌^◌}
+use Prim.Native.Nat.{ℕ, ◌+◌, ◌<◌, ◌≤◌, ◌^◌, max}
 use native.Mathlib.Omega.{arith}
 use lib.ListN.{length, get_or, drop, drop_of_length-le}
 use lib.Dec.{ltb}
@@ -12,50 +12,9 @@ use Rattle.wire.specs.Lists.{some}
 use Rattle.cache.specs.entries.Cache.{is_size, bad_time, bad_table, entries_refusal}
 use Rattle.cache.specs.declared.entries.Entry.{Entry}
 use Rattle.cache.proofs.entries.Searches.{at_slot}
-use Rattle.capi_cache.specs.Refusals.{greater, no_most, most_with, ended}
+use Rattle.capi_cache.specs.Refusals.{no_most, most_with, ended}
 use Rattle.capi_cache.specs.declared.Most.{Most}
 
--- ---- the covered steps
-pub greater-is : (a b : ℕ) → a < b → b ≡ greater a b
-greater-is a b h = sym (simp (lt-ltb _ _ h))
-
-pub greater-not : (a b : ℕ) → b ≤ a → a ≡ greater a b
-greater-not a b h = sym (simp (le-ltb _ _ h))
-
-pub most_is : (m : Most) (e : Entry) (received rdata owner : ℕ) → received ≡ greater m.received e.received → rdata ≡ greater m.rdata e.rdata → owner ≡ greater m.owner e.owner
-    → ◌≡◌ {A = Most} (record { received = received; rdata = rdata; owner = owner }) (most_with m e)
-unfolding most_with
-most_is m e received rdata owner a b c = λ i. record { received = a i; rdata = b i; owner = c i }
-
-module _ (now : ℕ) (m : Most) (n : ℕ) where
-  pub ended-late : 2 ^ 62 < now → 1 ≡ ended now m n
-  unfolding ended
-  ended-late h = sym (simp (lt-ltb _ _ h))
-
-  module _ (a : now ≤ 2 ^ 62) where
-    pub ended-ahead : now < m.received → 1 ≡ ended now m n
-    unfolding ended
-    ended-ahead h = sym (simp (le-ltb _ _ a, lt-ltb _ _ h))
-
-    module _ (b : m.received ≤ now) where
-      pub ended-size : is_size n ≡ false → 8 ≡ ended now m n
-      unfolding ended
-      ended-size h = sym (simp (le-ltb _ _ a, le-ltb _ _ b, h))
-
-      module _ (h : is_size n ≡ true) where
-        pub ended-owner : 255 < m.owner → 8 ≡ ended now m n
-        unfolding ended
-        ended-owner k = sym (simp (le-ltb _ _ a, le-ltb _ _ b, h, lt-ltb _ _ k))
-
-        pub ended-rdata : m.owner ≤ 255 → 768 < m.rdata → 8 ≡ ended now m n
-        unfolding ended
-        ended-rdata k l = sym (simp (le-ltb _ _ a, le-ltb _ _ b, h, le-ltb _ _ k, lt-ltb _ _ l))
-
-        pub ended-none : m.owner ≤ 255 → m.rdata ≤ 768 → 0 ≡ ended now m n
-        unfolding ended
-        ended-none k l = sym (simp (le-ltb _ _ a, le-ltb _ _ b, h, le-ltb _ _ k, le-ltb _ _ l))
-
--- ---- the whole scan
 -- what is answered where m is of the entries so far and the entries es are left of n
 unfoldable pub rest_of : ℕ → ℕ → Most → List Entry → ℕ
 rest_of now n m [] = ended now m n
@@ -82,14 +41,13 @@ or_four false false true d x = refl
 or_four false false false d x = refl
 
 -- the greater of two is over a number where one of them is
-over_greater : (k a b : ℕ) → ltb k (greater a b) ≡ (ltb k a || ltb k b)
-over_greater k a b = go (ltb a b) refl (ltb k a) refl
+over_max : (k a b : ℕ) → ltb k (max a b) ≡ (ltb k a || ltb k b)
+over_max k a b = go (ltb k a) refl (ltb k b) refl
   where
-    go : (t : Bool) → ltb a b ≡ t → (u : Bool) → ltb k a ≡ u → ltb k (cond t b a) ≡ (u || ltb k b)
-    go true e true f = lt-ltb k b (omega (arith, ltb-true a b e, ltb-true k a f))
-    go true e false f = refl
-    go false e true f = f
-    go false e false f = f ∙ sym (le-ltb k b (omega (arith, ltb-false a b e, ltb-false k a f)))
+    go : (u : Bool) → ltb k a ≡ u → (v : Bool) → ltb k b ≡ v → ltb k (max a b) ≡ (u || v)
+    go true e v f = lt-ltb k (max a b) (omega (arith, ltb-true k a e))
+    go false e true f = lt-ltb k (max a b) (omega (arith, ltb-true k b f))
+    go false e false f = le-ltb k (max a b) (omega (arith, ltb-false k a e, ltb-false k b f))
 
 rest_is : (now n : ℕ) (m : Most) (es : List Entry)
     → rest_of now n m es ≡ num (ltb (2 ^ 62) now || (ltb now m.received || some (heard_ahead now) es)) (not (is_size n) || ((ltb 255 m.owner || ltb 768 m.rdata) || some too_long es))
@@ -99,8 +57,8 @@ rest_is now n m [] =
 rest_is now n m (e ∷ es) =
     rest_is now n (most_with m e) es
     ∙ ap₂ (λ (a b : Bool). num (ltb (2 ^ 62) now || a) (not (is_size n) || b))
-    (ap (λ (a : Bool). a || some (heard_ahead now) es) (over_greater now m.received e.received) ∙ or_assoc (ltb now m.received) (ltb now e.received) (some (heard_ahead now) es))
-    (ap₂ (λ (a b : Bool). (a || b) || some too_long es) (over_greater 255 m.owner e.owner) (over_greater 768 m.rdata e.rdata)
+    (ap (λ (a : Bool). a || some (heard_ahead now) es) (over_max now m.received e.received) ∙ or_assoc (ltb now m.received) (ltb now e.received) (some (heard_ahead now) es))
+    (ap₂ (λ (a b : Bool). (a || b) || some too_long es) (over_max 255 m.owner e.owner) (over_max 768 m.rdata e.rdata)
     ∙ or_four (ltb 255 m.owner) (ltb 255 e.owner) (ltb 768 m.rdata) (ltb 768 e.rdata) (some too_long es))
 
 pub scan_start : (now : ℕ) (es : List Entry) → rest_of now (length es) no_most es ≡ entries_refusal now es
@@ -116,15 +74,6 @@ scan_on now n m es i h = ap (rest_of now n m) (at_slot es i h)
 pub scan_end : (now n : ℕ) (m : Most) (es : List Entry) (i : ℕ) → length es ≤ i → rest_of now n m (drop i es) ≡ ended now m n
 unfolding rest_of
 scan_end now n m es i h = ap (rest_of now n m) (drop_of_length-le es h)
-
-pub ended-fits : (now : ℕ) (m : Most) (n : ℕ) → ended now m n < 2 ^ 8
-unfolding ended
-ended-fits now m n = go (ltb (2 ^ 62) now || ltb now m.received) (not (is_size n) || (ltb 255 m.owner || ltb 768 m.rdata))
-  where
-    go : (x y : Bool) → num x y < 2 ^ 8
-    go true y = omega arith
-    go false true = omega arith
-    go false false = omega arith
 
 -- the number of a whole table fits a byte
 pub entries-fits : (now : ℕ) (es : List Entry) → entries_refusal now es < 2 ^ 8

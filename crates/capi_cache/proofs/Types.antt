@@ -6,7 +6,7 @@ use Prim.Native.Nat.{ℕ, ◌+◌, ◌-◌, ◌<◌, ◌≤◌}
 use native.Mathlib.Omega.{arith}
 use lib.ListN.{length, get_or, drop}
 use lib.Dec.{leb, eqb}
-use borrow.Author.Tests.{le-leb, lt-leb, leb-true, leb-false, eq-eqb, ne_eqb}
+use borrow.Author.Tests.{le-leb, lt-leb, leb-true, leb-false}
 use Rattle.cache.specs.entries.Entries.{blank}
 use Rattle.cache.specs.entries.Tables.{slot_from}
 use Rattle.cache.specs.declared.entries.Entry.{Entry}
@@ -15,9 +15,6 @@ use Rattle.cache.specs.records.Heard.{holds_heard}
 use Rattle.cache.proofs.records.Rules.{may_wider, type_wider}
 use Rattle.cache.proofs.records.Seeking.{seek_on, steps-over}
 use Rattle.capi_cache.specs.Types.{of_type, type_among, Passed}
-
-pub passed_none : (rtype : ℕ) (es : List Entry) (from : ℕ) → Passed rtype es from from
-passed_none rtype es from = (omega arith, refl)
 
 none_of : (a b c d : Bool) → (a || (b || (c || d))) ≡ false → (a ≡ false) × ((b ≡ false) × ((c ≡ false) × (d ≡ false)))
 none_of true b c d k = let z : ◌≡◌ {A = ℕ} 0 1 = cc in absurd (omega arith)
@@ -62,18 +59,3 @@ four_left n i l = go (leb 4 (n - i)) refl
     go : (t : Bool) → leb 4 (n - i) ≡ t → leb 4 (n - i) ≡ leb (i + 4) n
     go true e = let m = leb-true 4 (n - i) e in e ∙ sym (le-leb (i + 4) n (omega (arith, m, l)))
     go false e = let m = leb-false 4 (n - i) e in e ∙ sym (lt-leb (i + 4) n (omega (arith, m, l)))
-
-module _ (rtype : ℕ) (a b c d : Entry) where
-  pub among_first : a.rtype ≡ rtype → true ≡ type_among rtype a b c d
-  among_first e = sym (simp (eq-eqb _ _ e))
-
-  module _ (na : a.rtype ≡ rtype → ⊥) where
-    pub among_second : b.rtype ≡ rtype → true ≡ type_among rtype a b c d
-    among_second e = sym (simp (ne_eqb _ _ na, eq-eqb _ _ e))
-
-    module _ (nb : b.rtype ≡ rtype → ⊥) where
-      pub among_third : c.rtype ≡ rtype → true ≡ type_among rtype a b c d
-      among_third e = sym (simp (ne_eqb _ _ na, ne_eqb _ _ nb, eq-eqb _ _ e))
-
-      pub among_fourth : (c.rtype ≡ rtype → ⊥) → eqb d.rtype rtype ≡ type_among rtype a b c d
-      among_fourth nc = sym (simp (ne_eqb _ _ na, ne_eqb _ _ nb, ne_eqb _ _ nc))

@@ -1,6 +1,6 @@
 pub mod Refusals
 pub mod Numbers
-pub mod Cursors
+pub mod Sections
 pub mod Types
 pub mod Numbered
 pub mod hearing

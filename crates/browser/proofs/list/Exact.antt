@@ -1,4 +1,5 @@
 -- The list shows exactly the targets of live, well-formed PTR entries of the name, each once, lowest entry first. Assumes nothing.
+use Rattle.std.proofs.Common.{None, Option}
 use mathlib.Core.Path.{◌≡◌, refl, sym, ap, ap₂, subst, ◌∙◌}
 use mathlib.Core.Bool.{Bool, true, false, cond, not, ◌&&◌, ◌||◌}
 use mathlib.Core.List.{List, [], ◌∷◌}
@@ -27,8 +28,6 @@ use Rattle.browser.specs.Runs.{Event, packet, tick, State, after, after_all}
 use Rattle.browser.specs.known_answers.Known.{known_from, known_owed}
 use Rattle.browser.specs.refresh.Refresh.{query_due}
 use Rattle.browser.specs.query.Query.{asking, packet_for, stop_for}
-use Rattle.cache.specs.declared.entries.Slot.{Slot}
-use Rattle.cache.specs.declared.entries.Slot.TheVariants.{Nowhere}
 
 -- ---- some entry passes a test
 
@@ -245,11 +244,11 @@ module _ (now : ℕ) (store : List ℕ) (a b : Browser) (named : service_name a 
   list_same = all_same (is_listed now store a es) (is_listed now store b es) listed_same 0 (length es)
 
 -- a tick keeps the name
-resumed-name : (b : Browser) (now : ℕ) (owed : Slot) → service_name (resumed b now owed) ≡ service_name b
+resumed-name : (b : Browser) (now : ℕ) (owed : Option ℕ) → service_name (resumed b now owed) ≡ service_name b
 unfolding service_name resumed
 resumed-name b now owed = refl
 
-asked-name : (b : Browser) (now : ℕ) (owed : Slot) → service_name (asked b now owed) ≡ service_name b
+asked-name : (b : Browser) (now : ℕ) (owed : Option ℕ) → service_name (asked b now owed) ≡ service_name b
 unfolding service_name asked
 asked-name b now owed = refl
 
@@ -257,7 +256,7 @@ turn_name : (now : ℕ) (store : List ℕ) (b : Browser) (es : List Entry) → s
 unfolding turn_of
 turn_name now store b es = go (known_owed now store b es b.owed)
   where
-    kept : (owed : Slot) → service_name (resumed b now owed) ≡ service_name b
+    kept : (owed : Option ℕ) → service_name (resumed b now owed) ≡ service_name b
     kept owed = resumed-name b now owed
 
     go : (l : List ℕ) → service_name (turn_with now store b es l).browser ≡ service_name b
@@ -270,9 +269,9 @@ turn_name now store b es = go (known_owed now store b es b.owed)
               browser = asked b now
                   (stop_for now store es (asking b) (known_from now store b es 0));
             })
-            (record { packet = []; browser = resumed b now Nowhere })).browser ≡ service_name b
+            (record { packet = []; browser = resumed b now None })).browser ≡ service_name b
         split true = asked-name b now (stop_for now store es (asking b) (known_from now store b es 0))
-        split false = resumed-name b now Nowhere
+        split false = resumed-name b now None
 
 tick-name : (b : Browser) (now : ℕ) (es : List Entry) (store : List ℕ) (room : ℕ) → service_name (tick_of b now es store room).browser ≡ service_name b
 unfolding tick_of

@@ -4,11 +4,11 @@ use mathlib.Core.Bool.{Bool, true, false}
 use mathlib.Core.List.{List}
 use Prim.Native.Nat.{ℕ}
 use lib.ListN.{take, drop}
+use borrow.Author.Tests.{ne_eqb}
 use Rattle.wire.specs.names.Names.{is_name}
 use Rattle.wire.specs.case_folding.Fold.{same_name}
 use Rattle.cache.specs.declared.entries.Entry.{Entry}
 use Rattle.cache.specs.entries.Entries.{slot_of, is_live, is_of, live_of, rdata_held}
-use Rattle.cache.proofs.entries.Single.{of_type_lem}
 use Rattle.browser.specs.declared.Browser.{Browser}
 use Rattle.browser.specs.service.Service.{service_name}
 use Rattle.browser.specs.list.Listing.{is_shown, shows_too}
@@ -20,8 +20,8 @@ module _ (now : ℕ) (store : List ℕ) (b : Browser) (i : ℕ) (e : Entry) wher
 
   module _ (live : is_live now e ≡ true) where
     pub shown-other : (e.rtype ≡ 12 → ⊥) → false ≡ is_shown now store b i e
-    unfolding is_shown live_of
-    shown-other h = sym (simp (live, sym (of_type_lem store (service_name b) 12 i e h)))
+    unfolding is_shown live_of is_of
+    shown-other h = sym (simp (live, ne_eqb _ _ h))
 
     module _ (name : List ℕ) (is : name ≡ service_name b) (v : Bool) (of : v ≡ is_of store name 12 i e) where
       named : v ≡ is_of store (service_name b) 12 i e

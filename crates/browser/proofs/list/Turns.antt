@@ -1,4 +1,5 @@
 -- Whether a slot is listed, an entry below it at a time; and the lowest listed slot from a slot on. Assumes nothing.
+use Rattle.std.proofs.Common.{None, Some}
 use mathlib.Core.Path.{◌≡◌, refl, sym, ap, ◌∙◌}
 use mathlib.Core.Bool.{Bool, true, false, cond, not, ◌&&◌, ◌||◌}
 use mathlib.Core.List.{List, [], ◌∷◌, ◌++◌}
@@ -12,7 +13,6 @@ use borrow.Author.Tests.{ltb-true, ltb-false, le-ltb}
 use Rattle.wire.specs.names.Names.{is_name}
 use Rattle.wire.specs.case_folding.Fold.{same_name}
 use Rattle.cache.specs.declared.entries.Entry.{Entry}
-use Rattle.cache.specs.declared.entries.Slot.TheVariants.{At, Nowhere}
 use Rattle.cache.specs.entries.Entries.{blank, is_of, live_of, rdata_held}
 use Rattle.cache.specs.laws.Counts.{any_from}
 use Rattle.browser.specs.declared.Browser.{Browser}
@@ -109,13 +109,13 @@ module _ (now : ℕ) (store : List ℕ) (b : Browser) where
 
 -- the lowest of some slots: at i what is left of them is searched
 module _ (test : ℕ → Bool) where
-  pub first-here : (i n : ℕ) → i < n → test i ≡ true → first_of test i (n - i) ≡ At i
+  pub first-here : (i n : ℕ) → i < n → test i ≡ true → first_of test i (n - i) ≡ Some i
   unfolding first_of
   first-here i n l t = go (n - i) (omega arith)
     where
-      go : (m : ℕ) → 0 < m → first_of test i m ≡ At i
+      go : (m : ℕ) → 0 < m → first_of test i m ≡ Some i
       go zero h = absurd (omega arith)
-      go (suc m) h = ap (λ (c : Bool). cond c (At i) (first_of test (suc i) m)) t
+      go (suc m) h = ap (λ (c : Bool). cond c (Some i) (first_of test (suc i) m)) t
 
   pub first_on : (i n : ℕ) → i < n → test i ≡ false → first_of test i (n - i) ≡ first_of test (i + 1) (n - (i + 1))
   unfolding first_of
@@ -125,8 +125,8 @@ module _ (test : ℕ → Bool) where
       go zero k h = absurd (omega arith)
       go (suc m) k h =
           let same : m ≡ k = omega arith in
-          ap (λ (c : Bool). cond c (At i) (first_of test (suc i) m)) t ∙ ap (first_of test (suc i)) same ∙ ap (λ (j : ℕ). first_of test j k) (sym (add-one i))
+          ap (λ (c : Bool). cond c (Some i) (first_of test (suc i) m)) t ∙ ap (first_of test (suc i)) same ∙ ap (λ (j : ℕ). first_of test j k) (sym (add-one i))
 
-  pub first-end : (i n : ℕ) → n ≤ i → first_of test i (n - i) ≡ Nowhere
+  pub first-end : (i n : ℕ) → n ≤ i → first_of test i (n - i) ≡ None
   unfolding first_of
   first-end i n l = let none : n - i ≡ 0 = omega arith in ap (first_of test i) none

@@ -1,4 +1,6 @@
 -- The question, the known answers one after the other, and the whole draft laid over a buffer. Assumes nothing.
+use Rattle.std.specs.Option.{is_some, unwrap_or}
+use Rattle.std.proofs.Common.{Err, None, Ok, Option, Result, Some}
 use mathlib.Core.Path.{◌≡◌, refl, sym, ap, subst, ◌∙◌}
 use mathlib.Core.List.{List, [], ◌∷◌, ◌++◌, map, append_assoc, append-nil}
 use mathlib.Core.Bool.{Bool, true, false, cond}
@@ -17,8 +19,7 @@ use Rattle.writer.specs.Items.{Writing, put_question, put_record}
 use Rattle.writer.specs.Writer.{held_in, room_in, spot_of, question_of, name_fits, question_fits, Placing, Grown}
 use Rattle.writer.specs.compression.Sentence.{empty}
 use Rattle.writer.specs.declared.Spot.{Spot}
-use Rattle.writer.specs.declared.Placed.{Placed}
-use Rattle.writer.specs.declared.Placed.TheVariants.{Done, Full, Unfit}
+use Rattle.writer.specs.declared.Misfit.{Misfit}
 use Rattle.writer.specs.own_packets.Packets.{put_all}
 use Rattle.writer.specs.own_packets.Own.{laid_over}
 use Rattle.writer.proofs.Use.{is-done, is-grown, question-size, question-count, held-so}
@@ -28,7 +29,6 @@ use Rattle.browser.specs.declared.Browser.{Browser}
 use Rattle.browser.specs.declared.known_answers.Known.{Known}
 use Rattle.browser.specs.declared.known_answers.Plan.{Plan}
 use Rattle.browser.specs.declared.query.Draft.{Draft}
-use Rattle.browser.specs.declared.query.Step.{Step}
 use Rattle.browser.specs.service.Service.{service_name}
 use Rattle.browser.specs.service.Sound.{Sound}
 use Rattle.browser.specs.known_answers.Plans.{no_answer, planned}
@@ -44,7 +44,7 @@ unfolding opened
 open_not asks b out places h e = subst (λ (t : Bool). Holds (put_all put_question no_header (questions t b)) (spot_of 12 0) out places) (sym e) h
 
 module _ (asks : Bool) (b : Browser) (sound : Sound b) (out places : List ℕ) (h : Holds no_header (spot_of 12 0) out places) (yes : asks ≡ true) (name : List ℕ)
-    (is : name ≡ service_name b) (placed : Placed) (out' places' : List ℕ)
+    (is : name ≡ service_name b) (placed : Result Spot Misfit) (out' places' : List ℕ)
     (p : Placing (is_name name) (question_fits (room_in out places 12 0) name) (put_question (held_in out places 12 0) (question_of name 12 1)) out places placed
     out' places') where
   named : is_name name ≡ true
@@ -65,7 +65,7 @@ module _ (asks : Bool) (b : Browser) (sound : Sound b) (out places : List ℕ) (
   grown : Grown v out places (spot_of (length v.bytes) (length v.places)) out' places'
   grown = is-grown _ _ v out places placed out' places' p named fits
 
-  done : placed ≡ Done (spot_of (length v.bytes) (length v.places))
+  done : placed ≡ Ok (spot_of (length v.bytes) (length v.places))
   done = is-done _ _ v out places placed out' places' p named fits
 
   sizes : (length v.bytes ≤ 300) × (length v.places ≤ 300)
@@ -81,7 +81,7 @@ module _ (asks : Bool) (b : Browser) (sound : Sound b) (out places : List ℕ) (
       ap (λ (w : Writing). put_question w (question_of name 12 1)) h.here ∙ ap (λ (n : List ℕ). put_question no_header (question_of n 12 1)) is
       ∙ ap (λ (t : Bool). put_all put_question no_header (questions t b)) (sym yes)
 
-  pub open_done : (s : Spot) → placed ≡ Done s → Holds (opened asks b) s out' places'
+  pub open_done : (s : Spot) → placed ≡ Ok s → Holds (opened asks b) s out' places'
   open_done s told =
       let same : spot_of (length v.bytes) (length v.places) ≡ s = cc done in
       subst (λ (x : Spot). Holds (opened asks b) x out' places') same held
@@ -107,11 +107,8 @@ module _ (asks : Bool) (b : Browser) (sound : Sound b) (out places : List ℕ) (
             };
           }
 
-  pub open_full : {A : Type 0} → placed ≡ Full → A
-  open_full told = let z : ◌≡◌ {A = ℕ} 0 1 = cc done in absurd (omega arith)
-
-  pub open_unfit : {A : Type 0} → placed ≡ Unfit → A
-  open_unfit told = let z : ◌≡◌ {A = ℕ} 0 1 = cc done in absurd (omega arith)
+  pub open_misfit : {A : Type 0} → (m : Misfit) → placed ≡ Err m → A
+  open_misfit m told = let z : ◌≡◌ {A = ℕ} 0 1 = cc done in absurd (omega arith)
 
 -- ---- the known answers
 
@@ -177,16 +174,17 @@ module _ (store : List ℕ) (w : Writing) (len : ℕ) (ks : List Known) (n : ℕ
         most = c.ended;
       }
 
-  pub going_end : n ≤ j → Composes w (records_in store len ks n) (record { end = at.end; answers = j }) out
+  pub going_end : n ≤ j → Composes w (records_in store len ks n) (record { end = at.end; answers = n }) out
   unfolding fitted
   going_end h =
       let t = total in
       let past : length rs ≤ j = omega arith in
       let none : drop j rs ≡ [] = drop_of_length-le rs past in
-      ends at out places (ap (fitted u) none) refl g.room
+      let all : j ≡ n = omega (arith, g.low) in
+      subst (λ (k : ℕ). Composes w rs (record { end = at.end; answers = k }) out) all (ends at out places (ap (fitted u) none) refl g.room)
 
-  module _ (less : j < n) (step : Step) (out' places' : List ℕ) (p : Puts (held_in out places at.end at.count)
-      (record_in store len (get_or ks j no_answer)) step out' places') where
+  module _ (less : j < n) (put : Option Spot) (out' places' : List ℕ) (p : Puts (held_in out places at.end at.count)
+      (record_in store len (get_or ks j no_answer)) at put out' places') where
     long : length (take n ks) ≡ n
     long = length-take-le n ks g.size
 
@@ -202,31 +200,36 @@ module _ (store : List ℕ) (w : Writing) (len : ℕ) (ks : List Known) (n : ℕ
     one_more : take (suc j) rs ≡ take j rs ++ (r ∷ [])
     one_more = let l = long in map-take (record_in store len) (take n ks) j (omega arith) ∙ ap (λ (k : Known). take j rs ++ (record_in store len k ∷ [])) same
 
-    pub going_stop : step.put ≡ false → Composes w (records_in store len ks n) (record { end = step.spot.end; answers = j }) out'
+    pub going_stop : put ≡ None → Composes w (records_in store len ks n) (record { end = at.end; answers = j }) out'
     unfolding fitted
     going_stop h =
-        let no_more : goes_behind u r ≡ false = sym p.put ∙ h in
-        ends step.spot out' places'
+        let no_more : goes_behind u r ≡ false = sym p.put ∙ ap is_some h in
+        ends at out' places'
         (ap (fitted u) next ∙ ap (λ (t : Bool). cond t (r ∷ fitted (put_record false u r) (drop (suc j) rs)) []) no_more)
-        (p.holds.here ∙ ap (λ (t : Bool). cond t (put_record false u r) u) no_more) p.holds.room
+        (held.here ∙ ap (λ (t : Bool). cond t (put_record false u r) u) no_more) held.room
+      where
+        held : Holds (cond (goes_behind u r) (put_record false u r) u) at out' places'
+        held = subst (λ (x : Option Spot). Holds (cond (goes_behind u r) (put_record false u r) u) (unwrap_or x at) out' places') h p.holds
 
-    pub going_on : step.put ≡ true → Going store w len ks n out' places' step.spot (j + 1)
+    pub going_on : (s : Spot) → put ≡ Some s → Going store w len ks n out' places' s (j + 1)
     unfolding fitted
-    going_on h =
-        let yes-more : goes_behind u r ≡ true = sym p.put ∙ h in
-        let here : held_in out' places' step.spot.end step.spot.count ≡ put_record false u r = p.holds.here
+    going_on s h =
+        let held : Holds (cond (goes_behind u r) (put_record false u r) u) s out' places' =
+        subst (λ (x : Option Spot). Holds (cond (goes_behind u r) (put_record false u r) u) (unwrap_or x at) out' places') h p.holds in
+        let yes-more : goes_behind u r ≡ true = sym p.put ∙ ap is_some h in
+        let here : held_in out' places' s.end s.count ≡ put_record false u r = held.here
         ∙ ap (λ (t : Bool). cond t (put_record false u r) u) yes-more in
         let now-fitted : fitted u (drop j rs) ≡ r ∷ fitted (put_record false u r) (drop (suc j) rs) =
         ap (fitted u) next ∙ ap (λ (t : Bool). cond t (r ∷ fitted (put_record false u r) (drop (suc j) rs)) []) yes-more in record {
           low = omega arith;
           size = g.size;
-          room = p.holds.room;
+          room = held.room;
           rest =
               g.rest ∙ ap (λ (l : List Record). take j rs ++ l) now-fitted ∙ sym (append_assoc (take j rs) (r ∷ [])
               (fitted (put_record false u r) (drop (suc j) rs)))
               ∙ ap (λ (l : List Record). l ++ fitted (put_record false u r) (drop (suc j) rs)) (sym one_more)
               ∙ ap (λ (x : Writing). take (suc j) rs ++ fitted x (drop (suc j) rs)) (sym here)
-              ∙ ap (λ (i : ℕ). take i rs ++ fitted (held_in out' places' step.spot.end step.spot.count) (drop i rs)) (sym (add-one j));
+              ∙ ap (λ (i : ℕ). take i rs ++ fitted (held_in out' places' s.end s.count) (drop i rs)) (sym (add-one j));
           done =
               ap (λ (i : ℕ). put_all (put_record false) w (take i rs)) (add-one j) ∙ ap (put_all (put_record false) w) one_more ∙ all_append w (take j rs) (r ∷ [])
               ∙ ap (λ (x : Writing). put_record false x r) g.done ∙ sym here;

@@ -1,4 +1,5 @@
 -- A packet is composed in its buffers, a known answer at a time. Assumes nothing.
+use Rattle.std.proofs.Common.{Err, None, Ok, Result, Some}
 use mathlib.Core.Path.{◌≡◌, refl, sym, ap, ap₂, subst, ◌∙◌}
 use mathlib.Core.List.{List, ◌++◌, append_assoc}
 use mathlib.Core.Bool.{Bool, true, false, cond, ◌&&◌}
@@ -20,8 +21,8 @@ use Rattle.writer.specs.compression.Compression.{name_places}
 use Rattle.writer.specs.Writer.{held_in, room_in, spot_of, labels_for, name_fits, record_fits, placed_of, bytes_after, places_after, Placing, Grown}
 use Rattle.writer.specs.compression.Sentence.{Rising, empty, next}
 use Rattle.writer.specs.declared.Spot.{Spot}
-use Rattle.writer.specs.declared.Placed.{Placed}
-use Rattle.writer.specs.declared.Placed.TheVariants.{Done, Full, Unfit}
+use Rattle.writer.specs.declared.Misfit.{Misfit}
+use Rattle.writer.specs.declared.Misfit.TheVariants.{Unfit}
 use Rattle.writer.proofs.Fitting.{fit_parts}
 use Rattle.writer.proofs.Use.{is-done, is-grown, record_size, record_count, held-so}
 use Rattle.roundtrip.proofs.Lists.{record_more}
@@ -95,7 +96,7 @@ module _ (spot : Spot) (out places : List ℕ) (c : Composing spot out places) (
       let e : spot.count + labels_in r.owner + labels_for (form_for r.owner 12 r.rdata) r.rdata ≤ length places = omega (arith, c.noted, o.1) in
       rw ptr (simp (le-leb _ _ a, le-leb _ _ b, le-leb _ _ e))
 
-module _ (spot : Spot) (out places : List ℕ) (c : Composing spot out places) (r : Record) (ptr : r.rtype ≡ 12) (placed : Placed) (out' places' : List ℕ)
+module _ (spot : Spot) (out places : List ℕ) (c : Composing spot out places) (r : Record) (ptr : r.rtype ≡ 12) (placed : Result Spot Misfit) (out' places' : List ℕ)
     (p : Placing (fit_record r.owner r.rtype r.ttl r.rdata) (record_fits (room_in out places spot.end spot.count) r.owner r.rtype
     r.rdata)
     (put_record false (held_in out places spot.end spot.count) r) out places placed out' places') where
@@ -110,7 +111,7 @@ module _ (spot : Spot) (out places : List ℕ) (c : Composing spot out places) (
 
   -- nothing is put of what is unfit
   module _ (f : fit ≡ false) where
-    unfit_answer : placed ≡ Unfit
+    unfit_answer : placed ≡ Err Unfit
     unfit_answer = p.answer ∙ ap (λ (t : Bool). placed_of t (record_fits (room_in out places spot.end spot.count) r.owner r.rtype r.rdata) v) f
 
     unfit_out : out' ≡ out
@@ -121,7 +122,7 @@ module _ (spot : Spot) (out places : List ℕ) (c : Composing spot out places) (
     unfit_places = p.places ∙ ap (λ (t : Bool). places_after (t && record_fits (room_in out places spot.end spot.count) r.owner r.rtype
         r.rdata) v places) f
 
-    unfit_puts : Puts w r (record { spot = spot; put = false }) out' places'
+    unfit_puts : Puts w r spot None out' places'
     unfit_puts =
         let no_more : goes_behind w r ≡ false = ap (λ (t : Bool). t && leb (length v.bytes) 1452) f in record {
           put = sym no_more;
@@ -139,7 +140,7 @@ module _ (spot : Spot) (out places : List ℕ) (c : Composing spot out places) (
 
   -- all that is fit is written
   module _ (f : fit ≡ true) where
-    done-answer : placed ≡ Done (spot_of (length v.bytes) (length v.places))
+    done-answer : placed ≡ Ok (spot_of (length v.bytes) (length v.places))
     done-answer = is-done _ _ v out places placed out' places' p f (always_fits spot out places c r ptr f)
 
     grown : Grown v out places (spot_of (length v.bytes) (length v.places)) out' places'
@@ -183,7 +184,7 @@ module _ (spot : Spot) (out places : List ℕ) (c : Composing spot out places) (
         ∙ append_assoc w.places m.0 (drop (length v.places) places))
         ∙ take_at w.places (m.0 ++ drop (length v.places) places) spot.count e
 
-    over_puts : 1452 < length v.bytes → Puts w r (record { spot = spot; put = false }) out' places'
+    over_puts : 1452 < length v.bytes → Puts w r spot None out' places'
     over_puts l =
         let no_more : goes_behind w r ≡ false = ap (λ (t : Bool). t && leb (length v.bytes) 1452) f ∙ lt-leb _ _ l in record {
           put = sym no_more;
@@ -193,7 +194,7 @@ module _ (spot : Spot) (out places : List ℕ) (c : Composing spot out places) (
           };
         }
 
-    done-puts : length v.bytes ≤ 1452 → Puts w r (record { spot = spot_of (length v.bytes) (length v.places); put = true }) out' places'
+    done-puts : length v.bytes ≤ 1452 → Puts w r spot (Some (spot_of (length v.bytes) (length v.places))) out' places'
     done-puts l =
         let yes-more : goes_behind w r ≡ true = ap (λ (t : Bool). t && leb (length v.bytes) 1452) f ∙ le-leb _ _ l in
         let here : held_in out' places' (length v.bytes) (length v.places) ≡ v = held-so v out places
@@ -211,42 +212,35 @@ module _ (spot : Spot) (out places : List ℕ) (c : Composing spot out places) (
           };
         }
 
-  pub is-put : (s : Spot) → placed ≡ Done s → s.end ≤ 1452 → Puts w r (record { spot = s; put = true }) out' places'
+  pub is-put : (s : Spot) → placed ≡ Ok s → s.end ≤ 1452 → Puts w r spot (Some s) out' places'
   is-put s told l = go fit refl
     where
-      go : (t : Bool) → fit ≡ t → Puts w r (record { spot = s; put = true }) out' places'
+      go : (t : Bool) → fit ≡ t → Puts w r spot (Some s) out' places'
       go true f =
           let same : spot_of (length v.bytes) (length v.places) ≡ s = cc (done-answer f) in
           let m : length v.bytes ≤ 1452 = rw (ap (λ (x : Spot). x.end) same) l in
-          subst (λ (x : Spot). Puts w r (record { spot = x; put = true }) out' places') same (done-puts f m)
+          subst (λ (x : Spot). Puts w r spot (Some x) out' places') same (done-puts f m)
       go false f = let z : ◌≡◌ {A = ℕ} 0 1 = cc (unfit_answer f) in absurd (omega arith)
 
-  pub is-over : (s : Spot) → placed ≡ Done s → 1452 < s.end → Puts w r (record { spot = spot; put = false }) out' places'
+  pub is-over : (s : Spot) → placed ≡ Ok s → 1452 < s.end → Puts w r spot None out' places'
   is-over s told l = go fit refl
     where
-      go : (t : Bool) → fit ≡ t → Puts w r (record { spot = spot; put = false }) out' places'
+      go : (t : Bool) → fit ≡ t → Puts w r spot None out' places'
       go true f =
           let same : spot_of (length v.bytes) (length v.places) ≡ s = cc (done-answer f) in
           over_puts f (rw (ap (λ (x : Spot). x.end) same) l)
       go false f = let z : ◌≡◌ {A = ℕ} 0 1 = cc (unfit_answer f) in absurd (omega arith)
 
-  pub is-full : placed ≡ Full → Puts w r (record { spot = spot; put = false }) out' places'
-  is-full told = go fit refl
+  pub is-misfit : (m : Misfit) → placed ≡ Err m → Puts w r spot None out' places'
+  is-misfit m told = go fit refl
     where
-      go : (t : Bool) → fit ≡ t → Puts w r (record { spot = spot; put = false }) out' places'
-      go true f = let z : ◌≡◌ {A = ℕ} 0 1 = cc (done-answer f) in absurd (omega arith)
-      go false f = unfit_puts f
-
-  pub is-unfit : placed ≡ Unfit → Puts w r (record { spot = spot; put = false }) out' places'
-  is-unfit told = go fit refl
-    where
-      go : (t : Bool) → fit ≡ t → Puts w r (record { spot = spot; put = false }) out' places'
+      go : (t : Bool) → fit ≡ t → Puts w r spot None out' places'
       go true f = let z : ◌≡◌ {A = ℕ} 0 1 = cc (done-answer f) in absurd (omega arith)
       go false f = unfit_puts f
 
 -- the same of a known answer, whose owner and target are parts of its slot
 module _ (store : List ℕ) (len : ℕ) (k : Known) (at : Spot) (out places : List ℕ) (c : Composing at out places) (slot owner target : List ℕ)
-    (s-is : slot ≡ slot_of store k.slot) (o_is : owner ≡ take len slot) (t-is : target ≡ take k.len (drop 256 slot)) (placed : Placed)
+    (s-is : slot ≡ slot_of store k.slot) (o_is : owner ≡ take len slot) (t-is : target ≡ take k.len (drop 256 slot)) (placed : Result Spot Misfit)
     (out' places' : List ℕ)
     (p : Placing (fit_record owner 12 k.ttl target) (record_fits (room_in out places at.end at.count) owner 12 target)
     (put_record false (held_in out places at.end at.count) (record_of owner 12 1 k.ttl target)) out places placed out' places') where
@@ -256,24 +250,19 @@ module _ (store : List ℕ) (len : ℕ) (k : Known) (at : Spot) (out places : Li
   same : record_of owner 12 1 k.ttl target ≡ record_in store len k
   same = ap₂ (λ (a d : List ℕ). record_of a 12 1 k.ttl d) (o_is ∙ ap (take len) s-is) (t-is ∙ ap (λ (l : List ℕ). take k.len (drop 256 l)) s-is)
 
-  pub known-put : (s : Spot) → placed ≡ Done s → s.end ≤ 1452
-      → Puts (held_in out places at.end at.count) (record_in store len k) (record { spot = s; put = true }) out' places'
+  pub known-put : (s : Spot) → placed ≡ Ok s → s.end ≤ 1452
+      → Puts (held_in out places at.end at.count) (record_in store len k) at (Some s) out' places'
   known-put s told l =
-      subst (λ (r : Record). Puts (held_in out places at.end at.count) r (record { spot = s; put = true }) out' places') same
+      subst (λ (r : Record). Puts (held_in out places at.end at.count) r at (Some s) out' places') same
       (is-put at out places c x refl placed out' places' p s told l)
 
-  pub known_over : (s : Spot) → placed ≡ Done s → 1452 < s.end
-      → Puts (held_in out places at.end at.count) (record_in store len k) (record { spot = at; put = false }) out' places'
+  pub known_over : (s : Spot) → placed ≡ Ok s → 1452 < s.end
+      → Puts (held_in out places at.end at.count) (record_in store len k) at None out' places'
   known_over s told l =
-      subst (λ (r : Record). Puts (held_in out places at.end at.count) r (record { spot = at; put = false }) out' places') same
+      subst (λ (r : Record). Puts (held_in out places at.end at.count) r at None out' places') same
       (is-over at out places c x refl placed out' places' p s told l)
 
-  pub known-full : placed ≡ Full → Puts (held_in out places at.end at.count) (record_in store len k) (record { spot = at; put = false }) out' places'
-  known-full told =
-      subst (λ (r : Record). Puts (held_in out places at.end at.count) r (record { spot = at; put = false }) out' places') same
-      (is-full at out places c x refl placed out' places' p told)
-
-  pub known-unfit : placed ≡ Unfit → Puts (held_in out places at.end at.count) (record_in store len k) (record { spot = at; put = false }) out' places'
-  known-unfit told =
-      subst (λ (r : Record). Puts (held_in out places at.end at.count) r (record { spot = at; put = false }) out' places') same
-      (is-unfit at out places c x refl placed out' places' p told)
+  pub known-misfit : (m : Misfit) → placed ≡ Err m → Puts (held_in out places at.end at.count) (record_in store len k) at None out' places'
+  known-misfit m told =
+      subst (λ (r : Record). Puts (held_in out places at.end at.count) r at None out' places') same
+      (is-misfit at out places c x refl placed out' places' p m told)

@@ -1,4 +1,5 @@
 -- What stands in the header does not enter into how names are cut: two packets that differ there alone are continued alike. Assumes nothing.
+use Rattle.std.proofs.Common.{Option, Some}
 use mathlib.Core.Path.{◌≡◌, refl, sym, ap, ◌∙◌}
 use mathlib.Core.List.{List, [], ◌∷◌, ◌++◌}
 use mathlib.Core.Bool.{Bool, cond, ◌&&◌}
@@ -15,8 +16,6 @@ use Rattle.wire.proofs.name_pieces.Pieces.{pointer_far}
 use Rattle.wire.specs.message.Message.{Question, Record}
 use Rattle.wire.specs.declared.rdata.Form.{Form}
 use Rattle.wire.specs.labels.Counted.{starts}
-use Rattle.writer.specs.declared.compression.Place.{Place}
-use Rattle.writer.specs.declared.compression.Place.TheVariants.{At}
 use Rattle.writer.specs.declared.compression.Cut.{Cut}
 use Rattle.writer.specs.compression.Compression.{is_read, stands_at, place_of, onward, cut_here, cut_from, end_of, name_bytes, name_places}
 use Rattle.writer.specs.compression.Sentence.{Rising, empty, next}
@@ -83,8 +82,8 @@ module _ (p q : List ℕ) (same_length : length p ≡ length q) (same_rest : dro
   unfolding place_of
   place_same s far (empty l) = refl
   place_same s far (next {o = o} {os = os} l rest) =
-      ap (λ (b : Bool). cond b (At o) (place_of p s os)) (stands_same s o (omega arith))
-      ∙ ap (cond (stands_at q s o) (At o)) (place_same s (omega arith) rest)
+      ap (λ (b : Bool). cond b (Some o) (place_of p s os)) (stands_same s o (omega arith))
+      ∙ ap (cond (stands_at q s o) (Some o)) (place_same s (omega arith) rest)
 
   cut-same : {m n : ℕ} {os : List ℕ} → 12 ≤ m → Rising m n os → (k : ℕ) (bs : List ℕ) → cut_from p os k bs ≡ cut_from q os k bs
   unfolding cut_from
@@ -92,7 +91,7 @@ module _ (p q : List ℕ) (same_length : length p ≡ length q) (same_rest : dro
   cut-same far up (suc k) (b ∷ bs) = ap onward (cut-same far up k bs)
   cut-same far up zero (zero ∷ bs) = refl
   cut-same {os = os} far up zero (suc n ∷ bs) =
-      ap (λ (x : Place). cut_here x (onward (cut_from p os (suc n) bs))) (place_same (suc n ∷ bs) far up)
+      ap (λ (x : Option ℕ). cut_here x (onward (cut_from p os (suc n) bs))) (place_same (suc n ∷ bs) far up)
       ∙ ap (λ (c : Cut). cut_here (place_of q (suc n ∷ bs) os) (onward c)) (cut-same far up (suc n) bs)
 
   name-same : {n : ℕ} {os : List ℕ} → Rising 12 n os → (bs : List ℕ) → name_bytes p os bs ≡ name_bytes q os bs

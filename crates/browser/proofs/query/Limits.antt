@@ -1,4 +1,5 @@
 -- No more than 120 known answers fit, so that a plan of the first 121 says all that a packet needs. Assumes nothing.
+use Rattle.std.proofs.Common.{None, Option, Some}
 use mathlib.Core.Path.{◌≡◌, refl, sym, ap, subst}
 use mathlib.Core.List.{List, [], ◌∷◌, ◌++◌}
 use mathlib.Core.Bool.{Bool, true, false, cond}
@@ -12,8 +13,6 @@ use Rattle.wire.specs.message.Message.{Record, record_of}
 use Rattle.wire.specs.rdata.Rdata.{form_of}
 use Rattle.writer.specs.Fit.{form_for, held_name, held_behind, fit_record}
 use Rattle.writer.specs.compression.Compression.{cut_of, end_of, name_bytes, name_places}
-use Rattle.writer.specs.declared.compression.Place.{Place}
-use Rattle.writer.specs.declared.compression.Place.TheVariants.{At, Nowhere}
 use Rattle.writer.specs.Items.{Writing, fields, data_bytes, put_name, put_fields, put_record}
 use Rattle.writer.specs.own_packets.Packets.{put_all}
 use Rattle.roundtrip.specs.Writable.{Each, none, one}
@@ -27,9 +26,9 @@ some_bytes p os bs =
     let a = length-append (take (cut_of p os bs).kept bs) (end_of (cut_of p os bs).place) in
     let e = end_some (cut_of p os bs).place in omega arith
   where
-    end_some : (x : Place) → 1 ≤ length (end_of x)
-    end_some (At o) = omega arith
-    end_some Nowhere = omega arith
+    end_some : (x : Option ℕ) → 1 ≤ length (end_of x)
+    end_some (Some o) = omega arith
+    end_some None = omega arith
 
 -- a PTR record 12
 ptr_least : (w : Writing) (owner : List ℕ) (class ttl : ℕ) (d : List ℕ) → length w.bytes + 12 ≤ length

@@ -1,4 +1,5 @@
 -- The header of a query, how many known answers a plan has, and where it stops. Assumes nothing.
+use Rattle.std.proofs.Common.{None, Some}
 use mathlib.Core.Path.{◌≡◌, refl, sym, ap, ap₂, ◌∙◌}
 use mathlib.Core.List.{List, [], ◌∷◌, map}
 use mathlib.Core.Bool.{Bool, true, false, cond}
@@ -6,7 +7,6 @@ use Prim.Native.Nat.{ℕ, zero, suc, ◌/◌, ◌%◌, ◌≤◌, ◌<◌}
 use native.Mathlib.Omega.{arith}
 use lib.ListN.{length, get_or, drop, length-take}
 use lib.Seq.{get_or-take, length-take-le, take_all}
-use Rattle.cache.specs.declared.entries.Slot.TheVariants.{At, Nowhere}
 use Rattle.browser.specs.declared.known_answers.Known.{Known}
 use Rattle.browser.specs.declared.known_answers.Plan.{Plan}
 use Rattle.browser.specs.known_answers.Plans.{no_answer, planned}
@@ -31,26 +31,26 @@ module _ (p : Plan) (sized : length p.known ≡ 121) where
   pub count_all_lem : 121 ≤ p.n → 121 ≡ length (planned p)
   count_all_lem h = sym (ap length (take_all p.n p.known (omega arith)) ∙ sized)
 
-map_at : (f : Known → ℕ) (ks : List Known) (k : ℕ) → k < length ks → first_slot (drop k (map f ks)) ≡ At (f (get_or ks k no_answer))
+map_at : (f : Known → ℕ) (ks : List Known) (k : ℕ) → k < length ks → first_slot (drop k (map f ks)) ≡ Some (f (get_or ks k no_answer))
 map_at f [] k h = absurd (omega arith)
 map_at f (x ∷ xs) zero h = refl
 map_at f (x ∷ xs) (suc k) h = map_at f xs k (omega arith)
 
-map-past : (f : Known → ℕ) (ks : List Known) (k : ℕ) → length ks ≤ k → first_slot (drop k (map f ks)) ≡ Nowhere
+map-past : (f : Known → ℕ) (ks : List Known) (k : ℕ) → length ks ≤ k → first_slot (drop k (map f ks)) ≡ None
 map-past f [] zero h = refl
 map-past f [] (suc k) h = refl
 map-past f (x ∷ xs) zero h = absurd (omega arith)
 map-past f (x ∷ xs) (suc k) h = map-past f xs k (omega arith)
 
-pub stop-here : (p : Plan) (k n : ℕ) → n ≡ length (planned p) → k < n → At (get_or p.known k no_answer).slot ≡ stop_at p k
+pub stop-here : (p : Plan) (k n : ℕ) → n ≡ length (planned p) → k < n → Some (get_or p.known k no_answer).slot ≡ stop_at p k
 unfolding stop_at
 stop-here p k n is h =
     let l : k < length (planned p) = omega arith in
     let m : length (planned p) ≤ p.n = let t = length-take p.n p.known in omega arith in
     let same : get_or (planned p) k no_answer ≡ get_or p.known k no_answer = get_or-take p.n p.known k no_answer (omega arith) in
-    sym (map_at (λ (x : Known). x.slot) (planned p) k l ∙ ap (λ (x : Known). At x.slot) same)
+    sym (map_at (λ (x : Known). x.slot) (planned p) k l ∙ ap (λ (x : Known). Some x.slot) same)
 
-pub stop-none : (p : Plan) (k n : ℕ) → n ≡ length (planned p) → n ≤ k → Nowhere ≡ stop_at p k
+pub stop-none : (p : Plan) (k n : ℕ) → n ≡ length (planned p) → n ≤ k → None ≡ stop_at p k
 unfolding stop_at
 stop-none p k n is h = sym (map-past (λ (x : Known). x.slot) (planned p) k (omega arith))
 

@@ -1,4 +1,5 @@
 -- A query is due exactly where the time of the next one has come; none is right after one was sent. Assumes nothing.
+use Rattle.std.proofs.Common.{Option}
 use mathlib.Core.Path.{◌≡◌, refl, sym, ap, ap₂, ◌∙◌}
 use mathlib.Core.Bool.{Bool, true, false, cond, ◌&&◌, ◌||◌, and-false, or-false}
 use mathlib.Core.List.{List, [], ◌∷◌}
@@ -8,7 +9,6 @@ use lib.Dec.{ltb, leb, eqb}
 use borrow.Author.Tests.{lt-ltb, le-ltb, le-leb, lt-leb, ltb-true, ltb-false, leb-true, leb-false, ne_eqb}
 use mathlib.Mathlib.Data.Bool.Basic.{and-eq-true-eq-eq-true-and-eq-true as both}
 use Rattle.cache.specs.declared.entries.Entry.{Entry}
-use Rattle.cache.specs.declared.entries.Slot.{Slot}
 use Rattle.cache.specs.entries.Entries.{is_live, is_of, live_of, rdata_held, lesser}
 use Rattle.cache.specs.laws.Counts.{any_from}
 use Rattle.wire.specs.names.Names.{is_name}
@@ -132,11 +132,11 @@ unfolding any_from
 any_none f none k [] = refl
 any_none f none k (e ∷ es) = ap₂ (λ (p q : Bool). p || q) (none k e) (any_none f none (suc k) es)
 
-stale_same : (now : ℕ) (store : List ℕ) (b : Browser) (owed : Slot) (i : ℕ) (e : Entry) → is_stale now store (resumed b now owed) i e ≡ is_stale now store b i e
+stale_same : (now : ℕ) (store : List ℕ) (b : Browser) (owed : Option ℕ) (i : ℕ) (e : Entry) → is_stale now store (resumed b now owed) i e ≡ is_stale now store b i e
 unfolding is_stale may_ask is_shown service_name resumed
 stale_same now store b owed i e = refl
 
-asked-stale : (now : ℕ) (store : List ℕ) (b : Browser) (owed : Slot) (i : ℕ) (e : Entry) → is_stale now store (asked b now owed) i e ≡ false
+asked-stale : (now : ℕ) (store : List ℕ) (b : Browser) (owed : Option ℕ) (i : ℕ) (e : Entry) → is_stale now store (asked b now owed) i e ≡ false
 unfolding is_stale asked
 asked-stale now store b owed i e =
     ap (λ (c : Bool). may_ask now store (asked b now owed) i e && c)
@@ -153,7 +153,7 @@ asked-stale now store b owed i e =
             split true k = let m : t ≤ now = leb-true t now k in rw k (le-ltb now t m)
             split false k = rw k refl
 
-series_past : (now : ℕ) (b : Browser) (owed : Slot) → series_due (asked b now owed) now ≡ false
+series_past : (now : ℕ) (b : Browser) (owed : Option ℕ) → series_due (asked b now owed) now ≡ false
 unfolding series_at asked
 series_past now b owed = go (leb (series_at b) now) refl
   where
@@ -173,7 +173,7 @@ series_past now b owed = go (leb (series_at b) now) refl
         ∙ lt-leb (now + gap_after (counted b.count)) now (omega arith)
     go false e = e
 
-pub resumed-due : (now : ℕ) (store : List ℕ) (b : Browser) (owed : Slot) (es : List Entry) → query_due now store (resumed b now owed) es
+pub resumed-due : (now : ℕ) (store : List ℕ) (b : Browser) (owed : Option ℕ) (es : List Entry) → query_due now store (resumed b now owed) es
     ≡ query_due now store b es
 unfolding query_due refresh_due series_at resumed
 resumed-due now store b owed es = ap (λ (c : Bool). series_due b now || c) (any_same (is_stale now store (resumed b now owed)) (is_stale now store b) same 0 es)
@@ -181,7 +181,7 @@ resumed-due now store b owed es = ap (λ (c : Bool). series_due b now || c) (any
     same : (i : ℕ) (e : Entry) → is_stale now store (resumed b now owed) i e ≡ is_stale now store b i e
     same i e = stale_same now store b owed i e
 
-pub asked-due : (now : ℕ) (store : List ℕ) (b : Browser) (owed : Slot) (es : List Entry) → query_due now store (asked b now owed) es ≡ false
+pub asked-due : (now : ℕ) (store : List ℕ) (b : Browser) (owed : Option ℕ) (es : List Entry) → query_due now store (asked b now owed) es ≡ false
 unfolding query_due refresh_due
 asked-due now store b owed es = ap₂ (λ (p q : Bool). p || q) (series_past now b owed) (any_none (is_stale now store (asked b now owed))
     (asked-stale now store b owed) 0 es)

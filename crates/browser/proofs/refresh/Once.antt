@@ -1,4 +1,5 @@
 -- A refresh query goes out at most once for a threshold. Assumes nothing.
+use Rattle.std.proofs.Common.{Option}
 use mathlib.Core.Path.{◌≡◌, refl, sym, ap, subst, ◌∙◌}
 use mathlib.Core.Bool.{Bool, true, false, ◌&&◌, and-false}
 use mathlib.Core.List.{List, [], ◌∷◌}
@@ -6,7 +7,6 @@ use Prim.Native.Nat.{ℕ, ◌+◌, ◌*◌, ◌≤◌}
 use native.Mathlib.Omega.{arith}
 use lib.Dec.{ltb, leb}
 use borrow.Author.Tests.{le-ltb}
-use Rattle.cache.specs.declared.entries.Slot.{Slot}
 use Rattle.browser.specs.declared.Browser.{Browser}
 use Rattle.browser.specs.refresh.Refresh.{threshold}
 use Rattle.browser.specs.refresh.Once.{RefreshOnce}
@@ -21,11 +21,11 @@ pub record Later (b t : Browser) : Type 0 where
   pub last : t.query ≤ t.last
   pub draw : t.refresh ≡ b.refresh
 
-resumed-later : (b : Browser) (now : ℕ) (owed : Slot) → b.query ≤ b.last → b.last ≤ now → Later b (resumed b now owed)
+resumed-later : (b : Browser) (now : ℕ) (owed : Option ℕ) → b.query ≤ b.last → b.last ≤ now → Later b (resumed b now owed)
 unfolding resumed
 resumed-later b now owed h l = record { query = omega arith; last = omega arith; draw = refl }
 
-asked-later : (b : Browser) (now : ℕ) (owed : Slot) → b.query ≤ b.last → b.last ≤ now → Later b (asked b now owed)
+asked-later : (b : Browser) (now : ℕ) (owed : Option ℕ) → b.query ≤ b.last → b.last ≤ now → Later b (asked b now owed)
 unfolding asked
 asked-later b now owed h l = record { query = omega arith; last = omega arith; draw = refl }
 
@@ -53,7 +53,7 @@ query-kept s (tick now room ∷ run) h =
     chain : (x y z : ℕ) → x ≤ y → y ≤ z → x ≤ z
     chain x y z h l = omega arith
 
-sent_query : (b : Browser) (now : ℕ) (owed : Slot) → (asked b now owed).query ≡ now
+sent_query : (b : Browser) (now : ℕ) (owed : Option ℕ) → (asked b now owed).query ≡ now
 unfolding asked
 sent_query b now owed = refl
 

@@ -1,4 +1,5 @@
 -- The queries of the series are spaced by the gaps. Assumes nothing.
+use Rattle.std.proofs.Common.{Option}
 use mathlib.Core.Path.{◌≡◌, refl, sym, ap, ap₂, subst, ◌∙◌}
 use mathlib.Core.Bool.{Bool, true, false, cond, ◌&&◌}
 use mathlib.Core.List.{List, [], ◌∷◌}
@@ -6,7 +7,6 @@ use Prim.Native.Nat.{ℕ, suc, ◌+◌, ◌≤◌, ◌<◌}
 use native.Mathlib.Omega.{arith}
 use lib.Dec.{ltb, eqb}
 use borrow.Author.Tests.{le-ltb, ltb-true, ltb-false, leb-true, ne_eqb}
-use Rattle.cache.specs.declared.entries.Slot.{Slot}
 use Rattle.browser.specs.declared.Browser.{Browser}
 use Rattle.browser.specs.series.Series.{gap_after, series_at, series_due, counted}
 use Rattle.browser.specs.series.Spacing.{asks, series_times, wait_after, Spaced, none, next, SeriesSpaced}
@@ -36,7 +36,7 @@ counts_wait draw c k (many e l) =
     let z : eqb k 0 ≡ false = ne_eqb k 0 (λ (h : k ≡ 0). omega arith) in
     ap (wait_after draw) e ∙ sym (gap_long 13 (omega arith)) ∙ gap_long k (omega arith) ∙ ap (λ (t : Bool). cond t draw (gap_after k)) (sym z)
 
-module _ (b : Browser) (now : ℕ) (owed : Slot) where
+module _ (b : Browser) (now : ℕ) (owed : Option ℕ) where
   kept-draw : (resumed b now owed).draw ≡ b.draw
   unfolding resumed
   kept-draw = refl

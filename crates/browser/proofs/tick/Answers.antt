@@ -13,7 +13,7 @@ use Rattle.browser.proofs.tick.Goals as goal
 pub returns-then-refusal-ne0 : goal.returns-then-refusal-ne0
 returns-then-refusal-ne0 c =
     let number : c.tick_refusal-refusal.result ≡ tick_refusal_with (entries_refusal c.args.time c.args.table.now) (length c.args.table.now) (length c.args.store.now) c.args.b c.args.time (length c.args.out.now) =
-    cc (c.tick_refusal-refusal.ensures, c.table_refusal-entries.ensures, c.entry_count-n.ensures) in
+    cc (c.tick_refusal-refusal.ensures, c.table_refusal-entries.ensures) in
     subst (λ (r : Ticked). Ticks c.args.b c.args.time c.args.table.now c.args.store.now c.args.out.now r c.args.out.now)
     (sym (c.refused_tick.ensures ∙ ap (λ (k : ℕ). refused_tick k c.args.b) number))
     (tick-refused c.args.b c.args.time c.args.table.now c.args.store.now c.args.out.now (λ z. c.if-refusal-ne0.true (number ∙ z)))
@@ -21,20 +21,20 @@ returns-then-refusal-ne0 c =
 pub next_query-next-requires : goal.next_query-next-requires
 next_query-next-requires c =
     let number : c.tick_refusal-refusal.result ≡ tick_refusal_with (entries_refusal c.args.time c.args.table.now) (length c.args.table.now) (length c.args.store.now) c.args.b c.args.time (length c.args.out.now) =
-    cc (c.tick_refusal-refusal.ensures, c.table_refusal-entries.ensures, c.entry_count-n.ensures) in
+    cc (c.tick_refusal-refusal.ensures, c.table_refusal-entries.ensures) in
     (tick-passed c.args.b c.args.time c.args.table.now c.args.store.now (length c.args.out.now) (sym number ∙ c.if-refusal-ne0.false)).sound
 
 pub finish-requires : goal.finish-requires
 finish-requires c =
     let number : c.tick_refusal-refusal.result ≡ tick_refusal_with (entries_refusal c.args.time c.args.table.now) (length c.args.table.now) (length c.args.store.now) c.args.b c.args.time (length c.args.out.now) =
-    cc (c.tick_refusal-refusal.ensures, c.table_refusal-entries.ensures, c.entry_count-n.ensures) in
+    cc (c.tick_refusal-refusal.ensures, c.table_refusal-entries.ensures) in
     let p = tick-passed c.args.b c.args.time c.args.table.now c.args.store.now (length c.args.out.now) (sym number ∙ c.if-refusal-ne0.false) in
     (p.sound, p.space)
 
 pub returns : goal.returns
 returns c =
     let number : c.tick_refusal-refusal.result ≡ tick_refusal_with (entries_refusal c.args.time c.args.table.now) (length c.args.table.now) (length c.args.store.now) c.args.b c.args.time (length c.args.out.now) =
-    cc (c.tick_refusal-refusal.ensures, c.table_refusal-entries.ensures, c.entry_count-n.ensures) in
+    cc (c.tick_refusal-refusal.ensures, c.table_refusal-entries.ensures) in
     let gathered : ℕ → Plan = λ (k : ℕ). plan_from c.args.time c.args.store.now c.args.b k (drop k c.args.table.now) empty_plan in
     let owed = c.gather-owed.ensures ∙ ap gathered c.owed_start.ensures in
     let next = c.next_query-next.ensures in

@@ -1,10 +1,8 @@
 -- Known answers (RFC 6762, 7.1): a query "lists the name's live PTR entries with more than half their TTL left, with the TTL left (at most that received) in
 -- whole seconds rounded down, spelled as stored, in entry order". Assumes nothing: these are definitions.
-use Rattle.std.specs.Prelude.{ℕ, suc, ◌-◌, ◌*◌, ◌/◌, List, [], ◌∷◌, map, Bool, cond, ◌&&◌, ltb, get_or, drop}
+use Rattle.std.specs.Prelude.{ℕ, suc, ◌-◌, ◌*◌, ◌/◌, List, [], ◌∷◌, map, Bool, cond, ◌&&◌, ltb, get_or, drop, Option, Some, None}
 use Rattle.wire.specs.message.Message.{Record, record_of}
 use Rattle.cache.specs.declared.entries.Entry.{Entry}
-use Rattle.cache.specs.declared.entries.Slot.{Slot}
-use Rattle.cache.specs.declared.entries.Slot.TheVariants.{At, Nowhere}
 use Rattle.cache.specs.entries.Entries.{blank, owner_held, rdata_held, lesser}
 use Rattle.browser.specs.declared.Browser.{Browser}
 use Rattle.browser.specs.list.Listing.{is_shown}
@@ -35,9 +33,9 @@ unfoldable pub known_from : ℕ → List ℕ → Browser → List Entry → ℕ 
 known_from now store b es from = known_in now store b from (drop from es)
 
 -- and those that a truncated query still owes: "the rest from that entry on as it then is"
-abbrev pub known_owed : ℕ → List ℕ → Browser → List Entry → Slot → List ℕ
-known_owed now store b es (At i) = known_from now store b es i
-known_owed now store b es Nowhere = []
+abbrev pub known_owed : ℕ → List ℕ → Browser → List Entry → Option ℕ → List ℕ
+known_owed now store b es (Some i) = known_from now store b es i
+known_owed now store b es None = []
 
 -- the records of some slots
 abbrev pub answers_of : ℕ → List ℕ → List Entry → List ℕ → List Record

@@ -1,11 +1,9 @@
 -- What the list shows: "exactly the live PTR targets under that name, each once, case folded, lowest entry first and spelled as there. Entries whose target is
 -- malformed count nowhere." A function of table, store, name and time. Assumes nothing: these are definitions.
-use Rattle.std.specs.Prelude.{ℕ, zero, suc, ◌-◌, List, [], ◌∷◌, map, Bool, cond, not, ◌&&◌, length, get_or, take}
+use Rattle.std.specs.Prelude.{ℕ, zero, suc, ◌-◌, List, [], ◌∷◌, map, Bool, cond, not, ◌&&◌, length, get_or, take, Option, Some, None}
 use Rattle.wire.specs.names.Names.{is_name}
 use Rattle.wire.specs.case_folding.Fold.{same_name}
 use Rattle.cache.specs.declared.entries.Entry.{Entry}
-use Rattle.cache.specs.declared.entries.Slot.{Slot}
-use Rattle.cache.specs.declared.entries.Slot.TheVariants.{At, Nowhere}
 use Rattle.cache.specs.entries.Entries.{blank, live_of, rdata_held}
 use Rattle.cache.specs.laws.Counts.{any_from}
 use Rattle.browser.specs.declared.Browser.{Browser}
@@ -25,16 +23,16 @@ is_listed now store b es i =
     is_shown now store b i (get_or es i blank) && not (any_from (shows_too now store b i (get_or es i blank)) 0 (take i es))
 
 -- of n slots from slot i on: the first that passes a test, and all that do
-unfoldable pub first_of : (ℕ → Bool) → ℕ → ℕ → Slot
-first_of test i zero = Nowhere
-first_of test i (suc n) = cond (test i) (At i) (first_of test (suc i) n)
+unfoldable pub first_of : (ℕ → Bool) → ℕ → ℕ → Option ℕ
+first_of test i zero = None
+first_of test i (suc n) = cond (test i) (Some i) (first_of test (suc i) n)
 
 unfoldable pub all_of : (ℕ → Bool) → ℕ → ℕ → List ℕ
 all_of test i zero = []
 all_of test i (suc n) = cond (test i) (i ∷ all_of test (suc i) n) (all_of test (suc i) n)
 
 -- the lowest listed slot from a slot on
-unfoldable pub listed_from : ℕ → List ℕ → Browser → List Entry → ℕ → Slot
+unfoldable pub listed_from : ℕ → List ℕ → Browser → List Entry → ℕ → Option ℕ
 listed_from now store b es from = first_of (is_listed now store b es) from (length es - from)
 
 -- the whole list: its slots, and the targets in them, spelled as there

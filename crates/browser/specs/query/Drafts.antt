@@ -1,6 +1,7 @@
 -- A packet as it is composed: room for a header, the question, and known answers one after the other. What it comes to is in Query (proofs/query/Packets.antt).
 -- Assumes nothing: these are definitions.
-use Rattle.std.specs.Prelude.{ℕ, ◌≤◌, ◌≡◌, Bool, false, cond, ◌&&◌, List, [], ◌∷◌, ◌++◌, map, ltb, leb, length, take, drop, replicate}
+use Rattle.std.specs.Option.{is_some, unwrap_or}
+use Rattle.std.specs.Prelude.{ℕ, ◌≤◌, ◌≡◌, Bool, false, cond, ◌&&◌, List, [], ◌∷◌, ◌++◌, map, ltb, leb, length, take, drop, replicate, Option}
 use Rattle.wire.specs.message.Message.{Question, Record, record_of}
 use Rattle.writer.specs.Fit.{fit_record}
 use Rattle.writer.specs.Items.{Writing, put_question, put_record}
@@ -9,13 +10,11 @@ use Rattle.writer.specs.compression.Sentence.{Rising}
 use Rattle.writer.specs.own_packets.Packets.{put_all, header_bytes}
 use Rattle.writer.specs.own_packets.Own.{laid_over}
 use Rattle.writer.specs.declared.Spot.{Spot}
-use Rattle.cache.specs.declared.entries.Slot.{Slot}
 use Rattle.cache.specs.entries.Entries.{slot_of}
 use Rattle.browser.specs.declared.Browser.{Browser}
 use Rattle.browser.specs.declared.known_answers.Known.{Known}
 use Rattle.browser.specs.declared.known_answers.Plan.{Plan}
 use Rattle.browser.specs.declared.query.Draft.{Draft}
-use Rattle.browser.specs.declared.query.Step.{Step}
 use Rattle.browser.specs.service.Service.{service_name}
 use Rattle.browser.specs.known_answers.Plans.{planned}
 use Rattle.browser.specs.query.Query.{asking, first_slot}
@@ -58,10 +57,10 @@ draft_count asks b store p = length (fitted (opened asks b) (records_of store b 
 abbrev pub slots_of : List Known → List ℕ
 slots_of ks = map (λ (k : Known). k.slot) ks
 
-unfoldable pub stop_at : Plan → ℕ → Slot
+unfoldable pub stop_at : Plan → ℕ → Option ℕ
 stop_at p k = first_slot (drop k (slots_of (planned p)))
 
-abbrev pub draft_stop : Bool → Browser → List ℕ → Plan → Slot
+abbrev pub draft_stop : Bool → Browser → List ℕ → Plan → Option ℕ
 draft_stop asks b store p = stop_at p (draft_count asks b store p)
 
 -- the header: ID 0, the TC bit where not all were put, the counts
@@ -88,10 +87,10 @@ pub record Holds (w : Writing) (spot : Spot) (out places : List ℕ) : Type 0 wh
   pub here : held_in out places spot.end spot.count ≡ w
   pub room : Composing spot out places
 
--- a record is put behind the packet w, if it can be; the buffers hold the packet then
-pub record Puts (w : Writing) (r : Record) (step : Step) (out' places' : List ℕ) : Type 0 where
-  pub put : step.put ≡ goes_behind w r
-  pub holds : Holds (cond (goes_behind w r) (put_record false w r) w) step.spot out' places'
+-- a record is put behind the packet w that ends at a spot, if it can be; the buffers hold the packet then
+pub record Puts (w : Writing) (r : Record) (at : Spot) (answer : Option Spot) (out' places' : List ℕ) : Type 0 where
+  pub put : is_some answer ≡ goes_behind w r
+  pub holds : Holds (cond (goes_behind w r) (put_record false w r) w) (unwrap_or answer at) out' places'
 
 -- the draft of some records behind a packet w
 pub record Composes (w : Writing) (rs : List Record) (d : Draft) (out' : List ℕ) : Type 0 where

@@ -1,12 +1,10 @@
 -- The packets of a browser: "A query asks type PTR, class 1, and lists .. until one would pass 1,452 bytes. Then TC is set and the next tick sends, with no
 -- question, the rest". Assumes nothing: these are definitions.
-use Rattle.std.specs.Prelude.{ℕ, List, [], ◌∷◌, ◌++◌, Bool, false, cond, ltb, leb, length, drop}
+use Rattle.std.specs.Prelude.{ℕ, List, [], ◌∷◌, ◌++◌, Bool, false, cond, ltb, leb, length, drop, Option, Some, None}
 use Rattle.wire.specs.message.Message.{Question, Record, Message}
 use Rattle.writer.specs.Writer.{question_of}
 use Rattle.writer.specs.own_packets.Packets.{packet_of}
 use Rattle.cache.specs.declared.entries.Entry.{Entry}
-use Rattle.cache.specs.declared.entries.Slot.{Slot}
-use Rattle.cache.specs.declared.entries.Slot.TheVariants.{At, Nowhere}
 use Rattle.browser.specs.declared.Browser.{Browser}
 use Rattle.browser.specs.service.Service.{service_name}
 use Rattle.browser.specs.known_answers.Known.{answers_of}
@@ -42,10 +40,10 @@ packet_with qs rs = packet_of false (query_of qs (ltb (length (listed qs [] rs))
 unfoldable pub packet_for : ℕ → List ℕ → List Entry → List Question → List ℕ → List ℕ
 packet_for now store es qs slots = packet_with qs (answers_of now store es slots)
 
-abbrev pub first_slot : List ℕ → Slot
-first_slot [] = Nowhere
-first_slot (i ∷ is) = At i
+abbrev pub first_slot : List ℕ → Option ℕ
+first_slot [] = None
+first_slot (i ∷ is) = Some i
 
 -- the first that did not fit: from it on the rest is owed
-unfoldable pub stop_for : ℕ → List ℕ → List Entry → List Question → List ℕ → Slot
+unfoldable pub stop_for : ℕ → List ℕ → List Entry → List Question → List ℕ → Option ℕ
 stop_for now store es qs slots = first_slot (drop (length (listed qs [] (answers_of now store es slots))) slots)

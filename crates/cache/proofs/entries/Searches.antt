@@ -1,19 +1,18 @@
 -- A table an entry at a time, for the loops over it: `lowest`, `each` and `some` from slot i on. Assumes nothing.
+use Rattle.std.proofs.Common.{None, Some}
 use mathlib.Core.Path.{◌≡◌, refl, sym, ap, ◌∙◌}
-use mathlib.Core.List.{List, [], ◌∷◌, ◌++◌, append_assoc, append-nil}
+use mathlib.Core.List.{List, [], ◌∷◌}
 use mathlib.Core.Bool.{Bool, true, false, cond}
 use Prim.Native.Nat.{ℕ, zero, suc, ◌+◌, ◌<◌, ◌≤◌}
 use native.Mathlib.Numerals.{add-one}
 use native.Mathlib.Nat.{add-zero, zero-add, add-suc, suc-add}
 use native.Mathlib.Omega.{arith}
-use lib.ListN.{length, get_or, set, take, drop, drop_of_length-le}
-use lib.Seq.{drop-cons, take_all, take-suc-set, drop-set-lt}
+use lib.ListN.{length, get_or, drop, drop_of_length-le}
+use lib.Seq.{drop-cons}
 use Rattle.cache.specs.entries.Entries.{blank, matches}
 use Rattle.cache.proofs.entries.Single.{match_before}
-use Rattle.wire.specs.Lists.{some}
-use Rattle.cache.specs.entries.Tables.{lowest, each}
+use Rattle.cache.specs.entries.Tables.{lowest}
 use Rattle.cache.specs.declared.entries.Entry.{Entry}
-use Rattle.cache.specs.declared.entries.Slot.TheVariants.{At, Nowhere}
 
 -- the first of the entries from slot i on
 pub at_slot : (es : List Entry) (i : ℕ) → i < length es → drop i es ≡ get_or es i blank ∷ drop (i + 1) es
@@ -21,7 +20,7 @@ at_slot es i h = drop-cons es i blank h ∙ ap (λ (k : ℕ). get_or es i blank 
 
 -- a search, of which the slots below i are done
 module _ (test : ℕ → Entry → Bool) (es : List Entry) (i : ℕ) (inv : lowest test 0 es ≡ lowest test i (drop i es)) where
-  pub lowest-here : i < length es → test i (get_or es i blank) ≡ true → At i ≡ lowest test 0 es
+  pub lowest-here : i < length es → test i (get_or es i blank) ≡ true → Some i ≡ lowest test 0 es
   unfolding lowest
   lowest-here h t = sym (inv ∙ rw (at_slot es i h) (simp t))
 
@@ -29,49 +28,18 @@ module _ (test : ℕ → Entry → Bool) (es : List Entry) (i : ℕ) (inv : lowe
   unfolding lowest
   lowest-on h t = inv ∙ rw (at_slot es i h) (simp t (ap (λ (k : ℕ). lowest test k (drop (i + 1) es)) (sym (add-one i))))
 
-  pub lowest-end : length es ≤ i → Nowhere ≡ lowest test 0 es
+  pub lowest-end : length es ≤ i → None ≡ lowest test 0 es
   unfolding lowest
   lowest-end h = sym (inv ∙ rw (drop_of_length-le es h))
 
--- a test of entries alone, of which the slots below i are done
-module _ (test : Entry → Bool) (es : List Entry) (i : ℕ) (inv : some test es ≡ some test (drop i es)) where
-  pub some-here : i < length es → test (get_or es i blank) ≡ true → true ≡ some test es
-  unfolding some
-  some-here h t = sym (inv ∙ rw (at_slot es i h) (simp t))
-
-  pub some-on : i < length es → test (get_or es i blank) ≡ false → some test es ≡ some test (drop (i + 1) es)
-  unfolding some
-  some-on h t = inv ∙ rw (at_slot es i h) (simp t)
-
-  pub some_end : length es ≤ i → false ≡ some test es
-  unfolding some
-  some_end h = sym (inv ∙ rw (drop_of_length-le es h))
-
--- a rule on every entry, in place: the slots below i are done, and those from i on are as they were
-module _ (rule : ℕ → Entry → Entry) (es t : List Entry) (i : ℕ) (inv : each rule 0 es ≡ take i t ++ each rule i (drop i t)) where
-  pub each_on : i < length t → (e : Entry) → e ≡ rule i (get_or t i blank) → each rule 0 es ≡ take (i + 1) (set t i e) ++ each rule (i + 1) (drop (i + 1) (set t i e))
-  unfolding each
-  each_on h e k =
-      inv ∙ ap (λ (l : List Entry). take i t ++ each rule i l) (at_slot t i h)
-      ∙ ap (λ (x : Entry). take i t ++ (x ∷ each rule (suc i) (drop (i + 1) t))) (sym k)
-      ∙ sym (append_assoc (take i t) (e ∷ []) (each rule (suc i) (drop (i + 1) t)))
-      ∙ ap (λ (l : List Entry). l ++ each rule (suc i) (drop (i + 1) t)) (sym (take-suc-set t i e h))
-      ∙ ap (λ (k : ℕ). take (suc i) (set t i e) ++ each rule (suc i) (drop k t)) (add-one i)
-      ∙ ap (λ (l : List Entry). take (suc i) (set t i e) ++ each rule (suc i) l) (sym (drop-set-lt (suc i) t i e (omega arith)))
-      ∙ ap (λ (k : ℕ). take k (set t i e) ++ each rule k (drop k (set t i e))) (sym (add-one i))
-
-  pub each-end : length t ≤ i → t ≡ each rule 0 es
-  unfolding each
-  each-end h = sym (inv ∙ rw (drop_of_length-le t h, take_all i t h) (append-nil t))
-
 -- what a search that found a slot says: the slot is one of the table, and its entry passes the test
-found_from : (test : ℕ → Entry → Bool) (k : ℕ) (es : List Entry) (i : ℕ) → lowest test k es ≡ At i → (j : ℕ) × ((i ≡ k + j) × ((j < length es) × (test i (get_or es j blank) ≡ true)))
+found_from : (test : ℕ → Entry → Bool) (k : ℕ) (es : List Entry) (i : ℕ) → lowest test k es ≡ Some i → (j : ℕ) × ((i ≡ k + j) × ((j < length es) × (test i (get_or es j blank) ≡ true)))
 unfolding lowest
 found_from test k [] i h = let z : ◌≡◌ {A = ℕ} 0 1 = cc in absurd (omega arith)
 found_from test k (e ∷ es) i h = go (test k e) refl h (found_from test (suc k) es i)
   where
-    go : (b : Bool) → test k e ≡ b → cond b (At k) (lowest test (suc k) es) ≡ At i
-        → (lowest test (suc k) es ≡ At i → (j : ℕ) × ((i ≡ suc k + j) × ((j < length es) × (test i (get_or es j blank) ≡ true))))
+    go : (b : Bool) → test k e ≡ b → cond b (Some k) (lowest test (suc k) es) ≡ Some i
+        → (lowest test (suc k) es ≡ Some i → (j : ℕ) × ((i ≡ suc k + j) × ((j < length es) × (test i (get_or es j blank) ≡ true))))
         → (j : ℕ) × ((i ≡ k + j) × ((j < suc (length es)) × (test i (get_or (e ∷ es) j blank) ≡ true)))
     go true t g ih =
         let same : k ≡ i = cc in
@@ -80,7 +48,7 @@ found_from test k (e ∷ es) i h = go (test k e) refl h (found_from test (suc k)
         let d = ih g in
         (suc d.0, (omega (arith, d.1.0), (omega (arith, d.1.1.0), d.1.1.1)))
 
-pub found_at : (test : ℕ → Entry → Bool) (es : List Entry) (i : ℕ) → lowest test 0 es ≡ At i → (i < length es) × (test i (get_or es i blank) ≡ true)
+pub found_at : (test : ℕ → Entry → Bool) (es : List Entry) (i : ℕ) → lowest test 0 es ≡ Some i → (i < length es) × (test i (get_or es i blank) ≡ true)
 found_at test es i h =
     let d = found_from test 0 es i h in
     let same : d.0 ≡ i = omega (arith, d.1.0) in

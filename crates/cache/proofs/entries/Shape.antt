@@ -1,4 +1,5 @@
 -- What the rules leave as it is: the number of entries, the number of bytes; and that a record is counted at most once. Assumes nothing.
+use Rattle.std.proofs.Common.{None, Option, Some}
 use mathlib.Core.Path.{◌≡◌, refl, ap, ◌∙◌}
 use mathlib.Core.List.{List, [], ◌∷◌, ◌++◌}
 use mathlib.Core.Bool.{Bool, true, false, cond}
@@ -12,8 +13,6 @@ use Rattle.cache.specs.entries.Entries.{blank, soon, flushed, refreshed}
 use Rattle.cache.specs.entries.Tables.{each}
 use Rattle.cache.specs.entries.Cache.{Cache, with_entries, is_cached, rule1, goodbye, entry_for, slot_for, taken, renewed, equal_slot, free_slot, rule23, after_rule1, take_record, take_records}
 use Rattle.cache.specs.declared.entries.Entry.{Entry}
-use Rattle.cache.specs.declared.entries.Slot.{Slot}
-use Rattle.cache.specs.declared.entries.Slot.TheVariants.{At, Nowhere}
 
 pub record Shaped (c d : Cache) (n : ℕ) : Type 0 where
   pub entries : length d.entries ≡ length c.entries
@@ -30,17 +29,17 @@ same : (c : Cache) (n : ℕ) → Shaped c c n
 same c n = record { entries = refl; store = refl; turned = omega arith; passed = omega arith }
 
 module _ (now : ℕ) (x : Record) (c : Cache) where
-  goodbye-shape : (s : Slot) → Shaped c (goodbye now c s) 1
-  goodbye-shape (At i) = record { entries = length-set c.entries i (soon now (get_or c.entries i blank)); store = refl; turned = omega arith; passed = omega arith }
-  goodbye-shape Nowhere = same c 1
+  goodbye-shape : (s : Option ℕ) → Shaped c (goodbye now c s) 1
+  goodbye-shape (Some i) = record { entries = length-set c.entries i (soon now (get_or c.entries i blank)); store = refl; turned = omega arith; passed = omega arith }
+  goodbye-shape None = same c 1
 
-  taken-shape : (s : Slot) → Shaped c (taken now x c s) 1
-  taken-shape (At i) = record { entries = length-set c.entries i (entry_for now x); store = length-sets c.store (1024 * i) (slot_for x); turned = omega arith; passed = omega arith }
-  taken-shape Nowhere = record { entries = refl; store = refl; turned = omega arith; passed = omega arith }
+  taken-shape : (s : Option ℕ) → Shaped c (taken now x c s) 1
+  taken-shape (Some i) = record { entries = length-set c.entries i (entry_for now x); store = length-sets c.store (1024 * i) (slot_for x); turned = omega arith; passed = omega arith }
+  taken-shape None = record { entries = refl; store = refl; turned = omega arith; passed = omega arith }
 
-  renewed-shape : (s : Slot) → Shaped c (renewed now x c s) 1
-  renewed-shape (At i) = record { entries = length-set c.entries i (refreshed now x.ttl (get_or c.entries i blank)); store = refl; turned = omega arith; passed = omega arith }
-  renewed-shape Nowhere = taken-shape (free_slot now c)
+  renewed-shape : (s : Option ℕ) → Shaped c (renewed now x c s) 1
+  renewed-shape (Some i) = record { entries = length-set c.entries i (refreshed now x.ttl (get_or c.entries i blank)); store = refl; turned = omega arith; passed = omega arith }
+  renewed-shape None = taken-shape (free_slot now c)
 
   pub rule1-shape : Shaped c (rule1 now x c) 0
   unfolding rule1

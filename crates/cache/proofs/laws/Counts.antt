@@ -1,4 +1,5 @@
 -- Theorems on the two counts: exactly when a record is counted. Assumes nothing.
+use Rattle.std.proofs.Common.{None, Option, Some}
 use mathlib.Core.Path.{◌≡◌, refl, sym, ap, ◌∙◌}
 use mathlib.Core.List.{List, [], ◌∷◌}
 use mathlib.Core.Bool.{Bool, true, false, cond, not, ◌&&◌, ◌||◌}
@@ -11,22 +12,20 @@ use Rattle.cache.specs.entries.Entries.{is_free, holds}
 use Rattle.cache.specs.entries.Tables.{lowest}
 use Rattle.cache.specs.entries.Cache.{Cache, is_cached, rule1, goodbye, taken, renewed, equal_slot, free_slot, rule23, after_rule1, take_record}
 use Rattle.cache.specs.declared.entries.Entry.{Entry}
-use Rattle.cache.specs.declared.entries.Slot.{Slot}
-use Rattle.cache.specs.declared.entries.Slot.TheVariants.{At, Nowhere}
 use Rattle.cache.specs.laws.Counts.{any_from, has_equal, all_live, one, TurnedExactly, PassedExactly}
 use Rattle.cache.proofs.laws.Steps.{rule1-equal, rule1-free, rule1-turned, rule1-passed}
 
 -- a search finds nothing exactly where no entry passes
-abbrev found : Slot → Bool
-found (At i) = true
-found Nowhere = false
+abbrev found : Option ℕ → Bool
+found (Some i) = true
+found None = false
 
 found_any : (test : ℕ → Entry → Bool) (k : ℕ) (es : List Entry) → found (lowest test k es) ≡ any_from test k es
 unfolding lowest any_from
 found_any test k [] = refl
 found_any test k (e ∷ es) = go (test k e) (found_any test (suc k) es)
   where
-    go : (b : Bool) → found (lowest test (suc k) es) ≡ any_from test (suc k) es → found (cond b (At k) (lowest test (suc k) es)) ≡ (b || any_from test (suc k) es)
+    go : (b : Bool) → found (lowest test (suc k) es) ≡ any_from test (suc k) es → found (cond b (Some k) (lowest test (suc k) es)) ≡ (b || any_from test (suc k) es)
     go true h = refl
     go false h = h
 
@@ -39,17 +38,17 @@ unfolding free_slot
 free_any now c = found_any (is_free now) 0 c.entries
 
 module _ (now : ℕ) (x : Record) (c : Cache) where
-  turned_goodbye : (s : Slot) → (goodbye now c s).turned ≡ c.turned
-  turned_goodbye (At i) = refl
-  turned_goodbye Nowhere = refl
+  turned_goodbye : (s : Option ℕ) → (goodbye now c s).turned ≡ c.turned
+  turned_goodbye (Some i) = refl
+  turned_goodbye None = refl
 
-  turned_taken : (s : Slot) → (taken now x c s).turned ≡ c.turned + one (not (found s))
-  turned_taken (At i) = sym (add-zero c.turned)
-  turned_taken Nowhere = refl
+  turned_taken : (s : Option ℕ) → (taken now x c s).turned ≡ c.turned + one (not (found s))
+  turned_taken (Some i) = sym (add-zero c.turned)
+  turned_taken None = refl
 
-  turned_renewed : (s : Slot) → (renewed now x c s).turned ≡ c.turned + one (not (found s) && not (found (free_slot now c)))
-  turned_renewed (At i) = sym (add-zero c.turned)
-  turned_renewed Nowhere = turned_taken (free_slot now c)
+  turned_renewed : (s : Option ℕ) → (renewed now x c s).turned ≡ c.turned + one (not (found s) && not (found (free_slot now c)))
+  turned_renewed (Some i) = sym (add-zero c.turned)
+  turned_renewed None = turned_taken (free_slot now c)
 
   turned_after : (after_rule1 now x c).turned ≡ c.turned + one (not (ltb 768 (length x.rdata)) && (not (eqb x.ttl 0) && (not (found (equal_slot now x c)) && not (found (free_slot now c)))))
   unfolding after_rule1 rule23
@@ -61,17 +60,17 @@ module _ (now : ℕ) (x : Record) (c : Cache) where
       go false true = turned_goodbye (equal_slot now x c) ∙ sym (add-zero c.turned)
       go false false = turned_renewed (equal_slot now x c)
 
-  passed_goodbye : (s : Slot) → (goodbye now c s).passed ≡ c.passed
-  passed_goodbye (At i) = refl
-  passed_goodbye Nowhere = refl
+  passed_goodbye : (s : Option ℕ) → (goodbye now c s).passed ≡ c.passed
+  passed_goodbye (Some i) = refl
+  passed_goodbye None = refl
 
-  passed_taken : (s : Slot) → (taken now x c s).passed ≡ c.passed
-  passed_taken (At i) = refl
-  passed_taken Nowhere = refl
+  passed_taken : (s : Option ℕ) → (taken now x c s).passed ≡ c.passed
+  passed_taken (Some i) = refl
+  passed_taken None = refl
 
-  passed_renewed : (s : Slot) → (renewed now x c s).passed ≡ c.passed
-  passed_renewed (At i) = refl
-  passed_renewed Nowhere = passed_taken (free_slot now c)
+  passed_renewed : (s : Option ℕ) → (renewed now x c s).passed ≡ c.passed
+  passed_renewed (Some i) = refl
+  passed_renewed None = passed_taken (free_slot now c)
 
   passed_after : (after_rule1 now x c).passed ≡ c.passed + one (ltb 768 (length x.rdata))
   unfolding after_rule1 rule23
@@ -90,7 +89,7 @@ turned_exactly now x c = go (is_cached x)
     equal_is = ap found (rule1-equal now x c) ∙ equal_any now x c
 
     free_is : not (found (free_slot now (rule1 now x c))) ≡ all_live now c
-    free_is = ap (λ (s : Slot). not (found s)) (rule1-free now x c) ∙ ap not (free_any now c)
+    free_is = ap (λ (s : Option ℕ). not (found s)) (rule1-free now x c) ∙ ap not (free_any now c)
 
     go : (b : Bool) → (cond b (after_rule1 now x (rule1 now x c)) c).turned ≡ c.turned + one (b && (not (ltb 768 (length x.rdata)) && (not (eqb x.ttl 0) && (not (has_equal now x c) && all_live now c))))
     go true =

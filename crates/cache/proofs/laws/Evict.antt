@@ -1,4 +1,5 @@
 -- Theorem: no live entry is ever evicted. Assumes nothing.
+use Rattle.std.proofs.Common.{None, Option, Some}
 use mathlib.Core.Path.{◌≡◌, refl, sym, ap, subst, ◌∙◌}
 use mathlib.Core.List.{List, [], ◌∷◌, ◌++◌}
 use mathlib.Core.Bool.{Bool, true, false, cond}
@@ -14,8 +15,6 @@ use Rattle.wire.specs.message.Layout.{Reads, read, refused, message_at}
 use Rattle.cache.specs.entries.Entries.{slot_of, is_live, soon, refreshed}
 use Rattle.cache.specs.entries.Cache.{Cache, at_start, is_cached, rule1, goodbye, slot_for, taken, renewed, equal_slot, free_slot, rule23, after_rule1, take_record, take_records, take_message, take_read, take_refusal, take_in}
 use Rattle.cache.specs.declared.entries.Entry.{Entry}
-use Rattle.cache.specs.declared.entries.Slot.{Slot}
-use Rattle.cache.specs.declared.entries.Slot.TheVariants.{At, Nowhere}
 use Rattle.cache.specs.laws.Slots.{entry_at}
 use Rattle.cache.specs.laws.Evict.{Stays, NeverEvicted}
 use Rattle.cache.proofs.entries.Shape.{rule1-shape, record_shape}
@@ -43,24 +42,24 @@ made now c d i e h t o r b l =
     }
 
 -- only a slot that is free is written
-store-after : (now : ℕ) (x : Record) (c : Cache) → ((after_rule1 now x c).store ≡ c.store) ⊎ ((j : ℕ) × ((free_slot now c ≡ At j) × ((after_rule1 now x c).store ≡ sets c.store (1024 * j) (slot_for x))))
+store-after : (now : ℕ) (x : Record) (c : Cache) → ((after_rule1 now x c).store ≡ c.store) ⊎ ((j : ℕ) × ((free_slot now c ≡ Some j) × ((after_rule1 now x c).store ≡ sets c.store (1024 * j) (slot_for x))))
 unfolding after_rule1 rule23
 store-after now x c = go (ltb 768 (length x.rdata)) (eqb x.ttl 0)
   where
-    of_goodbye : (s : Slot) → (goodbye now c s).store ≡ c.store
-    of_goodbye (At j) = refl
-    of_goodbye Nowhere = refl
+    of_goodbye : (s : Option ℕ) → (goodbye now c s).store ≡ c.store
+    of_goodbye (Some j) = refl
+    of_goodbye None = refl
 
-    of_taken : (s : Slot) → free_slot now c ≡ s → ((taken now x c s).store ≡ c.store) ⊎ ((j : ℕ) × ((free_slot now c ≡ At j) × ((taken now x c s).store ≡ sets c.store (1024 * j) (slot_for x))))
-    of_taken (At j) f = inr (j, (f, refl))
-    of_taken Nowhere f = inl refl
+    of_taken : (s : Option ℕ) → free_slot now c ≡ s → ((taken now x c s).store ≡ c.store) ⊎ ((j : ℕ) × ((free_slot now c ≡ Some j) × ((taken now x c s).store ≡ sets c.store (1024 * j) (slot_for x))))
+    of_taken (Some j) f = inr (j, (f, refl))
+    of_taken None f = inl refl
 
-    of_renewed : (s : Slot) → ((renewed now x c s).store ≡ c.store) ⊎ ((j : ℕ) × ((free_slot now c ≡ At j) × ((renewed now x c s).store ≡ sets c.store (1024 * j) (slot_for x))))
-    of_renewed (At j) = inl refl
-    of_renewed Nowhere = of_taken (free_slot now c) refl
+    of_renewed : (s : Option ℕ) → ((renewed now x c s).store ≡ c.store) ⊎ ((j : ℕ) × ((free_slot now c ≡ Some j) × ((renewed now x c s).store ≡ sets c.store (1024 * j) (slot_for x))))
+    of_renewed (Some j) = inl refl
+    of_renewed None = of_taken (free_slot now c) refl
 
     go : (a b : Bool) → ((cond a (record { entries = c.entries; store = c.store; turned = c.turned; passed = c.passed + 1 }) (cond b (goodbye now c (equal_slot now x c)) (renewed now x c (equal_slot now x c)))).store ≡ c.store)
-        ⊎ ((j : ℕ) × ((free_slot now c ≡ At j) × ((cond a (record { entries = c.entries; store = c.store; turned = c.turned; passed = c.passed + 1 }) (cond b (goodbye now c (equal_slot now x c)) (renewed now x c (equal_slot now x c)))).store ≡ sets c.store (1024 * j) (slot_for x))))
+        ⊎ ((j : ℕ) × ((free_slot now c ≡ Some j) × ((cond a (record { entries = c.entries; store = c.store; turned = c.turned; passed = c.passed + 1 }) (cond b (goodbye now c (equal_slot now x c)) (renewed now x c (equal_slot now x c)))).store ≡ sets c.store (1024 * j) (slot_for x))))
     go true b = inl refl
     go false true = inl (of_goodbye (equal_slot now x c))
     go false false = of_renewed (equal_slot now x c)
@@ -71,7 +70,7 @@ still n zero z = absurd (z refl)
 still n (suc t) z = omega arith
 
 module _ (now : ℕ) (x : Record) (c : Cache) (i : ℕ) (h : i < length c.entries) (l : is_live now (entry_at c i) ≡ true) where
-  not_free : (j : ℕ) → free_slot now c ≡ At j → j ≡ i → ⊥
+  not_free : (j : ℕ) → free_slot now c ≡ Some j → j ≡ i → ⊥
   not_free j f e =
       let dead : is_live now (entry_at c i) ≡ false = ap (λ (k : ℕ). is_live now (entry_at c k)) (sym e) ∙ (free_dead now c j f).1 in
       let z : ◌≡◌ {A = ℕ} 0 1 = cc in omega arith
@@ -79,7 +78,7 @@ module _ (now : ℕ) (x : Record) (c : Cache) (i : ℕ) (h : i < length c.entrie
   bytes_after_lem : slot_of (after_rule1 now x c).store i ≡ slot_of c.store i
   bytes_after_lem = go (store-after now x c)
     where
-      go : ((after_rule1 now x c).store ≡ c.store) ⊎ ((j : ℕ) × ((free_slot now c ≡ At j) × ((after_rule1 now x c).store ≡ sets c.store (1024 * j) (slot_for x)))) → slot_of (after_rule1 now x c).store i ≡ slot_of c.store i
+      go : ((after_rule1 now x c).store ≡ c.store) ⊎ ((j : ℕ) × ((free_slot now c ≡ Some j) × ((after_rule1 now x c).store ≡ sets c.store (1024 * j) (slot_for x)))) → slot_of (after_rule1 now x c).store i ≡ slot_of c.store i
       go (inl k) = ap (λ (s : List ℕ). slot_of s i) k
       go (inr k) = ap (λ (s : List ℕ). slot_of s i) k.1.1 ∙ slot-other c.store k.0 i x (not_free k.0 k.1.0)
 

@@ -1,4 +1,5 @@
 -- Theorems on the cache flush bit and on goodbyes (RFC 6762, 10.2 and 10.1). Assumes nothing.
+use Rattle.std.proofs.Common.{Some}
 use mathlib.Core.Path.{◌≡◌, refl, sym, ap, ◌∙◌}
 use mathlib.Core.List.{List}
 use mathlib.Core.Bool.{Bool, true, false, cond, not}
@@ -13,7 +14,6 @@ use Rattle.wire.specs.message.Message.{Record}
 use Rattle.cache.specs.entries.Entries.{blank, is_live, is_free, is_of, live_of, holds, soon}
 use Rattle.cache.specs.entries.Cache.{Cache, is_cached, rule1, goodbye, equal_slot, free_slot, rule23, after_rule1, take_record}
 use Rattle.cache.specs.declared.entries.Entry.{Entry}
-use Rattle.cache.specs.declared.entries.Slot.TheVariants.{At}
 use Rattle.cache.specs.laws.Slots.{entry_at}
 use Rattle.cache.specs.laws.Flush.{FlushDone, GoodbyeDone}
 use Rattle.cache.proofs.entries.Searches.{found_at}
@@ -27,12 +27,12 @@ unfolding take_record
 ruled now x c k = ap (λ (b : Bool). cond b (after_rule1 now x (rule1 now x c)) c) k
 
 -- what the two searches say of an entry
-pub equal_holds : (now : ℕ) (x : Record) (c : Cache) (i : ℕ) → equal_slot now x c ≡ At i
+pub equal_holds : (now : ℕ) (x : Record) (c : Cache) (i : ℕ) → equal_slot now x c ≡ Some i
     → (i < length c.entries) × (holds now c.store x.owner x.rtype x.rdata i (entry_at c i) ≡ true)
 unfolding equal_slot
 equal_holds now x c i h = found_at (holds now c.store x.owner x.rtype x.rdata) c.entries i h
 
-pub free_dead : (now : ℕ) (c : Cache) (i : ℕ) → free_slot now c ≡ At i → (i < length c.entries) × (is_live now (entry_at c i) ≡ false)
+pub free_dead : (now : ℕ) (c : Cache) (i : ℕ) → free_slot now c ≡ Some i → (i < length c.entries) × (is_live now (entry_at c i) ≡ false)
 unfolding free_slot is_free
 free_dead now c i h = let k = found_at (is_free now) c.entries i h in (k.0, flip (is_live now (entry_at c i)) k.1)
   where
@@ -74,7 +74,7 @@ unfolding after_rule1 rule23
 goodbye-done now x c cached z fits i k =
     let c₁ = rule1 now x c in
     let there : i < length c₁.entries = omega (arith, (rule1-shape now x c).entries, (equal_holds now x c i k).0) in
-    let after : after_rule1 now x c₁ ≡ goodbye now c₁ (At i) =
+    let after : after_rule1 now x c₁ ≡ goodbye now c₁ (Some i) =
     simp (le-ltb _ _ fits, eq-eqb _ _ z) (ap (goodbye now c₁) (rule1-equal now x c ∙ k)) in
     let is : entry_at (take_record now x c) i ≡ soon now (entry_at c₁ i) =
     ap (λ (d : Cache). entry_at d i) (ruled now x c cached ∙ after) ∙ get_or-set_same c₁.entries i (soon now (entry_at c₁ i)) blank there in

@@ -1,4 +1,5 @@
 -- Theorem: a record that was taken is found until its entry expires, right after the rules for it. Assumes nothing.
+use Rattle.std.proofs.Common.{None, Option, Some}
 use mathlib.Core.Path.{◌≡◌, refl, sym, ap, subst, ◌∙◌}
 use mathlib.Core.List.{List}
 use mathlib.Core.Bool.{true, ◌&&◌}
@@ -16,8 +17,6 @@ use Rattle.wire.specs.message.Message.{Record}
 use Rattle.cache.specs.entries.Entries.{blank, rdata_held, is_live, is_of, live_of, matches, holds, refreshed}
 use Rattle.cache.specs.entries.Cache.{Cache, rule1, entry_for, slot_for, taken, renewed, equal_slot, free_slot, rule23, after_rule1, look_in}
 use Rattle.cache.specs.declared.entries.Entry.{Entry}
-use Rattle.cache.specs.declared.entries.Slot.{Slot}
-use Rattle.cache.specs.declared.entries.Slot.TheVariants.{At, Nowhere}
 use Rattle.cache.specs.laws.Slots.{entry_at}
 use Rattle.cache.specs.laws.Found.{goes_to, Entered, TakenFound}
 use Rattle.cache.proofs.entries.Searches.{lowest-here, from-slot}
@@ -28,7 +27,7 @@ use Rattle.cache.proofs.laws.Steps.{rule1-equal, rule1-free}
 use Rattle.cache.proofs.laws.Flush.{ruled, equal_holds, free_dead, live_first}
 
 -- a live entry of a name and type is found by a lookup from its slot on
-pub look-here : (t : ℕ) (es : List Entry) (store name : List ℕ) (rtype i : ℕ) → i < length es → is_live t (get_or es i blank) ≡ true → is_of store name rtype i (get_or es i blank) ≡ true → look_in t es store name rtype i ≡ At i
+pub look-here : (t : ℕ) (es : List Entry) (store name : List ℕ) (rtype i : ℕ) → i < length es → is_live t (get_or es i blank) ≡ true → is_of store name rtype i (get_or es i blank) ≡ true → look_in t es store name rtype i ≡ Some i
 unfolding look_in
 look-here t es store name rtype i h l o =
     sym (lowest-here (matches t store name rtype i) es i (from-slot t store name rtype i es) h
@@ -60,26 +59,26 @@ module _ (now : ℕ) (x : Record) (c : Cache) (i : ℕ) (owner : length x.owner 
         found = λ t l. look-here t d.entries d.store x.owner x.rtype i h (lt-ltb t (entry_at d i).expiry l) (ap (is_of d.store x.owner x.rtype i) k ∙ o);
       }
 
-  of_taken : (s : Slot) → free_slot now c ≡ s → s ≡ At i → Entered now x i (taken now x c s)
-  of_taken (At j) f e =
+  of_taken : (s : Option ℕ) → free_slot now c ≡ s → s ≡ Some i → Entered now x i (taken now x c s)
+  of_taken (Some j) f e =
       let same : j ≡ i = cc in
       let h : i < length c.entries = (free_dead now c i (f ∙ e)).0 in
-      let at_i : Entered now x i (taken now x c (At i)) =
-      of_entry (taken now x c (At i)) (entry_for now x) (omega (arith, length-set c.entries i (entry_for now x))) (get_or-set_same c.entries i (entry_for now x) blank h) refl refl refl
+      let at_i : Entered now x i (taken now x c (Some i)) =
+      of_entry (taken now x c (Some i)) (entry_for now x) (omega (arith, length-set c.entries i (entry_for now x))) (get_or-set_same c.entries i (entry_for now x) blank h) refl refl refl
       (of_fresh now x c.store i owner rdata (omega arith)) in
-      subst (λ (k : ℕ). Entered now x i (taken now x c (At k))) (sym same) at_i
-  of_taken Nowhere f e = let z : ◌≡◌ {A = ℕ} 0 1 = cc in absurd (omega arith)
+      subst (λ (k : ℕ). Entered now x i (taken now x c (Some k))) (sym same) at_i
+  of_taken None f e = let z : ◌≡◌ {A = ℕ} 0 1 = cc in absurd (omega arith)
 
-  of_renewed : (s : Slot) → equal_slot now x c ≡ s → goes_to now c s ≡ At i → Entered now x i (renewed now x c s)
-  of_renewed (At j) f e =
+  of_renewed : (s : Option ℕ) → equal_slot now x c ≡ s → goes_to now c s ≡ Some i → Entered now x i (renewed now x c s)
+  of_renewed (Some j) f e =
       let same : j ≡ i = cc in
       let k = equal_holds now x c i (f ∙ e) in
-      let at_i : Entered now x i (renewed now x c (At i)) =
-      of_entry (renewed now x c (At i)) (refreshed now x.ttl (entry_at c i)) (omega (arith, length-set c.entries i (refreshed now x.ttl (entry_at c i)), k.0))
+      let at_i : Entered now x i (renewed now x c (Some i)) =
+      of_entry (renewed now x c (Some i)) (refreshed now x.ttl (entry_at c i)) (omega (arith, length-set c.entries i (refreshed now x.ttl (entry_at c i)), k.0))
       (get_or-set_same c.entries i (refreshed now x.ttl (entry_at c i)) blank k.0) refl refl refl
       (of_again now x.ttl c.store x.owner x.rtype i (entry_at c i) ∙ holds_of now c.store x.owner x.rtype x.rdata i (entry_at c i) k.1) in
-      subst (λ (m : ℕ). Entered now x i (renewed now x c (At m))) (sym same) at_i
-  of_renewed Nowhere f e = of_taken (free_slot now c) refl e
+      subst (λ (m : ℕ). Entered now x i (renewed now x c (Some m))) (sym same) at_i
+  of_renewed None f e = of_taken (free_slot now c) refl e
 
 pub taken-found : TakenFound
 unfolding after_rule1 rule23
@@ -87,9 +86,9 @@ taken-found now x c i owner rdata slots cached z k =
     let c₁ = rule1 now x c in
     let room : 1024 * length c₁.entries ≤ length c₁.store = omega (arith, (rule1-shape now x c).entries, (rule1-shape now x c).store) in
     let after : after_rule1 now x c₁ ≡ renewed now x c₁ (equal_slot now x c₁) = simp (le-ltb _ _ rdata, ne_eqb _ _ z) in
-    let goes : goes_to now c₁ (equal_slot now x c₁) ≡ At i = ap (goes_to now c₁) (rule1-equal now x c) ∙ same (equal_slot now x c) ∙ k in
+    let goes : goes_to now c₁ (equal_slot now x c₁) ≡ Some i = ap (goes_to now c₁) (rule1-equal now x c) ∙ same (equal_slot now x c) ∙ k in
     subst (Entered now x i) (sym (ruled now x c cached ∙ after)) (of_renewed now x c₁ i owner rdata room (equal_slot now x c₁) refl goes)
   where
-    same : (s : Slot) → goes_to now (rule1 now x c) s ≡ goes_to now c s
-    same (At j) = refl
-    same Nowhere = rule1-free now x c
+    same : (s : Option ℕ) → goes_to now (rule1 now x c) s ≡ goes_to now c s
+    same (Some j) = refl
+    same None = rule1-free now x c

@@ -1,4 +1,5 @@
 -- Theorem: the order of a lookup's tests changes no answer. Assumes nothing.
+use Rattle.std.proofs.Common.{Some}
 use mathlib.Core.Path.{◌≡◌, refl, sym, ap, ◌∙◌}
 use mathlib.Core.List.{List, [], ◌∷◌}
 use mathlib.Core.Bool.{Bool, true, false, cond, not, ◌&&◌}
@@ -17,7 +18,6 @@ use Rattle.cache.specs.entries.Entries.{blank, slot_of, owner_held, is_live, is_
 use Rattle.cache.specs.entries.Tables.{lowest}
 use Rattle.cache.specs.entries.Cache.{is_size, is_store_of, look_in, look_refusal}
 use Rattle.cache.specs.declared.entries.Entry.{Entry}
-use Rattle.cache.specs.declared.entries.Slot.TheVariants.{At}
 use Rattle.cache.proofs.lookup.Refusing.{look-accepted}
 use Rattle.cache.specs.laws.Order.{matches_by_name, OrderFree}
 
@@ -58,8 +58,8 @@ module _ (now : ℕ) (store name : List ℕ) (rtype from : ℕ) where
   all i [] short room = refl
   all i (e ∷ es) short room =
       let now-and-later = (neither (too_long e) (some too_long es)).0 short in
-      ap (λ (b : Bool). cond b (At i) (lowest (matches now store name rtype from) (suc i) es)) (one i e now-and-later.0 (omega arith))
-      ∙ ap (cond (matches_by_name now store name rtype from i e) (At i)) (all (suc i) es now-and-later.1 (omega arith))
+      ap (λ (b : Bool). cond b (Some i) (lowest (matches now store name rtype from) (suc i) es)) (one i e now-and-later.0 (omega arith))
+      ∙ ap (cond (matches_by_name now store name rtype from i e) (Some i)) (all (suc i) es now-and-later.1 (omega arith))
 
 -- a lookup that is not refused has a table of entries that fit, and a store with a slot for each
 fits : (now : ℕ) (es : List Entry) (store name : List ℕ) → look_refusal now es store name ≡ 0 → (some too_long es ≡ false) × (1024 * length es ≤ length store)

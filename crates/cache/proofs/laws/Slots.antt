@@ -1,4 +1,5 @@
 -- Theorems on the slot of a record, and lemmas on slots of the store and on single entries of a table. Assumes nothing.
+use Rattle.std.proofs.Common.{Some}
 use mathlib.Core.Path.{◌≡◌, refl, sym, ap, ◌∙◌}
 use mathlib.Core.List.{List, [], ◌∷◌, ◌++◌, append_assoc}
 use mathlib.Core.Bool.{Bool, true, false, cond}
@@ -16,7 +17,6 @@ use Rattle.cache.specs.entries.Entries.{blank, slot_of}
 use Rattle.cache.specs.entries.Tables.{lowest, each}
 use Rattle.cache.specs.entries.Cache.{slot_for}
 use Rattle.cache.specs.declared.entries.Entry.{Entry}
-use Rattle.cache.specs.declared.entries.Slot.TheVariants.{At}
 use Rattle.cache.specs.laws.Slots.{OwnerBack, RdataBack, UnusedOwner, UnusedRdata}
 
 -- ---- bytes
@@ -113,4 +113,4 @@ at_each rule es i h = at-each_from rule 0 es i h ∙ ap (λ (m : ℕ). rule m (g
 pub lowest-each : (test : ℕ → Entry → Bool) (rule : ℕ → Entry → Entry) → ((j : ℕ) (e : Entry) → test j (rule j e) ≡ test j e) → (k : ℕ) (es : List Entry) → lowest test k (each rule k es) ≡ lowest test k es
 unfolding lowest each
 lowest-each test rule same k [] = refl
-lowest-each test rule same k (e ∷ es) = simp (same k e) (ap (cond (test k e) (At k)) (lowest-each test rule same (suc k) es))
+lowest-each test rule same k (e ∷ es) = simp (same k e) (ap (cond (test k e) (Some k)) (lowest-each test rule same (suc k) es))

@@ -1,4 +1,5 @@
 -- Theorem: a record that was taken is found after the whole message, until its entry expires. Assumes nothing.
+use Rattle.std.proofs.Common.{Some}
 use mathlib.Core.Path.{◌≡◌, sym, ap, subst, ◌∙◌}
 use mathlib.Core.List.{List, ◌∷◌}
 use mathlib.Core.Bool.{true, ◌&&◌}
@@ -12,7 +13,6 @@ use Rattle.wire.specs.case_folding.Fold.{same_name}
 use Rattle.wire.specs.message.Message.{Record}
 use Rattle.cache.specs.entries.Entries.{is_of, live_of, matches}
 use Rattle.cache.specs.entries.Cache.{Cache, take_record, take_records, look_in}
-use Rattle.cache.specs.declared.entries.Slot.TheVariants.{At}
 use Rattle.cache.specs.laws.Slots.{entry_at}
 use Rattle.cache.specs.laws.Found.{Entered, Remains, FoundAfter}
 use Rattle.cache.specs.laws.Evict.{Stays}
@@ -23,7 +23,7 @@ use Rattle.cache.proofs.laws.Found.{look-here, taken-found}
 use Rattle.cache.proofs.laws.Evict.{still, records-evict_none}
 
 -- what a lookup finds is of the name and type that it looks for
-of_found : (t : ℕ) (d : Cache) (name : List ℕ) (rtype i : ℕ) → look_in t d.entries d.store name rtype i ≡ At i → (i < length d.entries) × (is_of d.store name rtype i (entry_at d i) ≡ true)
+of_found : (t : ℕ) (d : Cache) (name : List ℕ) (rtype i : ℕ) → look_in t d.entries d.store name rtype i ≡ Some i → (i < length d.entries) × (is_of d.store name rtype i (entry_at d i) ≡ true)
 unfolding look_in matches
 of_found t d name rtype i k =
     let a = found_at (matches t d.store name rtype i) d.entries i k in

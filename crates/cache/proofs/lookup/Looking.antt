@@ -2,30 +2,12 @@
 use mathlib.Core.Path.{◌≡◌, sym}
 use mathlib.Core.List.{List}
 use mathlib.Core.Bool.{true, false}
-use Prim.Native.Nat.{ℕ, ◌<◌, ◌≤◌, ◌*◌}
+use Prim.Native.Nat.{ℕ}
 use lib.ListN.{length}
-use lib.Dec.{leb, eqb}
-use borrow.Author.Tests.{eq-eqb, ne_eqb, lt-leb, le-leb}
+use borrow.Author.Tests.{eq-eqb, ne_eqb}
 use Rattle.wire.specs.names.Names.{is_name}
-use Rattle.cache.specs.entries.Cache.{is_size, is_store_of}
+use Rattle.cache.specs.entries.Cache.{is_store_of}
 use Rattle.cache.specs.lookup.Answers.{looked_refusal}
-
--- sizes
-pub too_few : (n : ℕ) → n < 1 → false ≡ is_size n
-unfolding is_size
-too_few n h = sym (simp (lt-leb _ _ h))
-
-pub enough : (n : ℕ) → 1 ≤ n → leb n 512 ≡ is_size n
-unfolding is_size
-enough n h = sym (simp (le-leb _ _ h))
-
-pub no_store : (n bytes : ℕ) → is_size n ≡ false → false ≡ is_store_of n bytes
-unfolding is_store_of
-no_store n bytes h = sym (simp h)
-
-pub a-store : (n bytes : ℕ) → is_size n ≡ true → eqb bytes (1024 * n) ≡ is_store_of n bytes
-unfolding is_store_of
-a-store n bytes h = sym (simp h)
 
 -- the refusals of a lookup
 module _ (r n : ℕ) (store name : List ℕ) where

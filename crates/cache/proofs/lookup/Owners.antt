@@ -1,4 +1,5 @@
 -- What a lookup shows of the name is right of the owner that it found: as many labels, and a first one as long. Assumes nothing.
+use Rattle.std.proofs.Common.{None, Option, Some}
 use mathlib.Core.Path.{◌≡◌, refl, sym, ap, ◌∙◌}
 use mathlib.Core.List.{List, [], ◌∷◌}
 use mathlib.Core.Bool.{Bool, true, ◌&&◌}
@@ -17,8 +18,6 @@ use Rattle.cache.specs.entries.Entries.{blank, owner_held, is_live, is_of, live_
 use Rattle.cache.specs.entries.Tables.{lowest}
 use Rattle.cache.specs.entries.Cache.{is_size, is_store_of, look_refusal, look_in}
 use Rattle.cache.specs.declared.entries.Entry.{Entry}
-use Rattle.cache.specs.declared.entries.Slot.{Slot}
-use Rattle.cache.specs.declared.entries.Slot.TheVariants as s
 use Rattle.cache.specs.lookup.Answers.{looked_with, looked_of}
 use Rattle.cache.specs.declared.lookup.Met.{Met}
 use Rattle.cache.specs.declared.lookup.Looked.TheVariants as l
@@ -26,7 +25,7 @@ use Rattle.cache.proofs.entries.Searches.{found_at}
 use Rattle.cache.proofs.lookup.Refusing.{look-accepted}
 
 -- the owner that is found equals the name
-owner_same : (now : ℕ) (es : List Entry) (store name : List ℕ) (rtype from i : ℕ) → look_in now es store name rtype from ≡ s.At i
+owner_same : (now : ℕ) (es : List Entry) (store name : List ℕ) (rtype from i : ℕ) → look_in now es store name rtype from ≡ Some i
     → same_name (owner_held store i (get_or es i blank)) name ≡ true
 unfolding look_in matches live_of is_of
 owner_same now es store name rtype from i h =
@@ -38,7 +37,7 @@ owner_same now es store name rtype from i h =
     let long = ((both (eqb e.rtype rtype) (eqb e.owner (length name) && same)).0 typed).1 in
     ((both (eqb e.owner (length name)) same).0 long).1
 
-pub owner_numbers : (now : ℕ) (es : List Entry) (store name : List ℕ) (rtype from i : ℕ) → is_name name ≡ true → look_in now es store name rtype from ≡ s.At i
+pub owner_numbers : (now : ℕ) (es : List Entry) (store name : List ℕ) (rtype from i : ℕ) → is_name name ≡ true → look_in now es store name rtype from ≡ Some i
     → (labels_in name ≡ labels_in (owner_held store i (get_or es i blank))) × (first_in name ≡ first_in (owner_held store i (get_or es i blank)))
 owner_numbers now es store name rtype from i is h =
     let n = same_numbers (owner_held store i (get_or es i blank)) name is (owner_same now es store name rtype from i h) in (sym n.0, sym n.1)
@@ -49,9 +48,9 @@ pub found_numbers : (now : ℕ) (es : List Entry) (store name : List ℕ) (rtype
 unfolding looked_of
 found_numbers now es store name rtype from m h = go (look_refusal now es store name) refl (look_in now es store name rtype from) refl h
   where
-    go : (n : ℕ) → look_refusal now es store name ≡ n → (x : Slot) → look_in now es store name rtype from ≡ x → looked_with name n x ≡ l.Found m
+    go : (n : ℕ) → look_refusal now es store name ≡ n → (x : Option ℕ) → look_in now es store name rtype from ≡ x → looked_with name n x ≡ l.Found m
         → (m.labels ≡ labels_in (owner_held store m.slot (get_or es m.slot blank))) × (m.first ≡ first_in (owner_held store m.slot (get_or es m.slot blank)))
-    go zero r (s.At i) k h =
+    go zero r (Some i) k h =
         let at : m.slot ≡ i = cc in
         let labels : m.labels ≡ labels_in name = cc in
         let first : m.first ≡ first_in name = cc in
@@ -59,11 +58,11 @@ found_numbers now es store name rtype from m h = go (look_refusal now es store n
           labels ∙ n.0 ∙ ap (λ (j : ℕ). labels_in (owner_held store j (get_or es j blank))) (sym at),
           first ∙ n.1 ∙ ap (λ (j : ℕ). first_in (owner_held store j (get_or es j blank))) (sym at),
         )
-    go zero r s.Nowhere k h = let z : ◌≡◌ {A = ℕ} 0 1 = cc in absurd (omega arith)
-    go (suc n) r (s.At i) k h =
+    go zero r None k h = let z : ◌≡◌ {A = ℕ} 0 1 = cc in absurd (omega arith)
+    go (suc n) r (Some i) k h =
         let some : suc n ≡ 0 → ⊥ = λ z. omega arith in
         let e : l.Refused (suc n) ≡ l.Found m = sym (simp (ne_eqb (suc n) 0 some)) ∙ h in let z : ◌≡◌ {A = ℕ} 0 1 = cc in absurd (omega arith)
-    go (suc n) r s.Nowhere k h =
+    go (suc n) r None k h =
         let some : suc n ≡ 0 → ⊥ = λ z. omega arith in
         let e : l.Refused (suc n) ≡ l.Found m = sym (simp (ne_eqb (suc n) 0 some)) ∙ h in let z : ◌≡◌ {A = ℕ} 0 1 = cc in absurd (omega arith)
 
@@ -77,7 +76,7 @@ bytes = 1 ∷ 65 ∷ 0 ∷ replicate 1021 0
 abbrev sought : List ℕ
 sought = 1 ∷ 97 ∷ 0 ∷ []
 
-owner_witness : (is_name sought ≡ true) × (look_in 0 kept bytes sought 1 0 ≡ s.At 0)
+owner_witness : (is_name sought ≡ true) × (look_in 0 kept bytes sought 1 0 ≡ Some 0)
 unfolding labels_fill look_in lowest matches live_of is_of same_name
 owner_witness = (refl, refl)
 

@@ -11,6 +11,7 @@ use Rattle.cache.specs.entries.Entries.{heard_ahead, too_long}
 use Rattle.wire.specs.Lists.{some}
 use Rattle.wire.specs.names.Names.{is_name}
 use Rattle.wire.specs.refusals.Numbers.{first_refusal}
+use Rattle.wire.specs.declared.refusals.Refusal.{Refusal}
 use Rattle.cache.specs.entries.Cache.{is_size, bad_time, bad_table, bad_store, table_tests, entries_refusal, look_refusal}
 use Rattle.cache.specs.declared.entries.Entry.{Entry}
 
@@ -54,7 +55,7 @@ module _ (now : ℕ) (es : List Entry) where
       go false false k = absurd (omega arith)
 
 -- behind the refusals of a table come those of the call
-pub table_first : (now : ℕ) (es : List Entry) (tests : List (ℕ × Bool))
+pub table_first : (now : ℕ) (es : List Entry) (tests : List (Refusal × Bool))
     → first_refusal (table_tests now es ++ tests) ≡ cond (eqb (entries_refusal now es) 0) (first_refusal tests) (entries_refusal now es)
 unfolding entries_refusal
 table_first now es tests = go (bad_time now es) (bad_table es)

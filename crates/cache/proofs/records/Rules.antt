@@ -1,8 +1,9 @@
 -- What one record makes of a table and its store, in the code's steps, is what the rules say of it. Assumes nothing.
+use Rattle.std.proofs.Common.{None, Option, Some}
 use mathlib.Core.Path.{◌≡◌, refl, sym, ap, ap₂, ◌∙◌}
 use mathlib.Core.List.{List, [], ◌∷◌}
 use mathlib.Core.Bool.{Bool, true, false, cond, not, ◌&&◌, and-false}
-use Prim.Native.Nat.{ℕ, zero, suc, ◌+◌, ◌*◌, ◌<◌, ◌≤◌}
+use Prim.Native.Nat.{ℕ, suc, ◌+◌, ◌*◌, ◌<◌, ◌≤◌}
 use native.Mathlib.Omega.{arith}
 use lib.ListN.{length, get_or, set, drop, length-set}
 use lib.Seq.{sets, length-sets}
@@ -15,18 +16,16 @@ use Rattle.wire.proofs.rdata.Restricted.{by-content}
 use Rattle.wire.specs.message.Message.{Record, top_bit}
 use Rattle.wire.specs.message.Readable.{record_shown}
 use Rattle.wire.specs.declared.message.RecordAt.{RecordAt}
-use Rattle.wire.specs.declared.message.RecordRead.TheVariants as r
 use Rattle.wire.proofs.message.Walk.{RecordMet}
-use Rattle.cache.specs.entries.Entries.{blank, is_free, is_old, soon, flushed}
+use Rattle.cache.specs.entries.Entries.{blank, is_free, is_old, soon, flushed, refreshed}
 use Rattle.cache.specs.entries.Tables.{lowest, slot_from, each}
 use Rattle.cache.specs.entries.Cache.{Cache, with_entries, cached_as, is_cached, rule1, goodbye, taken, renewed, equal_slot, free_slot, slot_with, slot_for, rule23, after_rule1, take_record}
 use Rattle.cache.specs.declared.entries.Entry.{Entry}
-use Rattle.cache.specs.declared.entries.Slot.{Slot}
-use Rattle.cache.specs.declared.entries.Slot.TheVariants.{At, Nowhere}
 use Rattle.cache.specs.declared.records.Heard.{Heard}
 use Rattle.cache.specs.declared.records.Choice.{Choice}
-use Rattle.cache.specs.records.Heard.{heard_of, is_taken, is_flushing, is_sought, owner_in, rdata_in, may_hold, has_bytes, holds_heard, live_heard, flushed_heard, first_slot, is_filling, change, chosen_among, chosen_of}
-use Rattle.cache.specs.records.Taking.{Shows, flushed_in, equal_in, free_from, chosen_in, entry_heard, changed, changed_in, kept_in, counting, changed_cache, take_heard}
+use Rattle.cache.specs.declared.records.Choice.TheVariants.{Leave, Expire, Refresh, Fill, TurnAway, PassOver}
+use Rattle.cache.specs.records.Heard.{heard_as, is_taken, is_flushing, is_sought, owner_in, rdata_in, may_hold, has_bytes, holds_heard, live_heard, flushed_heard, first_slot, is_filling, chosen_among, chosen_of}
+use Rattle.cache.specs.records.Taking.{Shows, flushed_in, equal_in, free_from, chosen_in, entry_heard, changed_in, kept_in, counting, changed_cache, take_heard}
 use Rattle.cache.proofs.entries.Searches.{found_at}
 use Rattle.cache.proofs.entries.Shape.{length-each}
 use Rattle.cache.proofs.records.Whole.{slot-fits, live_shown, holds-shown}
@@ -37,7 +36,7 @@ use Rattle.cache.proofs.records.Seeking.{numbered, numbered_all}
 same_lowest : (a b : ℕ → Entry → Bool) → ((i : ℕ) (e : Entry) → a i e ≡ b i e) → (i : ℕ) (es : List Entry) → lowest a i es ≡ lowest b i es
 unfolding lowest
 same_lowest a b h i [] = refl
-same_lowest a b h i (e ∷ es) = ap (λ (t : Bool). cond t (At i) (lowest a (suc i) es)) (h i e) ∙ ap (cond (b i e) (At i)) (same_lowest a b h (suc i) es)
+same_lowest a b h i (e ∷ es) = ap (λ (t : Bool). cond t (Some i) (lowest a (suc i) es)) (h i e) ∙ ap (cond (b i e) (Some i)) (same_lowest a b h (suc i) es)
 
 same_each : (a b : ℕ → Entry → Entry) → ((i : ℕ) (e : Entry) → a i e ≡ b i e) → (i : ℕ) (es : List Entry) → each a i es ≡ each b i es
 unfolding each
@@ -49,11 +48,6 @@ unfolding each
 left-each a h i [] = refl
 left-each a h i (e ∷ es) = ap (λ (x : Entry). x ∷ each a (suc i) es) (h i e) ∙ ap (λ (l : List Entry). e ∷ l) (left-each a h (suc i) es)
 
-pub set_same : (es : List Entry) (i : ℕ) → set es i (get_or es i blank) ≡ es
-set_same [] i = refl
-set_same (e ∷ es) zero = refl
-set_same (e ∷ es) (suc i) = ap (λ (l : List Entry). e ∷ l) (set_same es i)
-
 -- ---- lengths
 pub flushed-length : (now : ℕ) (store slot : List ℕ) (h : Heard) (es : List Entry) → length (flushed_in now store slot h es) ≡ length es
 unfolding flushed_in
@@ -61,18 +55,21 @@ flushed-length now store slot h es = length-each (flushed_heard now store slot h
 
 pub changed-length : (now : ℕ) (h : Heard) (c : Choice) (es : List Entry) → length (changed_in now h c es) ≡ length es
 unfolding changed_in
-changed-length now h c es = length-set es c.slot (changed now h c (get_or es c.slot blank))
+changed-length now h Leave es = refl
+changed-length now h (Expire i) es = length-set es i (soon now (get_or es i blank))
+changed-length now h (Refresh i) es = length-set es i (refreshed now h.at.ttl (get_or es i blank))
+changed-length now h (Fill i) es = length-set es i (entry_heard now h)
+changed-length now h TurnAway es = refl
+changed-length now h PassOver es = refl
 
 pub kept-length : (slot : List ℕ) (h : Heard) (c : Choice) (store : List ℕ) → length (kept_in slot h c store) ≡ length store
 unfolding kept_in
-kept-length slot h c store = go (eqb c.kind 3)
-  where
-    bytes : List ℕ
-    bytes = slot_with (owner_in slot h) (rdata_in slot h)
-
-    go : (b : Bool) → length (cond b (sets store (1024 * c.slot) bytes) store) ≡ length store
-    go true = length-sets store (1024 * c.slot) bytes
-    go false = refl
+kept-length slot h Leave store = refl
+kept-length slot h (Expire i) store = refl
+kept-length slot h (Refresh i) store = refl
+kept-length slot h (Fill i) store = length-sets store (1024 * i) (slot_with (owner_in slot h) (rdata_in slot h))
+kept-length slot h TurnAway store = refl
+kept-length slot h PassOver store = refl
 
 -- rule 1 that is not for a record leaves every entry, and begins past the last
 pub flushes_none : (now : ℕ) (store slot : List ℕ) (h : Heard) (es : List Entry) → is_flushing h ≡ false → flushed_in now store slot h es ≡ es
@@ -80,40 +77,48 @@ unfolding flushed_in flushed_heard
 flushes_none now store slot h es n = left-each (flushed_heard now store slot h) (λ i e. ap (λ (b : Bool). cond (b && (live_heard now store slot h i e && is_old now e)) (soon now e) e) n) 0 es
 
 -- ---- what is chosen
-module _ (h : Heard) (n equal free : ℕ) where
-  -- its slot is one of the table
-  pub slot-within : 0 < n → (chosen_of h n equal free).slot < n
-  unfolding chosen_of
-  slot-within lt = go (is_taken h) (ltb 768 h.len) (eqb h.at.ttl 0) (ltb equal n) refl (ltb free n) refl
-    where
-      go : (t l ends a : Bool) → ltb equal n ≡ a → (b : Bool) → ltb free n ≡ b
-          → (cond t (cond l (change 5 0) (cond a (cond ends (change 1 equal) (change 2 equal)) (cond ends (change 0 0) (cond b (change 3 free) (change 4 0))))) (change 0 0)).slot < n
-      go false l ends a e b f = lt
-      go true true ends a e b f = lt
-      go true false true true e b f = ltb-true equal n e
-      go true false false true e b f = ltb-true equal n e
-      go true false true false e b f = lt
-      go true false false false e true f = ltb-true free n f
-      go true false false false e false f = lt
+-- the slot of a change is one of a table of n entries
+abbrev pub Within : Choice → ℕ → Type 0
+Within Leave n = Unit {0}
+Within (Expire i) n = i < n
+Within (Refresh i) n = i < n
+Within (Fill i) n = i < n
+Within TurnAway n = Unit {0}
+Within PassOver n = Unit {0}
 
-  -- only a record that is taken and fits a slot fills one
-  pub fills : (chosen_of h n equal free).kind ≡ 3 → (is_taken h ≡ true) × (h.len ≤ 768)
+-- only a record that is taken and fits a slot fills one
+abbrev pub Fitting : Heard → Choice → Type 0
+Fitting h Leave = Unit {0}
+Fitting h (Expire i) = Unit {0}
+Fitting h (Refresh i) = Unit {0}
+Fitting h (Fill i) = (is_taken h ≡ true) × (h.len ≤ 768)
+Fitting h TurnAway = Unit {0}
+Fitting h PassOver = Unit {0}
+
+module _ (h : Heard) (n equal free : ℕ) where
+  chosen_good : Within (chosen_of h n equal free) n × Fitting h (chosen_of h n equal free)
   unfolding chosen_of
-  fills k = go (is_taken h) refl (ltb 768 h.len) refl k
+  chosen_good = go (is_taken h) refl (ltb 768 h.len) refl (eqb h.at.ttl 0) (ltb equal n) refl (ltb free n) refl
     where
-      go : (t : Bool) → is_taken h ≡ t → (l : Bool) → ltb 768 h.len ≡ l → (cond t (cond l (change 5 0) (chosen_among (eqb h.at.ttl 0) n equal free)) (change 0 0)).kind ≡ 3 → (is_taken h ≡ true) × (h.len ≤ 768)
-      go false e l f z = absurd (let y : ◌≡◌ {A = ℕ} 0 3 = z in omega (arith, y))
-      go true e true f z = absurd (let y : ◌≡◌ {A = ℕ} 5 3 = z in omega (arith, y))
-      go true e false f z = (e, ltb-false 768 h.len f)
+      go : (t : Bool) → is_taken h ≡ t → (l : Bool) → ltb 768 h.len ≡ l → (ends a : Bool) → ltb equal n ≡ a → (b : Bool) → ltb free n ≡ b
+          → Within (cond t (cond l PassOver (cond a (cond ends (Expire equal) (Refresh equal)) (cond ends Leave (cond b (Fill free) TurnAway)))) Leave) n
+          × Fitting h (cond t (cond l PassOver (cond a (cond ends (Expire equal) (Refresh equal)) (cond ends Leave (cond b (Fill free) TurnAway)))) Leave)
+      go false u l v ends a e b f = (tt, tt)
+      go true u true v ends a e b f = (tt, tt)
+      go true u false v true true e b f = (ltb-true equal n e, tt)
+      go true u false v false true e b f = (ltb-true equal n e, tt)
+      go true u false v true false e b f = (tt, tt)
+      go true u false v false false e true f = (ltb-true free n f, (u, ltb-false 768 h.len v))
+      go true u false v false false e false f = (tt, tt)
 
 module _ (now : ℕ) (store slot : List ℕ) (h : Heard) (es : List Entry) where
-  pub chosen_within : 0 < length es → (chosen_in now store slot h es).slot < length es
+  pub chosen_within : Within (chosen_in now store slot h es) (length es)
   unfolding chosen_in
-  chosen_within lt = slot-within h (length es) _ _ lt
+  chosen_within = (chosen_good h (length es) _ _).0
 
-  pub chosen_fills : (chosen_in now store slot h es).kind ≡ 3 → (is_taken h ≡ true) × (h.len ≤ 768)
+  pub chosen_fills : Fitting h (chosen_in now store slot h es)
   unfolding chosen_in
-  chosen_fills k = fills h (length es) _ _ k
+  chosen_fills = (chosen_good h (length es) _ _).1
 
 -- ---- an entry that may not hold a record does not, and one that may does where its bytes are the record's
 pub may_wider : (now : ℕ) (store slot : List ℕ) (h : Heard) (i : ℕ) (e : Entry) → may_hold now h e ≡ false → holds_heard now store slot h i e ≡ false
@@ -130,14 +135,14 @@ not-flushing : (h : Heard) → is_taken h ≡ false → is_flushing h ≡ false
 unfolding is_flushing
 not-flushing h n = ap (λ (b : Bool). top_bit h.at.class && b) n ∙ and-false (top_bit h.at.class)
 
-chosen_none : (now : ℕ) (store slot : List ℕ) (h : Heard) (es : List Entry) → is_taken h ≡ false → chosen_in now store slot h es ≡ change 0 0
+chosen_none : (now : ℕ) (store slot : List ℕ) (h : Heard) (es : List Entry) → is_taken h ≡ false → chosen_in now store slot h es ≡ Leave
 unfolding chosen_in chosen_of
 chosen_none now store slot h es n = simp n
 
 -- a change of no entry
-same_cache : (now : ℕ) (slot : List ℕ) (h : Heard) (c : Cache) → changed_cache now slot h (change 0 0) c ≡ c
-unfolding changed_in changed kept_in counting
-same_cache now slot h c = ap (λ (es : List Entry). with_entries es c) (set_same c.entries 0)
+same_cache : (now : ℕ) (slot : List ℕ) (h : Heard) (c : Cache) → changed_cache now slot h Leave c ≡ c
+unfolding changed_in kept_in counting
+same_cache now slot h c = refl
 
 pub left_alone_lem : (now : ℕ) (slot : List ℕ) (h : Heard) (c : Cache) → is_taken h ≡ false → take_heard now slot h c ≡ c
 unfolding take_heard
@@ -146,32 +151,28 @@ left_alone_lem now slot h c none =
     ∙ same_cache now slot h (with_entries (flushed_in now c.store slot h c.entries) c)
     ∙ ap (λ (es : List Entry). with_entries es c) (flushes_none now c.store slot h c.entries (not-flushing h none))
 
-pub not-whole : (h : Heard) → h.whole ≡ false → is_taken h ≡ false
-unfolding is_taken
-not-whole h n = simp n
-
 -- ---- a record that the rules are for
-over : (now : ℕ) (store slot : List ℕ) (h : Heard) (es : List Entry) → is_taken h ≡ true → ltb 768 h.len ≡ true → chosen_in now store slot h es ≡ change 5 0
+over : (now : ℕ) (store slot : List ℕ) (h : Heard) (es : List Entry) → is_taken h ≡ true → ltb 768 h.len ≡ true → chosen_in now store slot h es ≡ PassOver
 unfolding chosen_in chosen_of
 over now store slot h es t l = simp (t, l)
 
 -- the choice by slots: the lowest live equal entry, else the lowest not live
-abbrev chosen_free : Slot → Choice
-chosen_free (At i) = change 3 i
-chosen_free Nowhere = change 4 0
+abbrev chosen_free : Option ℕ → Choice
+chosen_free (Some i) = Fill i
+chosen_free None = TurnAway
 
-abbrev chosen_slot_lem : Bool → Slot → Slot → Choice
-chosen_slot_lem ends (At i) free = cond ends (change 1 i) (change 2 i)
-chosen_slot_lem ends Nowhere free = cond ends (change 0 0) (chosen_free free)
+abbrev chosen_slot_lem : Bool → Option ℕ → Option ℕ → Choice
+chosen_slot_lem ends (Some i) free = cond ends (Expire i) (Refresh i)
+chosen_slot_lem ends None free = cond ends Leave (chosen_free free)
 
 module _ (now : ℕ) (store slot : List ℕ) (h : Heard) (es : List Entry) (t : is_taken h ≡ true) (l : ltb 768 h.len ≡ false) where
   abbrev n : ℕ
   n = length es
 
-  abbrev equal : Slot
+  abbrev equal : Option ℕ
   equal = lowest (holds_heard now store slot h) 0 es
 
-  abbrev free : Slot
+  abbrev free : Option ℕ
   free = lowest (is_free now) 0 es
 
   sought : is_sought h ≡ true
@@ -194,25 +195,25 @@ module _ (now : ℕ) (store slot : List ℕ) (h : Heard) (es : List Entry) (t : 
       let all : (is_sought h && (leb n n && not (eqb h.at.ttl 0))) ≡ true = simp (sought, le-leb n n (omega arith), z) in
       ap (λ (b : Bool). first_slot b n) all
 
-  by_number : (x : ℕ) (a : Slot) → ((i : ℕ) → a ≡ At i → i < n) → x ≡ numbered (holds_heard now store slot h) n a → (ends : Bool) → eqb h.at.ttl 0 ≡ ends
+  by_number : (x : ℕ) (a : Option ℕ) → ((i : ℕ) → a ≡ Some i → i < n) → x ≡ numbered (holds_heard now store slot h) n a → (ends : Bool) → eqb h.at.ttl 0 ≡ ends
       → chosen_among ends n x (free_from now es (first_slot (is_filling h n x) n)) ≡ chosen_slot_lem ends a free
-  by_number x (At i) k is ends e = ap (λ (y : ℕ). chosen_among ends n y (free_from now es (first_slot (is_filling h n y) n))) is ∙ simp (lt-ltb i n (k i refl))
-  by_number x Nowhere k is true e = ap (λ (y : ℕ). chosen_among true n y (free_from now es (first_slot (is_filling h n y) n))) is ∙ simp (le-ltb n n (omega arith))
-  by_number x Nowhere k is false e =
+  by_number x (Some i) k is ends e = ap (λ (y : ℕ). chosen_among ends n y (free_from now es (first_slot (is_filling h n y) n))) is ∙ simp (lt-ltb i n (k i refl))
+  by_number x None k is true e = ap (λ (y : ℕ). chosen_among true n y (free_from now es (first_slot (is_filling h n y) n))) is ∙ simp (le-ltb n n (omega arith))
+  by_number x None k is false e =
       ap (λ (y : ℕ). chosen_among false n y (free_from now es (first_slot (is_filling h n y) n))) is
-      ∙ simp (le-ltb n n (omega arith)) (ap (λ (y : ℕ). cond (ltb y n) (change 3 y) (change 4 0)) (free_number (first_slot (is_filling h n n) n) (is-filling e)) ∙ of_free free (λ i is. (found_at (is_free now) es i is).0))
+      ∙ simp (le-ltb n n (omega arith)) (ap (λ (y : ℕ). cond (ltb y n) (Fill y) TurnAway) (free_number (first_slot (is_filling h n n) n) (is-filling e)) ∙ of_free free (λ i is. (found_at (is_free now) es i is).0))
     where
-      of_free : (a : Slot) → ((i : ℕ) → a ≡ At i → i < n) → cond (ltb (numbered (is_free now) n a) n) (change 3 (numbered (is_free now) n a)) (change 4 0) ≡ chosen_free a
-      of_free (At i) k = simp (lt-ltb i n (k i refl))
-      of_free Nowhere k = simp (le-ltb n n (omega arith))
+      of_free : (a : Option ℕ) → ((i : ℕ) → a ≡ Some i → i < n) → cond (ltb (numbered (is_free now) n a) n) (Fill (numbered (is_free now) n a)) TurnAway ≡ chosen_free a
+      of_free (Some i) k = simp (lt-ltb i n (k i refl))
+      of_free None k = simp (le-ltb n n (omega arith))
 
   chosen_slot : chosen_in now store slot h es ≡ chosen_slot_lem (eqb h.at.ttl 0) equal free
   unfolding chosen_in chosen_of
   chosen_slot = simp (t, l) (by_number (equal_in now store slot h es) equal (λ i is. (found_at (holds_heard now store slot h) es i is).0) equal_number (eqb h.at.ttl 0) refl)
 
-module _ (now : ℕ) (p : List ℕ) (at : ℕ) (f : RecordAt) (met : RecordMet p at f) (slot : List ℕ) (shows : Shows p (heard_of p (r.Found f)) slot) where
+module _ (now : ℕ) (p : List ℕ) (at : ℕ) (f : RecordAt) (met : RecordMet p at f) (slot : List ℕ) (shows : Shows p (heard_as p f) slot) where
   abbrev h : Heard
-  h = heard_of p (r.Found f)
+  h = heard_as p f
 
   abbrev x : Record
   x = record_shown p f
@@ -221,36 +222,36 @@ module _ (now : ℕ) (p : List ℕ) (at : ℕ) (f : RecordAt) (met : RecordMet p
   abbrev bytes : List ℕ
   bytes = slot_with (owner_in slot h) (rdata_in slot h)
 
-  fills_slot : bytes ≡ slot_for x → (c : Cache) (i : ℕ) → changed_cache now slot h (change 3 i) c ≡ taken now x c (At i)
-  unfolding changed_in changed kept_in counting
+  fills_slot : bytes ≡ slot_for x → (c : Cache) (i : ℕ) → changed_cache now slot h (Fill i) c ≡ taken now x c (Some i)
+  unfolding changed_in kept_in counting
   fills_slot is c i =
       ap₂ (λ (n : ℕ) (l : List ℕ). record { entries = set c.entries i (record { rtype = f.rtype; owner = n; rdata = h.len; received = now; expiry = (entry_heard now h).expiry; ttl = f.ttl }); store = sets c.store (1024 * i) l; turned = c.turned; passed = c.passed }) met.span is
 
-  turns_away : (c : Cache) → changed_cache now slot h (change 4 0) c ≡ taken now x c Nowhere
-  unfolding changed_in changed kept_in counting
-  turns_away c = ap (λ (es : List Entry). record { entries = es; store = c.store; turned = c.turned + 1; passed = c.passed }) (set_same c.entries 0)
+  turns_away : (c : Cache) → changed_cache now slot h TurnAway c ≡ taken now x c None
+  unfolding changed_in kept_in counting
+  turns_away c = refl
 
-  passes_over : (c : Cache) → changed_cache now slot h (change 5 0) c ≡ record { entries = c.entries; store = c.store; turned = c.turned; passed = c.passed + 1 }
-  unfolding changed_in changed kept_in counting
-  passes_over c = ap (λ (es : List Entry). record { entries = es; store = c.store; turned = c.turned; passed = c.passed + 1 }) (set_same c.entries 0)
+  passes_over : (c : Cache) → changed_cache now slot h PassOver c ≡ record { entries = c.entries; store = c.store; turned = c.turned; passed = c.passed + 1 }
+  unfolding changed_in kept_in counting
+  passes_over c = refl
 
-  expires : (c : Cache) (i : ℕ) → changed_cache now slot h (change 1 i) c ≡ goodbye now c (At i)
-  unfolding changed_in changed kept_in counting
+  expires : (c : Cache) (i : ℕ) → changed_cache now slot h (Expire i) c ≡ goodbye now c (Some i)
+  unfolding changed_in kept_in counting
   expires c i = refl
 
-  refreshes : (c : Cache) (i : ℕ) → changed_cache now slot h (change 2 i) c ≡ renewed now x c (At i)
-  unfolding changed_in changed kept_in counting
+  refreshes : (c : Cache) (i : ℕ) → changed_cache now slot h (Refresh i) c ≡ renewed now x c (Some i)
+  unfolding changed_in kept_in counting
   refreshes c i = refl
 
-  by-free : bytes ≡ slot_for x → (c : Cache) (s : Slot) → changed_cache now slot h (chosen_free s) c ≡ taken now x c s
-  by-free is c (At i) = fills_slot is c i
-  by-free is c Nowhere = turns_away c
+  by-free : bytes ≡ slot_for x → (c : Cache) (s : Option ℕ) → changed_cache now slot h (chosen_free s) c ≡ taken now x c s
+  by-free is c (Some i) = fills_slot is c i
+  by-free is c None = turns_away c
 
-  by-slot : bytes ≡ slot_for x → (c : Cache) (ends : Bool) (a : Slot) → changed_cache now slot h (chosen_slot_lem ends a (free_slot now c)) c ≡ cond ends (goodbye now c a) (renewed now x c a)
-  by-slot is c true (At i) = expires c i
-  by-slot is c false (At i) = refreshes c i
-  by-slot is c true Nowhere = same_cache now slot h c
-  by-slot is c false Nowhere = by-free is c (free_slot now c)
+  by-slot : bytes ≡ slot_for x → (c : Cache) (ends : Bool) (a : Option ℕ) → changed_cache now slot h (chosen_slot_lem ends a (free_slot now c)) c ≡ cond ends (goodbye now c a) (renewed now x c a)
+  by-slot is c true (Some i) = expires c i
+  by-slot is c false (Some i) = refreshes c i
+  by-slot is c true None = same_cache now slot h c
+  by-slot is c false None = by-free is c (free_slot now c)
 
   equal_is : is_taken h ≡ true → h.len ≤ 768 → (c : Cache) → lowest (holds_heard now c.store slot h) 0 c.entries ≡ equal_slot now x c
   unfolding equal_slot
@@ -271,7 +272,7 @@ module _ (now : ℕ) (p : List ℕ) (at : ℕ) (f : RecordAt) (met : RecordMet p
       go false l =
           let le : h.len ≤ 768 = ltb-false 768 h.len l in
           ap (λ (y : Choice). changed_cache now slot h y c) (chosen_slot now c.store slot h c.entries t l)
-          ∙ ap₂ (λ (a b : Slot). changed_cache now slot h (chosen_slot_lem (eqb f.ttl 0) a b) c) (equal_is t le c) (free_is c)
+          ∙ ap₂ (λ (a b : Option ℕ). changed_cache now slot h (chosen_slot_lem (eqb f.ttl 0) a b) c) (equal_is t le c) (free_is c)
           ∙ by-slot (slot-fits p at f met slot shows t le) c (eqb f.ttl 0) (equal_slot now x c)
 
   -- the form of an NSEC that was read says of which kind it is; that of another type is not asked

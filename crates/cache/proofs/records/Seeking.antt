@@ -1,9 +1,10 @@
 -- A search an entry at a time, which gives a slot as a number: it is that of the lowest entry that passes, and what fails a wider test may be stepped over.
 -- Assumes nothing.
+use Rattle.std.proofs.Common.{None, Option, Some}
 use mathlib.Core.Path.{◌≡◌, refl, sym, ap, ◌∙◌, subst}
 use mathlib.Core.List.{List, [], ◌∷◌}
 use mathlib.Core.Bool.{Bool, true, false, cond}
-use Prim.Native.Nat.{ℕ, zero, suc, ◌+◌, ◌<◌, ◌≤◌}
+use Prim.Native.Nat.{ℕ, zero, suc, ◌+◌, ◌<◌, ◌≤◌, max}
 use native.Mathlib.Nat.{add-zero, add-suc, suc-add}
 use native.Mathlib.Numerals.{add-one}
 use native.Mathlib.Omega.{arith}
@@ -13,8 +14,6 @@ use borrow.Author.Tests.{ltb-true, ltb-false}
 use Rattle.cache.specs.entries.Entries.{blank}
 use Rattle.cache.specs.entries.Tables.{lowest, slot_from}
 use Rattle.cache.specs.declared.entries.Entry.{Entry}
-use Rattle.cache.specs.declared.entries.Slot.{Slot}
-use Rattle.cache.specs.declared.entries.Slot.TheVariants.{At, Nowhere}
 use Rattle.cache.proofs.entries.Searches.{at_slot}
 
 module _ (test : ℕ → Entry → Bool) where
@@ -32,6 +31,19 @@ module _ (test : ℕ → Entry → Bool) where
     unfolding slot_from
     seek_end l = sym (rw (drop_of_length-le es l))
 
+  -- the end behind the last of a loop from a slot on, which may itself lie behind the last
+  pub seek_last : (es : List Entry) (from i k : ℕ) → k ≡ max from (length es) → length es ≤ i → (from ≤ length es → i ≤ length es)
+      → slot_from test i (drop i es) ≡ slot_from test from (drop from es) → k ≡ slot_from test from (drop from es)
+  seek_last es from i k most end last same = go (ltb (length es) from) refl
+    where
+      go : (b : Bool) → ltb (length es) from ≡ b → k ≡ slot_from test from (drop from es)
+      go true e = let lt = ltb-true (length es) from e in let at : k ≡ from = omega arith in at ∙ seek_end es from (omega arith)
+      go false e =
+          let le = ltb-false (length es) from e in
+          let done = last le in
+          let at : k ≡ i = omega arith in
+          at ∙ seek_end es i end ∙ same
+
   pub not-before : (i : ℕ) (es : List Entry) → i ≤ slot_from test i es
   unfolding slot_from
   not-before i [] = omega arith
@@ -42,9 +54,9 @@ module _ (test : ℕ → Entry → Bool) where
       go false l = omega (arith, l)
 
   -- a slot as a number, where n is none
-  abbrev pub numbered : ℕ → Slot → ℕ
-  numbered n (At i) = i
-  numbered n Nowhere = n
+  abbrev pub numbered : ℕ → Option ℕ → ℕ
+  numbered n (Some i) = i
+  numbered n None = n
 
   numbered_from : (i : ℕ) (es : List Entry) → slot_from test i es ≡ numbered (i + length es) (lowest test i es)
   unfolding slot_from lowest
@@ -52,7 +64,7 @@ module _ (test : ℕ → Entry → Bool) where
   numbered_from i (e ∷ es) = go (test i e) (numbered_from (suc i) es ∙ ap (λ (n : ℕ). numbered n (lowest test (suc i) es)) (suc-add i (length es) ∙ sym (add-suc i (length es))))
     where
       go : (b : Bool) → slot_from test (suc i) es ≡ numbered (i + suc (length es)) (lowest test (suc i) es)
-          → cond b i (slot_from test (suc i) es) ≡ numbered (i + suc (length es)) (cond b (At i) (lowest test (suc i) es))
+          → cond b i (slot_from test (suc i) es) ≡ numbered (i + suc (length es)) (cond b (Some i) (lowest test (suc i) es))
       go true rest = refl
       go false rest = rest
 

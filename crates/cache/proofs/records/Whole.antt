@@ -10,12 +10,11 @@ use Rattle.wire.specs.expansion.Equal.{same_bytes}
 use Rattle.wire.specs.message.Message.{Record}
 use Rattle.wire.specs.message.Readable.{record_shown}
 use Rattle.wire.specs.declared.message.RecordAt.{RecordAt}
-use Rattle.wire.specs.declared.message.RecordRead.TheVariants as r
 use Rattle.wire.proofs.message.Walk.{RecordMet}
 use Rattle.cache.specs.entries.Entries.{owner_held, rdata_held, is_live, is_of, live_of, holds}
 use Rattle.cache.specs.declared.entries.Entry.{Entry}
 use Rattle.cache.specs.declared.records.Heard.{Heard}
-use Rattle.cache.specs.records.Heard.{heard_of, is_taken, owner_in, rdata_in, is_of_heard, live_heard, holds_heard}
+use Rattle.cache.specs.records.Heard.{heard_as, is_taken, owner_in, rdata_in, is_of_heard, live_heard, holds_heard}
 use Rattle.cache.specs.records.Taking.{Shows}
 use Rattle.cache.specs.entries.Cache.{slot_with, slot_for}
 
@@ -25,7 +24,7 @@ module _ (p : List ℕ) (at : ℕ) (f : RecordAt) (met : RecordMet p at f) where
   shown = record_shown p f
 
   abbrev h : Heard
-  h = heard_of p (r.Found f)
+  h = heard_as p f
 
   module _ (slot : List ℕ) (shows : Shows p h slot) (taken : is_taken h ≡ true) where
     pub slot-fits : h.len ≤ 768 → slot_with (owner_in slot h) (rdata_in slot h) ≡ slot_for shown

@@ -1,6 +1,6 @@
 -- The rules of the cache (specification, 'The cache') on a table and its store, in the specification's order, and the refusals 1, 8, 4, 5 and 6.
 -- Assumes nothing: these are definitions.
-use Rattle.std.specs.Prelude.{ℕ, ◌+◌, ◌*◌, ◌^◌, List, [], ◌∷◌, ◌++◌, Bool, cond, not, ◌&&◌, ◌||◌, length, get_or, set, replicate, ltb, leb, eqb}
+use Rattle.std.specs.Prelude.{ℕ, ◌+◌, ◌*◌, ◌^◌, List, [], ◌∷◌, ◌++◌, Bool, cond, not, ◌&&◌, ◌||◌, length, get_or, set, replicate, ltb, leb, eqb, Option, Some, None}
 use Rattle.std.proofs.lemmas.List.Edits.{sets}
 use Rattle.wire.specs.Lists.{some}
 use Rattle.wire.specs.refusals.Numbers.{first_refusal}
@@ -14,8 +14,6 @@ use Rattle.wire.specs.message.Refusals.{message_tests}
 use Rattle.cache.specs.entries.Entries.{blank, is_free, matches, holds, soon, flushed, refreshed, heard_ahead, too_long}
 use Rattle.cache.specs.entries.Tables.{lowest, each}
 use Rattle.cache.specs.declared.entries.Entry.{Entry}
-use Rattle.cache.specs.declared.entries.Slot.{Slot}
-use Rattle.cache.specs.declared.entries.Slot.TheVariants.{At, Nowhere}
 
 -- "A lent table" of small entries, the byte store, and how many records of a call were turned away and passed over
 pub record Cache : Type 0 where
@@ -42,17 +40,17 @@ unfoldable pub rule1 : ℕ → Record → Cache → Cache
 rule1 now r c = cond (top_bit r.class) (with_entries (each (flushed now c.store r.owner r.rtype) 0 c.entries) c) c
 
 -- the slot of "the lowest live equal entry"
-unfoldable pub equal_slot : ℕ → Record → Cache → Slot
+unfoldable pub equal_slot : ℕ → Record → Cache → Option ℕ
 equal_slot now r c = lowest (holds now c.store r.owner r.rtype r.rdata) 0 c.entries
 
 -- the slot of "the lowest entry not live"
-unfoldable pub free_slot : ℕ → Cache → Slot
+unfoldable pub free_slot : ℕ → Cache → Option ℕ
 free_slot now c = lowest (is_free now) 0 c.entries
 
 -- 2. "TTL 0: the lowest live equal entry gets the lesser of its expiry and now plus 1,000; else nothing."
-abbrev pub goodbye : ℕ → Cache → Slot → Cache
-goodbye now c (At i) = with_entries (set c.entries i (soon now (get_or c.entries i blank))) c
-goodbye now c Nowhere = c
+abbrev pub goodbye : ℕ → Cache → Option ℕ → Cache
+goodbye now c (Some i) = with_entries (set c.entries i (soon now (get_or c.entries i blank))) c
+goodbye now c None = c
 
 -- the entry of a record that is taken now
 abbrev pub entry_for : ℕ → Record → Entry
@@ -73,14 +71,14 @@ abbrev pub slot_for : Record → List ℕ
 slot_for r = slot_with r.owner r.rdata
 
 -- "the lowest entry not live takes the record. If all are live it is counted as turned away."
-abbrev pub taken : ℕ → Record → Cache → Slot → Cache
-taken now r c (At i) = record { entries = set c.entries i (entry_for now r); store = sets c.store (1024 * i) (slot_for r); turned = c.turned; passed = c.passed }
-taken now r c Nowhere = record { entries = c.entries; store = c.store; turned = c.turned + 1; passed = c.passed }
+abbrev pub taken : ℕ → Record → Cache → Option ℕ → Cache
+taken now r c (Some i) = record { entries = set c.entries i (entry_for now r); store = sets c.store (1024 * i) (slot_for r); turned = c.turned; passed = c.passed }
+taken now r c None = record { entries = c.entries; store = c.store; turned = c.turned + 1; passed = c.passed }
 
 -- 3. "Otherwise that entry gets received now and expiry now plus 1,000 times TTL; if there is none, the lowest entry not live takes the record."
-abbrev pub renewed : ℕ → Record → Cache → Slot → Cache
-renewed now r c (At i) = with_entries (set c.entries i (refreshed now r.ttl (get_or c.entries i blank))) c
-renewed now r c Nowhere = taken now r c (free_slot now c)
+abbrev pub renewed : ℕ → Record → Cache → Option ℕ → Cache
+renewed now r c (Some i) = with_entries (set c.entries i (refreshed now r.ttl (get_or c.entries i blank))) c
+renewed now r c None = taken now r c (free_slot now c)
 
 unfoldable pub rule23 : ℕ → Record → Cache → Cache
 rule23 now r c = cond (eqb r.ttl 0) (goodbye now c (equal_slot now r c)) (renewed now r c (equal_slot now r c))
@@ -163,5 +161,5 @@ unfoldable pub take_in : ℕ → List Entry → List ℕ → ℕ → List ℕ �
 take_in now es store port p = cond (eqb (take_refusal now es store port p) 0) (take_read now (at_start es store) (message_at p)) (at_start es store)
 
 -- "A lookup by uncompressed name and type gives the lowest live match from a given slot on, or none."
-unfoldable pub look_in : ℕ → List Entry → List ℕ → List ℕ → ℕ → ℕ → Slot
+unfoldable pub look_in : ℕ → List Entry → List ℕ → List ℕ → ℕ → ℕ → Option ℕ
 look_in now es store name rtype from = lowest (matches now store name rtype from) 0 es

@@ -1,13 +1,11 @@
 -- A whole table: the list of its entries, of any length, each with its slot. Assumes nothing: these are definitions.
-use Rattle.std.specs.Prelude.{ℕ, suc, List, [], ◌∷◌, Bool, cond}
+use Rattle.std.specs.Prelude.{ℕ, suc, List, [], ◌∷◌, Bool, cond, Option, Some, None}
 use Rattle.cache.specs.declared.entries.Entry.{Entry}
-use Rattle.cache.specs.declared.entries.Slot.{Slot}
-use Rattle.cache.specs.declared.entries.Slot.TheVariants.{At, Nowhere}
 
 -- the lowest slot whose entry passes a test; the list's first entry is in slot i
-unfoldable pub lowest : (ℕ → Entry → Bool) → ℕ → List Entry → Slot
-lowest test i [] = Nowhere
-lowest test i (e ∷ es) = cond (test i e) (At i) (lowest test (suc i) es)
+unfoldable pub lowest : (ℕ → Entry → Bool) → ℕ → List Entry → Option ℕ
+lowest test i [] = None
+lowest test i (e ∷ es) = cond (test i e) (Some i) (lowest test (suc i) es)
 
 -- the same as a number; where none passes it is the slot past the last
 unfoldable pub slot_from : (ℕ → Entry → Bool) → ℕ → List Entry → ℕ

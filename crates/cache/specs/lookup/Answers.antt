@@ -1,10 +1,8 @@
 -- What a lookup answers (specification, 'The cache'). Assumes nothing: these are definitions.
-use Rattle.std.specs.Prelude.{ℕ, List, [], ◌∷◌, cond, not, length, eqb}
+use Rattle.std.specs.Prelude.{ℕ, List, [], ◌∷◌, cond, not, length, eqb, Option, Some, None}
 use Rattle.wire.specs.refusals.Numbers.{first_refusal}
 use Rattle.wire.specs.declared.refusals.Refusal.TheVariants.{Malformed, Table}
 use Rattle.cache.specs.declared.entries.Entry.{Entry}
-use Rattle.cache.specs.declared.entries.Slot.{Slot}
-use Rattle.cache.specs.declared.entries.Slot.TheVariants as s
 use Rattle.cache.specs.entries.Cache.{is_store_of, bad_name, look_refusal, look_in}
 use Rattle.wire.specs.labels.Counted.{labels_in, first_in}
 use Rattle.cache.specs.declared.lookup.Met.{Met}
@@ -16,9 +14,9 @@ abbrev pub met_at : List ℕ → ℕ → Met
 met_at name i = record { slot = i; labels = labels_in name; first = first_in name }
 
 -- the slot that a lookup gives, or none
-abbrev pub looked_with : List ℕ → ℕ → Slot → Looked
-looked_with name number (s.At i) = cond (eqb number 0) (l.Found (met_at name i)) (l.Refused number)
-looked_with name number s.Nowhere = cond (eqb number 0) l.Nothing (l.Refused number)
+abbrev pub looked_with : List ℕ → ℕ → Option ℕ → Looked
+looked_with name number (Some i) = cond (eqb number 0) (l.Found (met_at name i)) (l.Refused number)
+looked_with name number None = cond (eqb number 0) l.Nothing (l.Refused number)
 
 -- the specification's number for each answer: 0 where nothing is refused
 abbrev pub looked_number : Looked → ℕ

@@ -1,6 +1,6 @@
 -- One record of a message against the entries (specification, 'The cache'), as the code finds it: its owner and rdata lie in the slot that it would fill. Of a
 -- record that is whole these are the rules of `entries` on what it shows (proofs/records). Assumes nothing: these are definitions.
-use Rattle.std.specs.Prelude.{ℕ, List, Bool, true, false, cond, not, ◌&&◌, length, take, drop, ltb, leb, eqb}
+use Rattle.std.specs.Prelude.{ℕ, List, Bool, cond, not, ◌&&◌, length, take, drop, ltb, leb, eqb, None, Option, Some}
 use Rattle.wire.specs.case_folding.Fold.{same_name}
 use Rattle.wire.specs.rdata.Rdata.{rdata_at, form_at}
 use Rattle.wire.specs.rdata.Answers.{data_of}
@@ -8,28 +8,27 @@ use Rattle.wire.specs.expansion.Equal.{same_bytes}
 use Rattle.wire.specs.message.Message.{top_bit}
 use Rattle.wire.specs.message.Readable.{whole_read}
 use Rattle.wire.specs.declared.message.RecordAt.{RecordAt}
-use Rattle.wire.specs.declared.message.RecordRead.{RecordRead}
-use Rattle.wire.specs.declared.message.RecordRead.TheVariants as r
 use Rattle.cache.specs.entries.Entries.{owner_held, rdata_held, is_live, is_old, soon}
 use Rattle.cache.specs.entries.Cache.{cached_as}
 use Rattle.cache.specs.declared.entries.Entry.{Entry}
 use Rattle.cache.specs.declared.records.Heard.{Heard}
 use Rattle.cache.specs.declared.records.Choice.{Choice}
+use Rattle.cache.specs.declared.records.Choice.TheVariants.{Leave, Expire, Refresh, Fill, TurnAway, PassOver}
 
--- the record at an offset, if it is whole
-abbrev pub blank_record : RecordAt
-blank_record = record { owner = 0; span = record { end = 0; len = 0; labels = 0; first = 0 }; rtype = 0; class = 0; ttl = 0; rdata = 0; rdlength = 0; next = 0 }
+-- a record as it lies that is whole, and that at an offset
+abbrev pub heard_as : List ℕ → RecordAt → Heard
+heard_as p f = record { at = f; len = length (data_of (rdata_at p f)); named = (form_at p f).named }
 
-abbrev pub heard_of : List ℕ → RecordRead → Heard
-heard_of p (r.Found f) = record { whole = true; at = f; len = length (data_of (rdata_at p f)); named = (form_at p f).named }
-heard_of p r.Malformed = record { whole = false; at = blank_record; len = 0; named = false }
+abbrev pub heard_of : List ℕ → Option RecordAt → Option Heard
+heard_of p (Some f) = Some (heard_as p f)
+heard_of p None = None
 
-unfoldable pub heard_at : List ℕ → ℕ → Heard
+unfoldable pub heard_at : List ℕ → ℕ → Option Heard
 heard_at p at = heard_of p (whole_read p at)
 
 -- the rules are for it; rule 1 is, with the top class bit; rules 2 and 3 are, where its rdata fits a slot
 unfoldable pub is_taken : Heard → Bool
-is_taken h = h.whole && cached_as h.at.class h.at.rtype h.named
+is_taken h = cached_as h.at.class h.at.rtype h.named
 
 unfoldable pub is_flushing : Heard → Bool
 is_flushing h = top_bit h.at.class && is_taken h
@@ -79,12 +78,9 @@ first_slot begins n = cond begins 0 n
 unfoldable pub is_filling : Heard → ℕ → ℕ → Bool
 is_filling h n equal = is_sought h && (leb n equal && not (eqb h.at.ttl 0))
 
--- the change that follows from both searches: its kind, and the slot
-abbrev pub change : ℕ → ℕ → Choice
-change kind slot = record { kind = kind; slot = slot }
-
+-- what follows from both searches
 abbrev pub chosen_among : Bool → ℕ → ℕ → ℕ → Choice
-chosen_among ends n equal free = cond (ltb equal n) (cond ends (change 1 equal) (change 2 equal)) (cond ends (change 0 0) (cond (ltb free n) (change 3 free) (change 4 0)))
+chosen_among ends n equal free = cond (ltb equal n) (cond ends (Expire equal) (Refresh equal)) (cond ends Leave (cond (ltb free n) (Fill free) TurnAway))
 
 unfoldable pub chosen_of : Heard → ℕ → ℕ → ℕ → Choice
-chosen_of h n equal free = cond (is_taken h) (cond (ltb 768 h.len) (change 5 0) (chosen_among (eqb h.at.ttl 0) n equal free)) (change 0 0)
+chosen_of h n equal free = cond (is_taken h) (cond (ltb 768 h.len) PassOver (chosen_among (eqb h.at.ttl 0) n equal free)) Leave

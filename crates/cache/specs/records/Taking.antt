@@ -1,6 +1,6 @@
 -- What one record makes of a table and its store, in the code's steps: rule 1 on every entry, what is chosen of the entries then, and the change of one entry,
 -- of the store and of the counts. Of a record that is whole it is what the rules say (proofs/records/Rules.antt). Assumes nothing: these are definitions.
-use Rattle.std.specs.Prelude.{ℕ, ◌+◌, ◌*◌, ◌≤◌, ◌≡◌, List, true, cond, length, get_or, set, drop, eqb}
+use Rattle.std.specs.Prelude.{ℕ, ◌+◌, ◌*◌, ◌≤◌, ◌≡◌, List, true, length, get_or, set, drop}
 use Rattle.std.proofs.lemmas.List.Edits.{sets}
 use Rattle.wire.specs.message.Readable.{record_shown}
 use Rattle.cache.specs.entries.Entries.{blank, is_free, soon, refreshed}
@@ -10,6 +10,8 @@ use Rattle.cache.specs.records.Heard.{is_taken, is_sought, owner_in, rdata_in, m
 use Rattle.cache.specs.declared.entries.Entry.{Entry}
 use Rattle.cache.specs.declared.records.Heard.{Heard}
 use Rattle.cache.specs.declared.records.Choice.{Choice}
+use Rattle.cache.specs.declared.records.Choice.TheVariants.{Leave, Expire, Refresh, Fill, TurnAway, PassOver}
+use Rattle.cache.specs.declared.Counts.{Counts}
 
 -- the bytes of a slot show a record that the rules are for: its owner, and its rdata where that fits. Of the other bytes nothing is said.
 pub record Shows (p : List ℕ) (h : Heard) (slot : List ℕ) : Type 0 where
@@ -48,30 +50,39 @@ entry_heard now h = record {
   ttl = h.at.ttl;
 }
 
--- what a change makes of the entry in its slot, of the entries, of the store, and of a count
-unfoldable pub changed : ℕ → Heard → Choice → Entry → Entry
-changed now h c e = cond (eqb c.kind 1) (soon now e) (cond (eqb c.kind 2) (refreshed now h.at.ttl e) (cond (eqb c.kind 3) (entry_heard now h) e))
-
+-- what a change makes of the entries, of the store, and of the counts
 unfoldable pub changed_in : ℕ → Heard → Choice → List Entry → List Entry
-changed_in now h c es = set es c.slot (changed now h c (get_or es c.slot blank))
+changed_in now h Leave es = es
+changed_in now h (Expire i) es = set es i (soon now (get_or es i blank))
+changed_in now h (Refresh i) es = set es i (refreshed now h.at.ttl (get_or es i blank))
+changed_in now h (Fill i) es = set es i (entry_heard now h)
+changed_in now h TurnAway es = es
+changed_in now h PassOver es = es
 
 unfoldable pub kept_in : List ℕ → Heard → Choice → List ℕ → List ℕ
-kept_in slot h c store = cond (eqb c.kind 3) (sets store (1024 * c.slot) (slot_with (owner_in slot h) (rdata_in slot h))) store
+kept_in slot h Leave store = store
+kept_in slot h (Expire i) store = store
+kept_in slot h (Refresh i) store = store
+kept_in slot h (Fill i) store = sets store (1024 * i) (slot_with (owner_in slot h) (rdata_in slot h))
+kept_in slot h TurnAway store = store
+kept_in slot h PassOver store = store
 
-unfoldable pub counting : ℕ → Choice → ℕ → ℕ
-counting kind c n = cond (eqb c.kind kind) (n + 1) n
+unfoldable pub counting : Choice → Counts → Counts
+counting Leave c = c
+counting (Expire i) c = c
+counting (Refresh i) c = c
+counting (Fill i) c = c
+counting TurnAway c = record { turned = c.turned + 1; passed = c.passed }
+counting PassOver c = record { turned = c.turned; passed = c.passed + 1 }
 
 -- what is chosen after rule 1, and the cache after that
 abbrev pub choice_on : ℕ → List ℕ → Heard → Cache → Choice
 choice_on now slot h c = chosen_in now c.store slot h (flushed_in now c.store slot h c.entries)
 
 abbrev pub changed_cache : ℕ → List ℕ → Heard → Choice → Cache → Cache
-changed_cache now slot h x c = record {
-  entries = changed_in now h x c.entries;
-  store = kept_in slot h x c.store;
-  turned = counting 4 x c.turned;
-  passed = counting 5 x c.passed;
-}
+changed_cache now slot h x c =
+    let n : Counts = counting x (record { turned = c.turned; passed = c.passed }) in
+    record { entries = changed_in now h x c.entries; store = kept_in slot h x c.store; turned = n.turned; passed = n.passed }
 
 unfoldable pub take_heard : ℕ → List ℕ → Heard → Cache → Cache
 take_heard now slot h c = changed_cache now slot h (choice_on now slot h c) (with_entries (flushed_in now c.store slot h c.entries) c)

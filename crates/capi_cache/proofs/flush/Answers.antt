@@ -1,7 +1,7 @@
 use Rattle.std.proofs.Common.{◌<◌, ℕ, List, length, get_or, set, sym, ap, ap₂, ◌∙◌, arith}
 use Rattle.cache.specs.entries.Entries.{blank}
 use Rattle.cache.specs.declared.entries.Entry.{Entry}
-use Rattle.cache.specs.records.Heard.{first_slot, is_flushing, flushed_heard}
+use Rattle.cache.specs.records.Heard.{is_flushing, flushed_heard}
 use Rattle.cache.specs.records.Taking.{flushed_in}
 use Rattle.capi_cache.proofs.Mixed.{mixed}
 use Rattle.capi_cache.proofs.Flushing.{first-within, flush_on, flush_end, flush_start}
@@ -10,7 +10,7 @@ use Rattle.capi_cache.proofs.flush.Goals as goal
 pub loop-i-init : goal.loop-i-init
 loop-i-init c =
     let es = c.args.table.now in
-    let i-is = c.flush_from-i.ensures ∙ ap (first_slot (is_flushing c.args.h)) c.entry_count-n.ensures in (
+    let i-is = c.flush_from-first.ensures in (
       omega (arith, i-is, first-within (is_flushing c.args.h) (length es)),
       sym (ap (λ (k : ℕ). mixed k (flushed_in c.args.time c.args.store.now c.args.slot.now c.args.h es) es) i-is ∙ flush_start c.args.time c.args.store.now c.args.slot.now c.args.h es),
     )
@@ -18,16 +18,15 @@ loop-i-init c =
 pub loop-i-preserved : goal.loop-i-preserved
 loop-i-preserved c =
     let es = c.args.table.now in
-    let less : c.loop-i.i < length es = omega (arith, c.entry_count-n.ensures) in
+    let less : c.loop-i.i < length es = omega arith in
     let is = c.loop-i.invariant.1 in (
       omega arith,
-      c.put_entry.ensures
-          ∙ ap₂ (λ (zs : List Entry) (e : Entry). set zs c.loop-i.i e) is
-          (c.flush_heard.ensures ∙ ap (flushed_heard c.args.time c.args.store.now c.args.slot.now c.args.h c.loop-i.i) (c.entry_at-e.ensures ∙ ap (λ (zs : List Entry). get_or zs c.loop-i.i blank) is))
+      ap₂ (λ (zs : List Entry) (e : Entry). set zs c.loop-i.i e) is
+          (c.flush_heard.ensures ∙ ap (λ (zs : List Entry). flushed_heard c.args.time c.args.store.now c.args.slot.now c.args.h c.loop-i.i (get_or zs c.loop-i.i blank)) is)
           ∙ flush_on c.args.time c.args.store.now c.args.slot.now c.args.h es c.loop-i.i less,
     )
 
 pub returns : goal.returns
 returns c =
     c.loop-i.invariant.1
-    ∙ flush_end c.args.time c.args.store.now c.args.slot.now c.args.h c.args.table.now c.loop-i.i c.loop-i.invariant.0 (omega (arith, c.entry_count-n.ensures))
+    ∙ flush_end c.args.time c.args.store.now c.args.slot.now c.args.h c.args.table.now c.loop-i.i c.loop-i.invariant.0 (omega arith)

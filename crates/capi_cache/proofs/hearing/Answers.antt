@@ -1,4 +1,5 @@
 -- What hearing a record answers, and what it leaves in the slot, from what the code has read. Assumes nothing.
+use Rattle.std.proofs.Common.{None, Option, Some}
 use mathlib.Core.Path.{◌≡◌, refl, sym, ap, ap₂, ◌∙◌}
 use mathlib.Core.List.{List, [], ◌∷◌, ◌++◌, append_assoc, append-nil}
 use mathlib.Core.Bool.{Bool, true, false, cond, ◌&&◌}
@@ -14,8 +15,6 @@ use Rattle.wire.specs.names.Names.{Reading, name, malformed, name_at}
 use Rattle.wire.specs.names.Answers.{found_of}
 use Rattle.wire.specs.runs.Written.{with_name}
 use Rattle.wire.specs.declared.names.Span.{Span}
-use Rattle.wire.specs.declared.names.Name.{Name}
-use Rattle.wire.specs.declared.names.Name.TheVariants as nam
 use Rattle.wire.proofs.names.Use.{as_name, as_malformed, at_most-255}
 use Rattle.wire.proofs.runs.Use.{with-malformed, with-fitting, with-length}
 use Rattle.wire.specs.octets.Octets.{word16, word32}
@@ -29,11 +28,9 @@ use Rattle.wire.proofs.rdata.Forms.{around_small}
 use Rattle.wire.proofs.expansion.Views.{is-unfit, plain-is}
 use Rattle.wire.specs.declared.rdata.Form.{Form}
 use Rattle.wire.specs.declared.message.RecordAt.{RecordAt}
-use Rattle.wire.specs.declared.message.RecordRead.{RecordRead}
-use Rattle.wire.specs.declared.message.RecordRead.TheVariants as r
 use Rattle.cache.specs.records.Heard.{heard_of, heard_at}
 use Rattle.cache.specs.declared.records.Heard.{Heard}
-use Rattle.capi_cache.specs.hearing.Hearing.{nothing_heard, heard_with, name_over, named_over, rdata_over, record_over, owner_over, heard_in}
+use Rattle.capi_cache.specs.hearing.Hearing.{heard_with, name_over, named_over, rdata_over, record_over, owner_over, heard_in}
 use Rattle.capi_cache.proofs.hearing.Shown.{named-rdata, rdata-length}
 
 -- a part of a slot, from a place to its end, that a name was written into
@@ -51,16 +48,16 @@ rest_written s place x last e =
 
 -- the record by what its rdata is
 module _ (p : List ℕ) (f : RecordAt) where
-  by-rdata : (x : Rdata) → rdata_at p f ≡ x → heard_with p f ≡ heard_of p (cond (fits x) (r.Found f) r.Malformed)
-  by-rdata x e = ap (λ (y : Rdata). heard_of p (cond (fits y) (r.Found f) r.Malformed)) e
+  by-rdata : (x : Rdata) → rdata_at p f ≡ x → heard_with p f ≡ heard_of p (cond (fits x) (Some f) None)
+  by-rdata x e = ap (λ (y : Rdata). heard_of p (cond (fits y) (Some f) None)) e
 
-  pub heard-unfit : rdata_at p f ≡ unfit → nothing_heard ≡ heard_with p f
+  pub heard-unfit : rdata_at p f ≡ unfit → None ≡ heard_with p f
   heard-unfit e = sym (by-rdata unfit e)
 
   pub heard-fit : (d : List ℕ) → rdata_at p f ≡ rdata d → (n : ℕ) → n ≡ length d → (named : Bool) → named ≡ (form_at p f).named
-      → ◌≡◌ {A = Heard} (record { whole = true; at = f; len = n; named = named }) (heard_with p f)
+      → ◌≡◌ {A = Option Heard} (Some (record { at = f; len = n; named = named })) (heard_with p f)
   heard-fit d e n size named m =
-      ap₂ (λ (k : ℕ) (b : Bool). record { whole = true; at = f; len = k; named = b }) (size ∙ sym (ap (λ (x : Rdata). length (data_of x)) e)) m ∙ sym (by-rdata (rdata d) e)
+      ap₂ (λ (k : ℕ) (b : Bool). Some (record { at = f; len = k; named = b })) (size ∙ sym (ap (λ (x : Rdata). length (data_of x)) e)) m ∙ sym (by-rdata (rdata d) e)
 
   -- rdata that holds no name
   module _ (g : Form) (is : g ≡ form_at p f) (n : g.named ≡ false) where
@@ -74,11 +71,11 @@ module _ (p : List ℕ) (f : RecordAt) where
     unfolding rdata_over
     plain_over slot = sym (simp none)
 
-    pub plain-not : (b : Bool) → b ≡ fits (rdata_at p f) → b ≡ false → nothing_heard ≡ heard_with p f
+    pub plain-not : (b : Bool) → b ≡ fits (rdata_at p f) → b ≡ false → None ≡ heard_with p f
     plain-not b e k = heard-unfit (is-unfit (rdata_at p f) (sym e ∙ k))
 
     pub plain-heard : f.rdata + f.rdlength ≤ length p → (b : Bool) → b ≡ fits (rdata_at p f) → b ≡ true
-        → ◌≡◌ {A = Heard} (record { whole = true; at = f; len = f.rdlength; named = false }) (heard_with p f)
+        → ◌≡◌ {A = Option Heard} (Some (record { at = f; len = f.rdlength; named = false })) (heard_with p f)
     plain-heard room b e k =
         let d = plain-is p f none (sym e ∙ k) in
         heard-fit part d f.rdlength (sym (length-take-le f.rdlength (drop f.rdata p) (omega (arith, length-drop f.rdata p, room)))) false (sym none)
@@ -112,10 +109,10 @@ module _ (p : List ℕ) (f : RecordAt) where
         named-rdata p f room (sym named-is)
         ∙ ap (λ (y : Form). cond (leb (y.before + y.behind) f.rdlength) (ending_name (take y.before (drop f.rdata p)) (take y.behind (drop (f.rdata + (f.rdlength - y.behind)) p)) (f.rdata + (f.rdlength - y.behind)) (name_at p (f.rdata + y.before))) unfit) (sym is)
 
-    pub named-short : (slot : List ℕ) → f.rdlength < g.before + g.behind → (nothing_heard ≡ heard_with p f) × (slot ≡ named_over p f g slot)
+    pub named-short : (slot : List ℕ) → f.rdlength < g.before + g.behind → (None ≡ heard_with p f) × (slot ≡ named_over p f g slot)
     named-short slot l = (heard-unfit (ends_by ∙ simp (lt-leb _ _ l)), sym (simp (lt-leb _ _ l)))
 
-    module _ (l : g.before + g.behind ≤ f.rdlength) (n : Name) (n-is : n ≡ found_of x) (slot : List ℕ) (size : length slot ≡ 1024) (s₁ : List ℕ) (s₁_is : s₁ ≡ sets slot 256 front) where
+    module _ (l : g.before + g.behind ≤ f.rdlength) (n : Option Span) (n-is : n ≡ found_of x) (slot : List ℕ) (size : length slot ≡ 1024) (s₁ : List ℕ) (s₁_is : s₁ ≡ sets slot 256 front) where
       ending : rdata_at p f ≡ ending_name front back to x
       ending = ends_by ∙ simp (le-leb _ _ l)
 
@@ -126,7 +123,7 @@ module _ (p : List ℕ) (f : RecordAt) where
       long = ap length s₁_is ∙ length-sets slot 256 front ∙ size
 
       -- a malformed name leaves the slot as it was
-      pub named-malformed : n ≡ nam.Malformed → (last : List ℕ) → last ≡ with_name (take (length s₁ - (256 + g.before)) (drop (256 + g.before) s₁)) x → (nothing_heard ≡ heard_with p f) × (put_mid (256 + g.before) (length s₁ - (256 + g.before)) s₁ last ≡ named_over p f g slot)
+      pub named-malformed : n ≡ None → (last : List ℕ) → last ≡ with_name (take (length s₁ - (256 + g.before)) (drop (256 + g.before) s₁)) x → (None ≡ heard_with p f) × (put_mid (256 + g.before) (length s₁ - (256 + g.before)) s₁ last ≡ named_over p f g slot)
       named-malformed k last e =
           let bad : x ≡ malformed = as_malformed x n n-is k in (
             heard-unfit (ending ∙ ap (ending_name front back to) bad),
@@ -134,7 +131,7 @@ module _ (p : List ℕ) (f : RecordAt) where
                 ∙ sym (over ∙ ap (λ (y : Reading). name_over (256 + g.before) back y (sets slot 256 front)) bad),
           )
 
-      module _ (s : Span) (k : n ≡ nam.Found s) (last : List ℕ) (e : last ≡ with_name (take (length s₁ - (256 + g.before)) (drop (256 + g.before) s₁)) x) where
+      module _ (s : Span) (k : n ≡ Some s) (last : List ℕ) (e : last ≡ with_name (take (length s₁ - (256 + g.before)) (drop (256 + g.before) s₁)) x) where
         abbrev s₂ : List ℕ
         s₂ = put_mid (256 + g.before) (length s₁ - (256 + g.before)) s₁ last
 
@@ -162,10 +159,10 @@ module _ (p : List ℕ) (f : RecordAt) where
         pub named-size : (s₃ : List ℕ) → s₃ ≡ sets s₂ (256 + g.before + s.len) back → length s₃ ≡ length slot
         named-size s₃ e₃ = ap length (named-over s₃ e₃ ∙ over_named slot) ∙ rdata-length p f slot
 
-        pub named-elsewhere : (s.end ≡ to → ⊥) → nothing_heard ≡ heard_with p f
+        pub named-elsewhere : (s.end ≡ to → ⊥) → None ≡ heard_with p f
         named-elsewhere z = heard-unfit (ending ∙ ap (ending_name front back to) found.1 ∙ simp (ne_eqb _ _ z))
 
-        pub named-heard : s.end ≡ to → ◌≡◌ {A = Heard} (record { whole = true; at = f; len = g.before + s.len + g.behind; named = true }) (heard_with p f)
+        pub named-heard : s.end ≡ to → ◌≡◌ {A = Option Heard} (Some (record { at = f; len = g.before + s.len + g.behind; named = true })) (heard_with p f)
         named-heard z =
             let a : length front ≡ g.before = length-take-le g.before (drop f.rdata p) (omega (arith, length-drop f.rdata p, room, l)) in
             let b : length back ≡ g.behind = length-take-le g.behind (drop to p) (omega (arith, length-drop to p, room, l)) in
@@ -173,12 +170,12 @@ module _ (p : List ℕ) (f : RecordAt) where
             (omega (arith, a, b, found.2, length-append front (bs ++ back), length-append bs back)) true named-is
 
 -- past the rdata of a record
-abbrev past : RecordRead → ℕ
-past (r.Found f) = f.rdata + f.rdlength
-past r.Malformed = 0
+abbrev past : Option RecordAt → ℕ
+past (Some f) = f.rdata + f.rdlength
+past None = 0
 
 -- the record at an offset, from its owner, which was written over the slot
-module _ (p : List ℕ) (at : ℕ) (slot : List ℕ) (size : length slot ≡ 1024) (n : Name) (n-is : n ≡ found_of (name_at p at)) (s₁ : List ℕ) (s₁_is : s₁ ≡ with_name slot (name_at p at)) where
+module _ (p : List ℕ) (at : ℕ) (slot : List ℕ) (size : length slot ≡ 1024) (n : Option Span) (n-is : n ≡ found_of (name_at p at)) (s₁ : List ℕ) (s₁_is : s₁ ≡ with_name slot (name_at p at)) where
   owner_over_lem : s₁ ≡ owner_over (name_at p at) slot
   owner_over_lem = s₁_is ∙ go (name_at p at) refl
     where
@@ -191,26 +188,26 @@ module _ (p : List ℕ) (at : ℕ) (slot : List ℕ) (size : length slot ≡ 102
   pub owner_size : length s₁ ≡ 1024
   owner_size = ap length s₁_is ∙ with-length slot (name_at p at) ∙ size
 
-  by-record : (y : RecordRead) → record_read p at ≡ y → (heard_of p (whole_from p y) ≡ heard_at p at) × (record_over p y s₁ ≡ heard_in p at slot)
+  by-record : (y : Option RecordAt) → record_read p at ≡ y → (heard_of p (whole_from p y) ≡ heard_at p at) × (record_over p y s₁ ≡ heard_in p at slot)
   unfolding heard_at heard_in whole_read
-  by-record y e = (ap (λ (z : RecordRead). heard_of p (whole_from p z)) (sym e), ap₂ (record_over p) (sym e) owner_over_lem)
+  by-record y e = (ap (λ (z : Option RecordAt). heard_of p (whole_from p z)) (sym e), ap₂ (record_over p) (sym e) owner_over_lem)
 
-  pub no_owner : n ≡ nam.Malformed → (nothing_heard ≡ heard_at p at) × (s₁ ≡ heard_in p at slot)
-  no_owner k = by-record r.Malformed (sym (record_bad p at n n-is k))
+  pub no_owner : n ≡ None → (None ≡ heard_at p at) × (s₁ ≡ heard_in p at slot)
+  no_owner k = by-record None (sym (record_bad p at n n-is k))
 
-  module _ (s : Span) (k : n ≡ nam.Found s) (a : RecordRead) (is : a ≡ record_behind p at s) where
-    pub no_record_lem : a ≡ r.Malformed → (nothing_heard ≡ heard_at p at) × (s₁ ≡ heard_in p at slot)
-    no_record_lem e = by-record r.Malformed (sym (record_behind_lem p at n n-is s k a is) ∙ e)
+  module _ (s : Span) (k : n ≡ Some s) (a : Option RecordAt) (is : a ≡ record_behind p at s) where
+    pub no_record_lem : a ≡ None → (None ≡ heard_at p at) × (s₁ ≡ heard_in p at slot)
+    no_record_lem e = by-record None (sym (record_behind_lem p at n n-is s k a is) ∙ e)
 
-    module _ (f : RecordAt) (e : a ≡ r.Found f) where
-      pub a-record : (h : Heard) (last : List ℕ) → (h ≡ heard_with p f) × (last ≡ rdata_over p f s₁) → (h ≡ heard_at p at) × (last ≡ heard_in p at slot)
-      a-record h last w = let q = by-record (r.Found f) (sym (record_behind_lem p at n n-is s k a is) ∙ e) in (w.0 ∙ q.0, w.1 ∙ q.1)
+    module _ (f : RecordAt) (e : a ≡ Some f) where
+      pub a-record : (h : Option Heard) (last : List ℕ) → (h ≡ heard_with p f) × (last ≡ rdata_over p f s₁) → (h ≡ heard_at p at) × (last ≡ heard_in p at slot)
+      a-record h last w = let q = by-record (Some f) (sym (record_behind_lem p at n n-is s k a is) ∙ e) in (w.0 ∙ q.0, w.1 ∙ q.1)
 
       pub rdata-within : f.rdata + f.rdlength ≤ length p
       rdata-within = go (leb (s.end + 10) (length p)) (leb (s.end + 10 + word16 p (s.end + 8)) (length p)) refl (ap past (sym is ∙ e))
         where
           go : (b c : Bool) → leb (s.end + 10 + word16 p (s.end + 8)) (length p) ≡ c
-              → past (cond (b && c) (r.Found (record { owner = at; span = s; rtype = word16 p s.end; class = word16 p (s.end + 2); ttl = ttl_of (word32 p (s.end + 4)); rdata = s.end + 10; rdlength = word16 p (s.end + 8); next = s.end + 10 + word16 p (s.end + 8) })) r.Malformed) ≡ f.rdata + f.rdlength
+              → past (cond (b && c) (Some (record { owner = at; span = s; rtype = word16 p s.end; class = word16 p (s.end + 2); ttl = ttl_of (word32 p (s.end + 4)); rdata = s.end + 10; rdlength = word16 p (s.end + 8); next = s.end + 10 + word16 p (s.end + 8) })) None) ≡ f.rdata + f.rdlength
               → f.rdata + f.rdlength ≤ length p
           go true true l q = let w = leb-true (s.end + 10 + word16 p (s.end + 8)) (length p) l in omega (arith, w, q)
           go true false l q = let z : 0 ≡ f.rdata + f.rdlength = q in omega (arith, z)

@@ -1,5 +1,7 @@
 -- A slot that a record was heard into shows it. Assumes nothing.
-use mathlib.Core.Path.{◌≡◌, refl, sym, ap, ap₂, ◌∙◌}
+use Rattle.std.proofs.Common.{None, Option, Some}
+use mathlib.Core.Path.{◌≡◌, refl, sym, ap, ap₂, subst, ◌∙◌}
+use Rattle.std.proofs.lemmas.Option.{same_Some}
 use mathlib.Core.List.{List, ◌++◌, append_assoc}
 use mathlib.Core.Bool.{Bool, true, false, cond}
 use mathlib.Core.Logic.{inr}
@@ -21,14 +23,10 @@ use Rattle.wire.specs.declared.rdata.Form.{Form}
 use Rattle.wire.specs.message.Layout.{record_read}
 use Rattle.wire.specs.message.Readable.{whole_from, whole_read, record_shown}
 use Rattle.wire.specs.declared.message.RecordAt.{RecordAt}
-use Rattle.wire.specs.declared.message.RecordRead.{RecordRead}
-use Rattle.wire.specs.declared.message.RecordRead.TheVariants as r
 use Rattle.wire.proofs.message.Walk.{RecordMet, record_found}
-use Rattle.cache.specs.declared.records.Heard.{Heard}
-use Rattle.cache.specs.records.Heard.{heard_of, heard_at, is_taken}
+use Rattle.cache.specs.records.Heard.{heard_as}
 use Rattle.cache.specs.records.Taking.{Shows}
 use Rattle.cache.proofs.laws.Slots.{read_back, part_sets}
-use Rattle.cache.proofs.records.Rules.{not-whole}
 use Rattle.capi_cache.specs.hearing.Hearing.{name_over, named_over, rdata_over, record_over, owner_over, heard_in}
 
 -- ---- the rdata of a record
@@ -160,45 +158,32 @@ owner_length : (x : Reading) (slot : List ℕ) → length (owner_over x slot) �
 owner_length (name bs e) slot = length-sets slot 0 bs
 owner_length malformed slot = refl
 
-module _ (p : List ℕ) (at : ℕ) (slot : List ℕ) where
-  pub heard-length : length (heard_in p at slot) ≡ length slot
-  unfolding heard_in
-  heard-length = go (record_read p at)
+-- the record at an offset is shown by the slot that it was heard into
+module _ (p : List ℕ) (at : ℕ) (slot : List ℕ) (size : length slot ≡ 1024) where
+  heard_there : (f : RecordAt) → record_read p at ≡ Some f → fits (rdata_at p f) ≡ true → Shows p (heard_as p f) (rdata_over p f (owner_over (name_at p at) slot))
+  unfolding whole_read
+  heard_there f e fit =
+      let whole : ◌≡◌ {A = Option RecordAt} (Some f) (whole_from p (record_read p at)) = sym (ap (λ (b : Bool). cond b (Some f) None) fit) ∙ ap (whole_from p) (sym e) in
+      let met : RecordMet p at f = record_found p at (Some f) whole f refl in
+      let there : name_at p at ≡ name (record_shown p f).owner met.end = ap (name_at p) (sym met.place) ∙ met.owner in
+      let short = at_most-255 p f.owner (record_shown p f).owner met.end met.owner in
+      let laid : owner_over (name_at p at) slot ≡ sets slot 0 (record_shown p f).owner = ap (λ (x : Reading). owner_over x slot) there in
+      let long : length (owner_over (name_at p at) slot) ≡ 1024 = owner_length (name_at p at) slot ∙ size in
+      record {
+        owner = λ t. owner_stays p f (owner_over (name_at p at) slot) f.span.len (omega (arith, short, met.span)) ∙ ap₂ take met.span laid
+            ∙ read_back slot 0 (record_shown p f).owner (omega (arith, short, size));
+        content = λ t l. ap (λ (s : List ℕ). take (length (data_of (rdata_at p f))) (drop 256 s)) (rdata-over p f (owner_over (name_at p at) slot) fit)
+            ∙ read_back (owner_over (name_at p at) slot) 256 (data_of (rdata_at p f)) (omega (arith, l, long));
+      }
+
+  pub heard-shows : (f : RecordAt) → Some f ≡ whole_read p at → Shows p (heard_as p f) (heard_in p at slot)
+  unfolding heard_in whole_read
+  heard-shows f is = go (record_read p at) refl is
     where
-      go : (y : RecordRead) → length (record_over p y (owner_over (name_at p at) slot)) ≡ length slot
-      go (r.Found f) = rdata-length p f (owner_over (name_at p at) slot) ∙ owner_length (name_at p at) slot
-      go r.Malformed = owner_length (name_at p at) slot
+      by-fit : (g : RecordAt) → record_read p at ≡ Some g → (b : Bool) → fits (rdata_at p g) ≡ b → Some f ≡ cond b (Some g) None → Shows p (heard_as p f) (rdata_over p g (owner_over (name_at p at) slot))
+      by-fit g e true k same = subst (λ (x : RecordAt). Shows p (heard_as p x) (rdata_over p g (owner_over (name_at p at) slot))) (sym (same_Some f g same)) (heard_there g e k)
+      by-fit g e false k same = let z : ◌≡◌ {A = ℕ} 0 1 = cc in absurd (omega arith)
 
-  -- what is not taken need not be shown
-  not-shown : (h : Heard) (s : List ℕ) → is_taken h ≡ false → Shows p h s
-  not-shown h s n = record {
-    owner = λ t. let z : ◌≡◌ {A = ℕ} 0 1 = cc in absurd (omega arith);
-    content = λ t l. let z : ◌≡◌ {A = ℕ} 0 1 = cc in absurd (omega arith);
-  }
-
-  pub heard-shows : length slot ≡ 1024 → Shows p (heard_at p at) (heard_in p at slot)
-  unfolding heard_at heard_in whole_read
-  heard-shows size = go (record_read p at) refl
-    where
-      found : (f : RecordAt) → record_read p at ≡ r.Found f → fits (rdata_at p f) ≡ true → Shows p (heard_of p (r.Found f)) (rdata_over p f (owner_over (name_at p at) slot))
-      found f e fit =
-          let whole : ◌≡◌ {A = RecordRead} (r.Found f) (whole_from p (record_read p at)) = sym (ap (λ (b : Bool). cond b (r.Found f) r.Malformed) fit) ∙ ap (whole_from p) (sym e) in
-          let met : RecordMet p at f = record_found p at (r.Found f) whole f refl in
-          let there : name_at p at ≡ name (record_shown p f).owner met.end = ap (name_at p) (sym met.place) ∙ met.owner in
-          let short = at_most-255 p f.owner (record_shown p f).owner met.end met.owner in
-          let laid : owner_over (name_at p at) slot ≡ sets slot 0 (record_shown p f).owner = ap (λ (x : Reading). owner_over x slot) there in
-          let long : length (owner_over (name_at p at) slot) ≡ 1024 = owner_length (name_at p at) slot ∙ size in
-          record {
-            owner = λ t. owner_stays p f (owner_over (name_at p at) slot) f.span.len (omega (arith, short, met.span)) ∙ ap₂ take met.span laid
-                ∙ read_back slot 0 (record_shown p f).owner (omega (arith, short, size));
-            content = λ t l. ap (λ (s : List ℕ). take (length (data_of (rdata_at p f))) (drop 256 s)) (rdata-over p f (owner_over (name_at p at) slot) fit)
-                ∙ read_back (owner_over (name_at p at) slot) 256 (data_of (rdata_at p f)) (omega (arith, l, long));
-          }
-
-      by-fit : (f : RecordAt) → record_read p at ≡ r.Found f → (b : Bool) → fits (rdata_at p f) ≡ b → Shows p (heard_of p (cond b (r.Found f) r.Malformed)) (rdata_over p f (owner_over (name_at p at) slot))
-      by-fit f e true k = found f e k
-      by-fit f e false k = not-shown (heard_of p r.Malformed) _ (not-whole (heard_of p r.Malformed) refl)
-
-      go : (y : RecordRead) → record_read p at ≡ y → Shows p (heard_of p (whole_from p y)) (record_over p y (owner_over (name_at p at) slot))
-      go (r.Found f) e = by-fit f e (fits (rdata_at p f)) refl
-      go r.Malformed e = not-shown (heard_of p r.Malformed) _ (not-whole (heard_of p r.Malformed) refl)
+      go : (y : Option RecordAt) → record_read p at ≡ y → Some f ≡ whole_from p y → Shows p (heard_as p f) (record_over p y (owner_over (name_at p at) slot))
+      go (Some g) e same = by-fit g e (fits (rdata_at p g)) refl same
+      go None e same = let z : ◌≡◌ {A = ℕ} 0 1 = cc in absurd (omega arith)

@@ -1,5 +1,6 @@
-use Rattle.capi_cache.proofs.Scan.{most_is}
+use Rattle.capi_cache.specs.Refusals.{most_with}
 use Rattle.capi_cache.proofs.most_with.Goals as goal
 
 pub returns : goal.returns
-returns c = most_is _ _ _ _ _ c.later-received.ensures c.longer-rdata.ensures c.longer-owner.ensures
+unfolding most_with
+returns c = λ i. record { received = c.max.ensures i; rdata = c.max-2.ensures i; owner = c.max-3.ensures i }

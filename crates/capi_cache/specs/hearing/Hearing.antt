@@ -1,6 +1,6 @@
 -- What a record leaves in the bytes of a slot that it is heard into: the owner from the first byte on, the rdata, its name expanded, from byte 256 on. The other
 -- bytes stay. Assumes nothing: these are definitions.
-use Rattle.std.specs.Prelude.{ℕ, ◌+◌, ◌-◌, List, false, cond, length, take, drop, leb}
+use Rattle.std.specs.Prelude.{ℕ, ◌+◌, ◌-◌, List, cond, length, take, drop, leb, None, Option, Some}
 use Rattle.std.proofs.lemmas.List.Edits.{sets}
 use Rattle.wire.specs.names.Names.{Reading, name, malformed, name_at}
 use Rattle.wire.specs.rdata.Rdata.{form_at}
@@ -8,17 +8,12 @@ use Rattle.wire.specs.message.Layout.{record_read}
 use Rattle.wire.specs.message.Readable.{whole_from}
 use Rattle.wire.specs.declared.rdata.Form.{Form}
 use Rattle.wire.specs.declared.message.RecordAt.{RecordAt}
-use Rattle.wire.specs.declared.message.RecordRead.{RecordRead}
-use Rattle.wire.specs.declared.message.RecordRead.TheVariants as r
-use Rattle.cache.specs.records.Heard.{blank_record, heard_of}
+use Rattle.cache.specs.records.Heard.{heard_of}
 use Rattle.cache.specs.declared.records.Heard.{Heard}
 
--- no record; and a record as it lies, if its rdata is as its type asks
-abbrev pub nothing_heard : Heard
-nothing_heard = record { whole = false; at = blank_record; len = 0; named = false }
-
-abbrev pub heard_with : List ℕ → RecordAt → Heard
-heard_with p f = heard_of p (whole_from p (r.Found f))
+-- a record as it lies, if its rdata is as its type asks
+abbrev pub heard_with : List ℕ → RecordAt → Option Heard
+heard_with p f = heard_of p (whole_from p (Some f))
 
 -- a name over bytes from a place on, and more bytes behind it; as they were where it is malformed
 abbrev pub name_over : ℕ → List ℕ → Reading → List ℕ → List ℕ
@@ -37,9 +32,9 @@ named_over p f g slot =
 unfoldable pub rdata_over : List ℕ → RecordAt → List ℕ → List ℕ
 rdata_over p f slot = cond (form_at p f).named (named_over p f (form_at p f) slot) (sets slot 256 (take f.rdlength (drop f.rdata p)))
 
-abbrev pub record_over : List ℕ → RecordRead → List ℕ → List ℕ
-record_over p (r.Found f) slot = rdata_over p f slot
-record_over p r.Malformed slot = slot
+abbrev pub record_over : List ℕ → Option RecordAt → List ℕ → List ℕ
+record_over p (Some f) slot = rdata_over p f slot
+record_over p None slot = slot
 
 -- the owner of a record
 abbrev pub owner_over : Reading → List ℕ → List ℕ

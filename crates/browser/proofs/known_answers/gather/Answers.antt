@@ -1,7 +1,6 @@
 use Rattle.std.proofs.Common.{◌+◌, ◌<◌, length, drop, sym, ap, ◌∙◌, arith}
-use Rattle.cache.specs.declared.entries.Entry.{Entry}
 use Rattle.browser.specs.declared.known_answers.Plan.{Plan}
-use Rattle.browser.specs.known_answers.Plans.{plan_with, plan_from}
+use Rattle.browser.specs.known_answers.Plans.{plan_from}
 use Rattle.browser.proofs.known_answers.Gathering.{gather_on, gather_end}
 use Rattle.browser.proofs.known_answers.gather.Goals as goal
 
@@ -11,13 +10,13 @@ loop-i-init c =
 
 pub loop-i-preserved : goal.loop-i-preserved
 loop-i-preserved c =
-    let less : c.loop-i.i < length c.args.table.now = omega (arith, c.entry_count-n.ensures) in
+    let less : c.loop-i.i < length c.args.table.now = omega (arith) in
     ap (plan_from c.args.time c.args.store.now c.args.b (c.loop-i.i + 1) (drop (c.loop-i.i + 1) c.args.table.now))
-    (c.plan_with-plan.ensures ∙ ap (λ (e : Entry). plan_with c.args.time c.args.store.now c.args.b c.loop-i.i e c.loop-i.plan) c.entry_or_blank.ensures)
+    c.plan_with-plan.ensures
     ∙ sym (gather_on c.args.time c.args.store.now c.args.b c.args.table.now c.loop-i.i c.loop-i.plan less)
     ∙ c.loop-i.invariant
 
 pub returns : goal.returns
 returns c =
-    sym (gather_end c.args.time c.args.store.now c.args.b c.args.table.now c.loop-i.i c.loop-i.plan (omega (arith, c.entry_count-n.ensures)))
+    sym (gather_end c.args.time c.args.store.now c.args.b c.args.table.now c.loop-i.i c.loop-i.plan (omega (arith)))
     ∙ c.loop-i.invariant

@@ -1,4 +1,4 @@
-use Rattle.std.proofs.Common.{◌-◌, ◌≡◌, drop}
+use Rattle.std.proofs.Common.{◌≡◌, drop}
 use Rattle.browser.specs.known_answers.Plans.{empty_plan, plan_from}
 use Rattle.browser.proofs.known_answers.gather.Given as goal
 
@@ -6,6 +6,3 @@ use Rattle.browser.proofs.known_answers.gather.Given as goal
 abbrev pub invariant-loop-i : goal.invariant-loop-i
 invariant-loop-i l =
     plan_from l.time l.store l.b l.i (drop l.i l.table) l.plan ≡ plan_from l.time l.store l.b l.fn.from (drop l.fn.from l.table) empty_plan
-
-abbrev pub decreases-loop-i : goal.decreases-loop-i
-decreases-loop-i l = l.n - l.i

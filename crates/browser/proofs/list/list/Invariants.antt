@@ -6,6 +6,3 @@ use Rattle.browser.proofs.list.list.Given as goal
 abbrev pub invariant-loop-i : goal.invariant-loop-i
 invariant-loop-i l =
     listed_from l.time l.store l.b l.table l.fn.from ≡ first_of (is_listed l.time l.store l.b l.table) l.i (length l.table - l.i)
-
-abbrev pub decreases-loop-i : goal.decreases-loop-i
-decreases-loop-i l = l.n - l.i

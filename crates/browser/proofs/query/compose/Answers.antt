@@ -1,5 +1,4 @@
 use native.Mathlib.Omega.{arith}
-use borrow.Author.Tests.{not-true, not-false}
 use Rattle.browser.specs.service.Service.{service_name}
 use Rattle.browser.proofs.service.Names.{name-size}
 use Rattle.browser.proofs.query.Small.{plan_few, planned-within}
@@ -36,33 +35,14 @@ bounds-known-j c = omega (
       c.args.plan c.well_formed.1.0.1.1.0.1.0.1,
 )
 
-pub put_known-step-requires : goal.put_known-step-requires
-put_known-step-requires c = c.loop-j.invariant.room
+pub put_known-requires : goal.put_known-requires
+put_known-requires c = c.loop-j.invariant.room
 
-pub returns-then-not-step : goal.returns-then-not-step
-returns-then-not-step c = composes_as _ _ _ _ _ (planned-so _ c.args.b c.args.plan _ _ (name-size (service_name c.args.b) _ c.service_name-name.ensures) c.known_count-n.ensures) (going_stop _ _ _ _ _ _ _ _ _ c.loop-j.invariant (omega (arith, c.loop-j-test)) _ _ _ c.put_known-step.ensures (not-true _ c.if-not-step.true))
-
-pub overflow_add-j : goal.overflow_add-j
-overflow_add-j c = record {
-  fits = omega (
-    arith,
-    c.loop-j-test,
-    c.known_count-n.ensures,
-    plan_few
-        c.args.plan c.well_formed.1.0.1.1.0.1.0.1,
-  );
-}
-
-pub loop-j-smaller : goal.loop-j-smaller
-loop-j-smaller c = omega (arith, c.loop-j-test)
+pub returns-in_default : goal.returns-in_default
+returns-in_default c = composes_as _ _ _ _ _ (planned-so _ c.args.b c.args.plan _ _ (name-size (service_name c.args.b) _ c.service_name-name.ensures) c.known_count-n.ensures) (going_stop _ _ _ _ _ _ _ _ _ c.loop-j.invariant (omega arith) _ _ _ c.put_known.ensures c.in_default.is)
 
 pub loop-j-preserved : goal.loop-j-preserved
-loop-j-preserved c = going_on _ _ _ _ _ _ _ _ _ c.loop-j.invariant
-    (omega (arith, c.loop-j-test)) _ _ _
-    c.put_known-step.ensures (not-false _ c.if-not-step.false)
+loop-j-preserved c = going_on _ _ _ _ _ _ _ _ _ c.loop-j.invariant (omega arith) _ _ _ c.put_known.ensures _ c.in-Some.is
 
 pub returns : goal.returns
-returns c = composes_as _ _ _ _ _ (planned-so _ c.args.b
-    c.args.plan _ _ (name-size
-    (service_name c.args.b) _ c.service_name-name.ensures)
-    c.known_count-n.ensures) (going_end _ _ _ _ _ _ _ _ _ c.loop-j.invariant (omega (arith, c.loop-j-test)))
+returns c = composes_as _ _ _ _ _ (planned-so _ c.args.b c.args.plan _ _ (name-size (service_name c.args.b) _ c.service_name-name.ensures) c.known_count-n.ensures) (going_end _ _ _ _ _ _ _ _ _ c.loop-j.invariant (omega arith))

@@ -1,6 +1,5 @@
 use Rattle.std.proofs.Common.{◌+◌, ◌<◌, ℕ, length, drop, sym, ap, ◌∙◌, arith}
-use Rattle.cache.specs.declared.entries.Entry.{Entry}
-use Rattle.browser.specs.refresh.Refresh.{sooner, soonest}
+use Rattle.browser.specs.refresh.Refresh.{soonest}
 use Rattle.browser.proofs.refresh.Soonest.{soonest-on, soonest-end, soonest-start}
 use Rattle.browser.proofs.refresh.next_query.Goals as goal
 
@@ -11,13 +10,13 @@ loop-i-init c =
 
 pub loop-i-preserved : goal.loop-i-preserved
 loop-i-preserved c =
-    let less : c.loop-i.i < length c.args.table.now = omega (arith, c.entry_count-n.ensures) in
+    let less : c.loop-i.i < length c.args.table.now = omega (arith) in
     ap (λ (t : ℕ). soonest c.args.time c.args.store.now c.args.b (c.loop-i.i + 1) (drop (c.loop-i.i + 1) c.args.table.now) t)
-    (c.sooner_of-t.ensures ∙ ap (λ (e : Entry). sooner c.args.time c.args.store.now c.args.b c.loop-i.i e c.loop-i.t) c.entry_or_blank.ensures)
+    c.sooner_of-t.ensures
     ∙ sym (soonest-on c.args.time c.args.store.now c.args.b c.args.table.now c.loop-i.i c.loop-i.t less)
     ∙ c.loop-i.invariant
 
 pub returns : goal.returns
 returns c =
-    sym (soonest-end c.args.time c.args.store.now c.args.b c.args.table.now c.loop-i.i c.loop-i.t (omega (arith, c.entry_count-n.ensures)))
+    sym (soonest-end c.args.time c.args.store.now c.args.b c.args.table.now c.loop-i.i c.loop-i.t (omega (arith)))
     ∙ c.loop-i.invariant

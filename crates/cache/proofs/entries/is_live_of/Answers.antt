@@ -1,12 +1,13 @@
-use mathlib.Core.Path.{sym, ◌∙◌}
-use Rattle.cache.proofs.entries.Single.{live_type, live_not, live_of_lem}
+use Rattle.std.proofs.Common.{arith}
+use Rattle.std.proofs.lemmas.Grind.{common_steps}
+use Rattle.std.proofs.lemmas.Bool.Decides.{nat_tests}
+use Rattle.cache.specs.entries.Entries.{is_of, live_of}
 use Rattle.cache.proofs.entries.is_live_of.Goals as goal
 
-pub returns-then-e-rtype : goal.returns-then-e-rtype
-returns-then-e-rtype c = live_type _ _ _ _ _ _ c.if-e-rtype.true
+pub returns-then-is_live : goal.returns-then-is_live
+unfolding live_of is_of
+returns-then-is_live c = grind (arith, common_steps, nat_tests)
 
-pub returns-then-not-is_live : goal.returns-then-not-is_live
-returns-then-not-is_live c = live_not _ _ _ _ _ _ (sym c.is_live.ensures ∙ c.if-not-is_live.true)
-
-pub returns : goal.returns
-returns c = live_of_lem _ _ _ _ _ _ (sym c.is_live.ensures ∙ c.if-not-is_live.false) _ c.is_of.ensures
+pub returns-else-is_live : goal.returns-else-is_live
+unfolding live_of is_of
+returns-else-is_live c = grind (arith, common_steps, nat_tests)

@@ -1,12 +1,13 @@
-use native.Mathlib.Omega.{arith}
-use Rattle.cache.proofs.entries.Single.{soon-same, soon-less}
+use Rattle.std.proofs.Common.{arith}
+use Rattle.std.proofs.lemmas.Grind.{common_steps}
+use Rattle.std.proofs.lemmas.Bool.Decides.{nat_tests}
+use Rattle.cache.specs.entries.Entries.{soon}
 use Rattle.cache.proofs.entries.to_expire.Goals as goal
 
 pub returns-then-e-time : goal.returns-then-e-time
-returns-then-e-time c = soon-same _ _ (omega arith)
-
-pub returns-then-e-time-le1000 : goal.returns-then-e-time-le1000
-returns-then-e-time-le1000 c = soon-same _ _ (omega arith)
+unfolding soon
+returns-then-e-time c = grind (arith, common_steps, nat_tests)
 
 pub returns : goal.returns
-returns c = soon-less _ _ (omega arith)
+unfolding soon
+returns c = grind (arith, common_steps, nat_tests)

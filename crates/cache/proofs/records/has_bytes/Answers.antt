@@ -1,9 +1,13 @@
-use mathlib.Core.Path.{sym, ◌∙◌}
-use Rattle.cache.proofs.records.Tests.{bytes_other, bytes_owner}
+use Rattle.std.proofs.Common.{arith}
+use Rattle.std.proofs.lemmas.Grind.{common_steps}
+use Rattle.std.proofs.lemmas.Bool.Decides.{nat_tests}
+use Rattle.cache.specs.records.Heard.{has_bytes}
 use Rattle.cache.proofs.records.has_bytes.Goals as goal
 
-pub returns-then-not-same_bytes : goal.returns-then-not-same_bytes
-returns-then-not-same_bytes c = bytes_other _ _ _ _ _ _ _ c.rdata_of-held.ensures c.part-heard.ensures.bytes (sym c.same_bytes.ensures ∙ c.if-not-same_bytes.true)
+pub returns-then-same_bytes : goal.returns-then-same_bytes
+unfolding has_bytes
+returns-then-same_bytes c = grind (arith, common_steps, nat_tests)
 
-pub returns : goal.returns
-returns c = bytes_owner _ _ _ _ _ _ _ c.rdata_of-held.ensures c.part-heard.ensures.bytes (sym c.same_bytes.ensures ∙ c.if-not-same_bytes.false) _ c.is_owner.ensures
+pub returns-else-same_bytes : goal.returns-else-same_bytes
+unfolding has_bytes
+returns-else-same_bytes c = grind (arith, common_steps, nat_tests)

@@ -1,12 +1,13 @@
-use native.Mathlib.Omega.{arith}
-use Rattle.cache.proofs.records.Tests.{alike-type, alike-length, alike-live}
+use Rattle.std.proofs.Common.{arith}
+use Rattle.std.proofs.lemmas.Grind.{common_steps}
+use Rattle.std.proofs.lemmas.Bool.Decides.{nat_tests}
+use Rattle.cache.specs.records.Heard.{is_alike}
 use Rattle.cache.proofs.records.is_alike.Goals as goal
 
-pub returns-then-e-f : goal.returns-then-e-f
-returns-then-e-f c = alike-type _ _ _ c.if-e-f.true
+pub returns-then-e-h-2 : goal.returns-then-e-h-2
+unfolding is_alike
+returns-then-e-h-2 c = grind (arith, common_steps, nat_tests)
 
-pub returns-then-e-f-2 : goal.returns-then-e-f-2
-returns-then-e-f-2 c = alike-length _ _ _ (omega arith) (λ z. omega arith)
-
-pub returns : goal.returns
-returns c = alike-live _ _ _ (omega arith) (omega arith) _ c.is_live.ensures
+pub returns-else-e-h-2 : goal.returns-else-e-h-2
+unfolding is_alike
+returns-else-e-h-2 c = grind (arith, common_steps, nat_tests)

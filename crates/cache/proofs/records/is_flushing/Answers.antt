@@ -1,9 +1,13 @@
-use native.Mathlib.Omega.{arith}
-use Rattle.cache.proofs.records.Tests.{flushing_not, flushing_is}
+use Rattle.std.proofs.Common.{arith}
+use Rattle.std.proofs.lemmas.Grind.{common_steps}
+use Rattle.std.proofs.lemmas.Bool.Decides.{nat_tests}
+use Rattle.cache.specs.records.Heard.{is_flushing}
 use Rattle.cache.proofs.records.is_flushing.Goals as goal
 
-pub returns-then-f-lt32768 : goal.returns-then-f-lt32768
-returns-then-f-lt32768 c = flushing_not _ (omega arith) (omega arith)
+pub returns-then-h-ge32768 : goal.returns-then-h-ge32768
+unfolding is_flushing
+returns-then-h-ge32768 c = grind (arith, common_steps, nat_tests)
 
-pub returns : goal.returns
-returns c = flushing_is _ (omega arith) (omega arith) _ c.is_taken.ensures
+pub returns-else-h-ge32768 : goal.returns-else-h-ge32768
+unfolding is_flushing
+returns-else-h-ge32768 c = grind (arith, common_steps, nat_tests)

@@ -1,9 +1,13 @@
-use mathlib.Core.Path.{sym, ◌∙◌}
-use Rattle.cache.proofs.records.Tests.{live_not, live_is}
+use Rattle.std.proofs.Common.{arith}
+use Rattle.std.proofs.lemmas.Grind.{common_steps}
+use Rattle.std.proofs.lemmas.Bool.Decides.{nat_tests}
+use Rattle.cache.specs.records.Heard.{live_heard, is_of_heard, is_alike}
 use Rattle.cache.proofs.records.is_live_heard.Goals as goal
 
-pub returns-then-not-is_alike : goal.returns-then-not-is_alike
-returns-then-not-is_alike c = live_not _ _ _ _ _ _ (sym c.is_alike.ensures ∙ c.if-not-is_alike.true)
+pub returns-then-is_alike : goal.returns-then-is_alike
+unfolding live_heard is_of_heard is_alike
+returns-then-is_alike c = grind (arith, common_steps, nat_tests)
 
-pub returns : goal.returns
-returns c = live_is _ _ _ _ _ _ (sym c.is_alike.ensures ∙ c.if-not-is_alike.false) _ c.is_owner.ensures
+pub returns-else-is_alike : goal.returns-else-is_alike
+unfolding live_heard is_of_heard is_alike
+returns-else-is_alike c = grind (arith, common_steps, nat_tests)

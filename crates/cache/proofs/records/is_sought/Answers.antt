@@ -1,9 +1,13 @@
-use native.Mathlib.Omega.{arith}
-use Rattle.cache.proofs.records.Tests.{sought_not, sought_is}
+use Rattle.std.proofs.Common.{arith}
+use Rattle.std.proofs.lemmas.Grind.{common_steps}
+use Rattle.std.proofs.lemmas.Bool.Decides.{nat_tests}
+use Rattle.cache.specs.records.Heard.{is_sought}
 use Rattle.cache.proofs.records.is_sought.Goals as goal
 
 pub returns-then-h : goal.returns-then-h
-returns-then-h c = sought_not _ (omega arith)
+unfolding is_sought
+returns-then-h c = grind (arith, common_steps, nat_tests)
 
-pub returns : goal.returns
-returns c = sought_is _ (omega arith) _ c.is_taken.ensures
+pub returns-else-h : goal.returns-else-h
+unfolding is_sought
+returns-else-h c = grind (arith, common_steps, nat_tests)
