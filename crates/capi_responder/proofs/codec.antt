@@ -1,4 +1,5 @@
 -- Laws that belong to no one function.
+pub mod Wide
 pub mod Parts
 pub mod Lengths
 pub mod Stands

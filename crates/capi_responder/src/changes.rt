@@ -21,8 +21,7 @@ use wire::buffer::put;
 fn put_port(state: &mut [u8], port: u16)
     ensures { state.new ≡ sets state.old layout.port (bytes16 port) }
 {
-    let bytes = [(port / 256 % 256) as u8, (port % 256) as u8];
-    put(state, layout::PORT, &bytes);
+    put(state, layout::PORT, &port.to_be_bytes());
 }
 
 // Writes TXT strings over those of the set-up, and their length.
@@ -33,9 +32,8 @@ fn put_txt(state: &mut [u8], txt: &[u8])
     let mut strings = [0u8; MOST_TXT];
     put(&mut strings, 0, txt);
     put(state, layout::TXT, &strings);
-    let len = txt.len();
-    let tail = [(len / 256 % 256) as u8, (len % 256) as u8];
-    put(state, layout::TXT + MOST_TXT, &tail);
+    let len = txt.len() as u16;
+    put(state, layout::TXT + MOST_TXT, &len.to_be_bytes());
 }
 
 // Ends a responder: writes the goodbye of what it holds, and leaves both claims lost.

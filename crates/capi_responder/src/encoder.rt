@@ -13,7 +13,7 @@ ghost use Rattle.capi_responder.specs.encoder.Laid.{Laid};
 use crate::layout;
 use claims::holds::{Hold, Holds};
 use claims::records::{Own, RECORDS, Set, is_in, record_at};
-use claims::{ClaimState, Multicasts, Progress, sent_of};
+use claims::{ClaimState, Multicasts, Progress, due_of, sent_of};
 
 // Lays `s` over `out` from index `at` on.
 fn put(out: &mut [u8], at: usize, s: &[u8])
@@ -23,34 +23,11 @@ fn put(out: &mut [u8], at: usize, s: &[u8])
 }
 
 // The eight bytes of a number.
-fn number_bytes(n: u64) -> [u8; layout::NUMBER_SIZE]
-    ensures { (result ≡ bytes64 n) × Fits64 n }
-{
-    let n1 = n / 256;
-    let n2 = n1 / 256;
-    let n3 = n2 / 256;
-    let n4 = n3 / 256;
-    let n5 = n4 / 256;
-    let n6 = n5 / 256;
-    let n7 = n6 / 256;
-    [
-        (n7 % 256) as u8,
-        (n6 % 256) as u8,
-        (n5 % 256) as u8,
-        (n4 % 256) as u8,
-        (n3 % 256) as u8,
-        (n2 % 256) as u8,
-        (n1 % 256) as u8,
-        (n % 256) as u8,
-    ]
-}
-
 fn put_number(out: &mut [u8], at: usize, n: u64)
     requires { at + layout.number_size ≤ length out.old }
     ensures { Laid out.old at (bytes64 n) out.new × Fits64 n }
 {
-    let bytes = number_bytes(n);
-    put(out, at, &bytes);
+    put(out, at, &n.to_be_bytes());
 }
 
 // A case byte and its number.
@@ -58,8 +35,7 @@ fn put_case(out: &mut [u8], at: usize, tag: u8, n: u64)
     requires { at + layout.case_size ≤ length out.old }
     ensures { Laid out.old at (case_bytes tag n) out.new × Fits64 n }
 {
-    let first = [tag];
-    put(out, at, &first);
+    put(out, at, &[tag]);
     put_number(out, at + 1, n);
 }
 
@@ -81,21 +57,13 @@ fn claim_tag(c: ClaimState) -> u8
 fn claim_due(c: ClaimState) -> u64
     ensures { result ≡ claim_due c }
 {
-    match c {
-        ClaimState::Waiting(due)
-        | ClaimState::Probing1(due)
-        | ClaimState::Probing2(due)
-        | ClaimState::Probing3(due)
-        | ClaimState::Deferred(due)
-        | ClaimState::Announced(due) => due,
-        ClaimState::Held | ClaimState::Lost => 0,
-    }
+    due_of(c).unwrap_or(0)
 }
 
 fn when_flag(w: Option<u64>) -> u8
     ensures { result ≡ when_flag w }
 {
-    if w.is_some() { 1 } else { 0 }
+    u8::from(w.is_some())
 }
 
 fn when_time(w: Option<u64>) -> u64
@@ -133,7 +101,7 @@ fn put_multicasts(out: &mut [u8], sent: Multicasts)
 fn flag_byte(o: Own, set: Set) -> u8
     ensures { result ≡ flag_byte (has o set) }
 {
-    if is_in(o, set) { 1 } else { 0 }
+    u8::from(is_in(o, set))
 }
 
 // The flags of a set of own records.
@@ -151,8 +119,7 @@ fn put_set(out: &mut [u8], at: usize, set: Set)
     requires { at + layout.set_size ≤ length out.old }
     ensures { Laid out.old at (set_bytes set) out.new }
 {
-    let flags = set_bytes(set);
-    put(out, at, &flags);
+    put(out, at, &set_bytes(set));
 }
 
 // A held query.

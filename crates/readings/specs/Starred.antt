@@ -6,6 +6,8 @@ use Rattle.wire.specs.name_pieces.Pieces.{piece_at}
 use Rattle.wire.specs.names.Names.{read_from, from_run, name_at}
 use Rattle.wire.specs.rdata.Rdata.{form_in, strings_fill, rdata_in, rdata_at}
 use Rattle.wire.specs.expansion.Equal.{same_bytes}
+use Rattle.wire.specs.refusals.Numbers as refusals
+use Rattle.wire.specs.declared.refusals.Refusal.TheVariants.{Malformed}
 use Rattle.wire.specs.message.Layout.{question_read, question_at, record_read, record_at, list_from, refused, and_then, message_at}
 use Rattle.txt.specs.Txt.{strings_from, key_of, value_of, has_key, first_with}
 use Rattle.txt.specs.Lookup.{bad_key, refusal_of, given_by, in_txt, lookup_of}
@@ -62,10 +64,11 @@ Starred =
     (7 ∷ (80 ∷ (97 ∷ (115 ∷ (115 ∷ (82 ∷ (101 ∷ (113 ∷ (9 ∷ (80 ∷ (65 ∷ (83 ∷ (83 ∷ (82 ∷ (69 ∷ (81 ∷ (61 ∷ (49 ∷ [])))))))))))))))))) []
     ≡ Present)
     -- "Pointer at 12 to 12: refusal 6."
-    × (message_at self_pointing ≡ refused 6)
+    × (message_at self_pointing ≡ refused Malformed)
+    × (refusals.number_of Malformed ≡ 6)
     -- "dock.local, 10.0.0.7 announced, 38 bytes"
     × (response_packet example 0 (records_of Host true) ≡ announcement)
 
 pub starred : Starred
 unfolding example asking cached announced tie sort_by insert_by compare_records in_turn compare_numbers some is_probe list_under is_asked is_asked_as is_known theirs_later query_facts facts_of holding same_name same_bytes has_record own_labels own_name srv_rdata own_rdata service_labels instance_labels host_labels rule1 each flushed live_of is_of soon lookup_of refusal_of bad_key strings_fill in_txt first_with strings_from has_key key_of value_of given_by message_at and_then list_from question_at question_read record_at record_read name_at from_run read_from piece_at rdata_at rdata_in response_packet response_records picked response_of styles.own_record receive_of received_packet packet_for receive_refusal wrong_state wrong_time kept multicasts_kept holds_kept every_of some_of valid_setup label_fits instance_fits utf8.is_shown utf8.shown_from utf8.may_stand utf8.behind utf8.starts utf8.following utf8.within is_letter is_name_byte all_name_bytes some_letter hyphens_apart service_rule service_fits protocol_fits domain_fits txt_fits answers.asks_of answers.asked_by answers.multicast_asks answers.unicast_asks answers.wanted_of answers.joined answers.judged_of holds.to_hold holds.held_back holds.receive_of queries.some_from queries.some_free queries.union queries.knowing queries.knowing_all queries.queued answers.heard_of at_once marked_all after_ms packet_of put_name data_bytes data_places put_fields name_bytes name_places starts cut_from place_of stands_at form_in form_for records_of
-starred = (refl, refl, refl, refl, refl, refl, refl, refl, refl, refl, refl, refl)
+starred = (refl, refl, refl, refl, refl, refl, refl, refl, refl, refl, refl, refl, refl)

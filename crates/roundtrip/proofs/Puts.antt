@@ -11,8 +11,8 @@ use Rattle.writer.specs.compression.Compression.{name_bytes}
 use Rattle.writer.specs.compression.Sentence.{Rising}
 use Rattle.writer.proofs.compression.Written.{name-short}
 use Rattle.writer.specs.declared.Spot.{Spot}
-use Rattle.writer.specs.declared.Placed.{Placed}
-use Rattle.writer.specs.declared.Placed.TheVariants.{Done, Full, Unfit}
+use Rattle.std.specs.Prelude.{Result, Ok, Err}
+use Rattle.writer.specs.declared.Misfit.{Misfit}
 use Rattle.writer.specs.Items.{Writing, put_name, put_question, put_record}
 use Rattle.writer.specs.Writer.{held_in, spot_of, placed_of, Placing, Grown}
 use Rattle.writer.proofs.Use.{is-done, is-grown, held-so}
@@ -28,25 +28,24 @@ use Rattle.roundtrip.proofs.Sound.{Sound}
 use Rattle.roundtrip.proofs.Records.{record_there}
 use Rattle.roundtrip.proofs.Questions.{question-there}
 
-abbrev spot_in : Placed → Spot
-spot_in (Done spot) = spot
-spot_in Full = spot_of 0 0
-spot_in Unfit = spot_of 0 0
+abbrev spot_in : Result Spot Misfit → Spot
+spot_in (Ok spot) = spot
+spot_in (Err misfit) = spot_of 0 0
 
 -- only what is fit and has room is put
-module _ (fit fits : Bool) (v : Writing) (o pl : List ℕ) (spot : Spot) (o' pl' : List ℕ) (p : Placing fit fits v o pl (Done spot) o' pl') where
+module _ (fit fits : Bool) (v : Writing) (o pl : List ℕ) (spot : Spot) (o' pl' : List ℕ) (p : Placing fit fits v o pl (Ok spot) o' pl') where
   was_put : (fit ≡ true) × (fits ≡ true)
   was_put = go fit fits p.answer
     where
-      go : (a b : Bool) → ◌≡◌ {A = Placed} (Done spot) (placed_of a b v) → (a ≡ true) × (b ≡ true)
+      go : (a b : Bool) → ◌≡◌ {A = Result Spot Misfit} (Ok spot) (placed_of a b v) → (a ≡ true) × (b ≡ true)
       go true true e = (refl, refl)
       go true false e = let z : ◌≡◌ {A = ℕ} 0 1 = cc in absurd (omega arith)
       go false b e = let z : ◌≡◌ {A = ℕ} 0 1 = cc in absurd (omega arith)
 
   grown : Grown v o pl spot o' pl'
   grown =
-      subst (λ (x : Spot). Grown v o pl x o' pl') (sym (ap spot_in (is-done fit fits v o pl (Done spot) o' pl' p was_put.0 was_put.1)))
-      (is-grown fit fits v o pl (Done spot) o' pl' p was_put.0 was_put.1)
+      subst (λ (x : Spot). Grown v o pl x o' pl') (sym (ap spot_in (is-done fit fits v o pl (Ok spot) o' pl' p was_put.0 was_put.1)))
+      (is-grown fit fits v o pl (Ok spot) o' pl' p was_put.0 was_put.1)
 
 -- the packet in front of the buffer
 module _ (at count : ℕ) (name : List ℕ) (more also : ℕ) (o pl : List ℕ) (room : NameRoom at count name more also o pl) (up : Rising 12 at (take count pl)) where

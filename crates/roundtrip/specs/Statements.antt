@@ -1,6 +1,6 @@
 -- What is promised of written packets (specification, 'Writing a packet' and 'Reading a message'), as statements. Each is proved in proofs/ under the name
 -- that its comment gives: Whole, Puts, Composed, OwnPackets. Assumes nothing.
-use Rattle.std.specs.Prelude.{ℕ, ◌≤◌, ◌≡◌, List, [], ◌++◌, Bool, true, false, length, take}
+use Rattle.std.specs.Prelude.{ℕ, ◌≤◌, ◌≡◌, List, [], ◌++◌, Bool, true, false, length, take, Ok}
 use Rattle.wire.specs.names.Names.{is_name}
 use Rattle.wire.specs.message.Message.{Question, Record, Message}
 use Rattle.wire.specs.message.Layout.{item, question_at, record_at, read, plain_header, message_at}
@@ -11,7 +11,6 @@ use Rattle.own.specs.declared.records.Setup.{Setup}
 use Rattle.own.specs.records.Setups.{valid_setup}
 use Rattle.writer.specs.compression.Sentence.{Rising}
 use Rattle.writer.specs.declared.Spot.{Spot}
-use Rattle.writer.specs.declared.Placed.TheVariants.{Done}
 use Rattle.writer.specs.declared.own_packets.Style.{Style}
 use Rattle.writer.specs.Fit.{fit_record}
 use Rattle.writer.specs.Items.{Writing, put_question, put_record}
@@ -38,14 +37,14 @@ MessageBack =
 abbrev pub QuestionPutBack : Type 0
 QuestionPutBack =
     (o pl : List ℕ) (at count : ℕ) (q : Question) (spot : Spot) (o' pl' : List ℕ) → Rising 12 at (take count pl)
-    → Placing (is_name q.name) (question_fits (room_in o pl at count) q.name) (put_question (held_in o pl at count) q) o pl (Done spot) o' pl'
+    → Placing (is_name q.name) (question_fits (room_in o pl at count) q.name) (put_question (held_in o pl at count) q) o pl (Ok spot) o' pl'
     → question_at o' at ≡ item q spot.end
 
 abbrev pub RecordPutBack : Type 0
 RecordPutBack =
     (whole : Bool) (o pl : List ℕ) (at count : ℕ) (r : Record) (spot : Spot) (o' pl' : List ℕ) → Rising 12 at (take count pl)
     → Placing (fit_record r.owner r.rtype r.ttl r.rdata) (record_fits (room_in o pl at count) r.owner r.rtype r.rdata)
-    (put_record whole (held_in o pl at count) r) o pl (Done spot) o' pl'
+    (put_record whole (held_in o pl at count) r) o pl (Ok spot) o' pl'
     → record_at o' at ≡ item r spot.end
 
 -- `message-put-back`: a message whose questions and records were put so one after the other behind its header, in whatever buffers, is read as that message

@@ -25,8 +25,8 @@ use Rattle.claims.specs.declared.records.Claim.TheVariants.{Instance, Host}
 use Rattle.claims.specs.declared.records.Own.{Own}
 use Rattle.claims.specs.declared.records.Own.TheVariants.{Ptr, Srv, Txt, A, Aaaa, InstanceNsec, HostNsec}
 use Rattle.claims.specs.declared.records.Set.{Set}
-use Rattle.facts.specs.declared.tiebreak.Verdict.{Verdict}
-use Rattle.facts.specs.declared.tiebreak.Verdict.TheVariants.{Earlier, Same, Later}
+use Rattle.std.specs.declared.cmp.Ordering.{Ordering}
+use Rattle.std.specs.declared.cmp.Ordering.TheVariants.{Less, Equal, Greater}
 use Rattle.facts.specs.tiebreak.Later.{TieRecord, is_later, tie}
 use Rattle.facts.proofs.tiebreak.Orders.{opposite}
 use Rattle.facts.proofs.tiebreak.Ties.{tie-swap, one-wins, sorted_same, tie-trans}
@@ -234,10 +234,10 @@ module _ (s t : Setup) (k : Claim) (m : Message) where
 
 -- ---- the order of own lists
 
-is_later_lem : (v : Verdict) → is_later v ≡ true → v ≡ Later
-is_later_lem Earlier e = never e
-is_later_lem Same e = never e
-is_later_lem Later e = refl
+is_later_lem : (v : Ordering) → is_later v ≡ true → v ≡ Greater
+is_later_lem Less e = never e
+is_later_lem Equal e = never e
+is_later_lem Greater e = refl
 
 later-self : (s : Setup) (k : Claim) → later s s k ≡ false
 unfolding later
@@ -254,7 +254,7 @@ later_trans_lem s t u k p q =
     list : Setup → List TieRecord
     list r = ours r (own_claim k)
 
-    turned : (b c : List TieRecord) → tie b c ≡ Later → tie c b ≡ Earlier
+    turned : (b c : List TieRecord) → tie b c ≡ Greater → tie c b ≡ Less
     turned b c e = tie-swap b c ∙ ap opposite e
 
 -- ---- the laws

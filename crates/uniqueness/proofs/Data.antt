@@ -21,8 +21,8 @@ use Rattle.claims.specs.declared.records.Claim as own
 use Rattle.claims.specs.declared.records.Claim.TheVariants.{Instance, Host}
 use Rattle.claims.specs.declared.records.Own.{Own}
 use Rattle.claims.specs.declared.records.Own.TheVariants.{Srv, Txt, A, Aaaa}
-use Rattle.facts.specs.declared.tiebreak.Verdict.{Verdict}
-use Rattle.facts.specs.declared.tiebreak.Verdict.TheVariants.{Earlier, Same, Later}
+use Rattle.std.specs.declared.cmp.Ordering.{Ordering}
+use Rattle.std.specs.declared.cmp.Ordering.TheVariants.{Less, Equal, Greater}
 use Rattle.facts.specs.tiebreak.Later.{TieRecord, is_later, tie}
 use Rattle.wire.specs.Lists.{some as some_of}
 use Rattle.facts.specs.probe.Probe.{under, asks_all, is_probe}
@@ -119,7 +119,7 @@ module _ (s t : Setup) (k : Claim) (same : same_name (name s k) (name t k) ≡ t
       ap (λ (l : List TieRecord). is_later (tie l (ours t (own_claim k))))
       (sym (spelling_list (name s k) (name t k) same (probe_of s (own_claim k)).authorities) ∙ theirs-own s k)
 
-  wins : tie (ours s (own_claim k)) (ours t (own_claim k)) ≡ Later → defeats (probe_of s (own_claim k)) t k ≡ true
+  wins : tie (ours s (own_claim k)) (ours t (own_claim k)) ≡ Greater → defeats (probe_of s (own_claim k)) t k ≡ true
   unfolding defeats
   wins e = and_both (is_probe (name t k) (probe_of s (own_claim k))) (theirs_later t (own_claim k) (probe_of s (own_claim k))) is-probe (later-by ∙ ap is_later e)
 
@@ -158,10 +158,10 @@ tie-law s t k type d e same p q n = go (tie (ours s (own_claim k)) (ours t (own_
         sym mine.is-data ∙ equal_data s t k type mine.own (owned k type mine.own mine.is) mine.there h
         ∙ ap (own_rdata t) one ∙ theirs'.is-data
 
-    go : (v : Verdict) → tie (ours s (own_claim k)) (ours t (own_claim k)) ≡ v → (defeats (probe_of s (own_claim k)) t k ≡ true) ⊎ (defeats (probe_of t (own_claim k)) s k ≡ true)
-    go Later h = inl (wins s t k same h)
-    go Earlier h = inr (wins t s k (same_sym (name s k) (name t k) same) (one-wins (ours s (own_claim k)) (ours t (own_claim k)) h))
-    go Same h = absurd (n (equal (own_same (rising s k) (rising t k) h)))
+    go : (v : Ordering) → tie (ours s (own_claim k)) (ours t (own_claim k)) ≡ v → (defeats (probe_of s (own_claim k)) t k ≡ true) ⊎ (defeats (probe_of t (own_claim k)) s k ≡ true)
+    go Greater h = inl (wins s t k same h)
+    go Less h = inr (wins t s k (same_sym (name s k) (name t k) same) (one-wins (ours s (own_claim k)) (ours t (own_claim k)) h))
+    go Equal h = absurd (n (equal (own_same (rising s k) (rising t k) h)))
 
 -- ---- a conflict
 

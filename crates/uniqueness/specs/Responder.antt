@@ -1,6 +1,6 @@
 -- Our responder (the dock of the specification) as a `Responder` of `link`: its calls are what the contracts of the functions give outright, its
 -- names and data are the set-up's, and conflicting and later are the tests that receive itself makes. Assumes nothing: these are definitions.
-use Rattle.std.specs.Prelude.{Bool, cond, ◌&&◌, ◌||◌, List, [], ◌∷◌, ◌++◌, ℕ, eqb, Option, Some, None}
+use Rattle.std.specs.Prelude.{Bool, cond, ◌&&◌, ◌||◌, List, [], ◌∷◌, ◌++◌, ℕ, eqb, Option as StdOption, Some, None}
 use Rattle.std.proofs.Math.Option.{Option, none, some}
 use Rattle.wire.specs.case_folding.Fold.{same_name}
 use Rattle.wire.specs.message.Message.{Record, Message, is_response, all_records}
@@ -92,7 +92,7 @@ abbrev pub revise : Update → Setup → Setup
 revise u s = revised s u.new
 
 -- a time, where there is one
-abbrev pub listed : Option ℕ → List ℕ
+abbrev pub listed : StdOption ℕ → List ℕ
 listed None = []
 listed (Some u) = u ∷ []
 
