@@ -1,6 +1,5 @@
 -- Laws that belong to no one function: the passes over a table, packets, refusals, and what a tick comes to.
 mod Refusing
-mod Testing
 mod Asking
 mod Finishing
 mod Ticking

@@ -5,6 +5,7 @@ ghost use Rattle.browser.specs.known_answers.Known.{is_known, shown_ttl};
 ghost use Rattle.browser.specs.known_answers.Plans.{empty_plan, plan_with, plan_from};
 
 use crate::Browser;
+use crate::list::is_shown;
 use cache::entries::Entry;
 
 // A known answer: its slot, the bytes of its target, and the TTL that is shown.
@@ -32,23 +33,7 @@ pub const MOST_TTL: u64 = 2147483647;
 pub(crate) fn is_known(e: Entry, i: usize, store: &[u8], b: Browser, time: u64) -> bool
     ensures { result ≡ is_known time store.now b i e }
 {
-    if e.expiry <= time {
-        return false;
-    }
-    if (e.expiry - time - 1) / 500 < e.ttl {
-        return false;
-    }
-    crate::list::is_shown(e, i, store, b, time)
-}
-
-// The lesser of two numbers.
-fn lesser_of(a: u64, b: u64) -> u64
-    ensures { result ≡ lesser a b }
-{
-    if a <= b {
-        return a;
-    }
-    b
+    time < e.expiry && e.ttl <= (e.expiry - time - 1) / 500 && is_shown(e, i, store, b, time)
 }
 
 // The TTL that is shown: what is left, at most that received.
@@ -58,11 +43,7 @@ pub(crate) fn shown_ttl(e: Entry, time: u64) -> u32
     if e.expiry <= time {
         return 0;
     }
-    let ttl = lesser_of(e.ttl, (e.expiry - time) / 1000);
-    if MOST_TTL < ttl {
-        return MOST_TTL as u32;
-    }
-    ttl as u32
+    e.ttl.min((e.expiry - time) / 1000).min(MOST_TTL) as u32
 }
 
 // No known answer.
@@ -84,10 +65,7 @@ pub(crate) fn plan_with(plan: Plan, e: Entry, i: usize, store: &[u8], b: Browser
     ensures { result ≡ plan_with time store.now b i e plan }
 {
     let n = plan.n;
-    if MOST_KNOWN <= n {
-        return plan;
-    }
-    if !is_known(e, i, store, b, time) {
+    if MOST_KNOWN <= n || !is_known(e, i, store, b, time) {
         return plan;
     }
     let mut known = plan.known;

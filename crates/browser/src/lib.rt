@@ -15,7 +15,10 @@ ghost use Rattle.browser.specs.Calls.{refusal_of, is_owed, blank, wrong_draws, w
 ghost use Rattle.browser.specs.Steps.{tick_refusal_with, look_refusal_with, owed_start, asked_start, Ends, refused_tick, refused_due, due_with};
 
 use crate::known_answers::Plan;
+use crate::series::{count_one, series_at};
+use crate::service::labels_right;
 use cache::entries::Entry;
+use claims::refusal_tests::{LAST_KEPT, LAST_TIME, start_time_refused};
 use own::records::Service;
 
 // A browser: the service label, the protocol and the domain as in a set-up; the two start draws; when the last query of the series was sent, or, before the
@@ -99,13 +102,7 @@ pub fn blank_browser() -> Browser
 fn draws_refused(draw: u64, refresh: u64) -> bool
     ensures { result ≡ wrong_draws draw refresh }
 {
-    if draw < LEAST_DRAW {
-        return true;
-    }
-    if MOST_DRAW < draw {
-        return true;
-    }
-    MOST_REFRESH < refresh
+    draw < LEAST_DRAW || MOST_DRAW < draw || MOST_REFRESH < refresh
 }
 
 // The refusal of a start, 0 for none.
@@ -119,13 +116,13 @@ fn start_refusal(
 ) -> u8
     ensures { result ≡ start_refusal service protocol domain time draw refresh }
 {
-    if claims::refusal_tests::start_time_refused(time) {
+    if start_time_refused(time) {
         return wire::refusals::TIME;
     }
     if draws_refused(draw, refresh) {
         return wire::refusals::DRAW;
     }
-    if !crate::service::labels_right(service, protocol, domain) {
+    if !labels_right(service, protocol, domain) {
         return wire::refusals::SETUP;
     }
     0
@@ -171,51 +168,31 @@ pub fn start(
 fn browser_refused(b: Browser) -> bool
     ensures { result ≡ wrong_browser b }
 {
-    let service = b.service;
-    let protocol = b.protocol;
-    let domain = b.domain;
-    if !crate::service::labels_right(service, protocol, domain) {
-        return true;
-    }
-    draws_refused(b.draw, b.refresh)
+    !labels_right(b.service, b.protocol, b.domain) || draws_refused(b.draw, b.refresh)
 }
 
 // Refusal 1: the time is too late or before the last call's, or a kept time is too late.
 fn time_refused(b: Browser, time: u64) -> bool
     ensures { result ≡ wrong_time b time }
 {
-    if claims::refusal_tests::LAST_TIME < time {
-        return true;
-    }
-    if time < b.last {
-        return true;
-    }
-    if claims::refusal_tests::LAST_KEPT < b.last {
-        return true;
-    }
-    if claims::refusal_tests::LAST_KEPT < b.series {
-        return true;
-    }
-    claims::refusal_tests::LAST_KEPT < b.query
+    LAST_TIME < time
+        || time < b.last
+        || LAST_KEPT < b.last
+        || LAST_KEPT < b.series
+        || LAST_KEPT < b.query
 }
 
 // The refusal of a tick, 0 for none, where `entries` is that of its table of n entries, and `room` the bytes of its buffer.
 fn tick_refusal(entries: u8, n: usize, store: &[u8], b: Browser, time: u64, room: usize) -> u8
     ensures { result ≡ tick_refusal_with entries n (length store.now) b time room }
 {
-    if time_refused(b, time) {
-        return wire::refusals::TIME;
-    }
-    if entries == wire::refusals::TIME {
+    if time_refused(b, time) || entries == wire::refusals::TIME {
         return wire::refusals::TIME;
     }
     if room < writer::own_packets::LEAST_OUT {
         return wire::refusals::BUFFER;
     }
-    if entries != 0 {
-        return wire::refusals::TABLE;
-    }
-    if !cache::lookup::is_store_of(n, store.len()) {
+    if entries != 0 || !cache::lookup::is_store_of(n, store.len()) {
         return wire::refusals::TABLE;
     }
     if browser_refused(b) {
@@ -242,33 +219,21 @@ fn owed_start(b: Browser) -> usize
 fn asked_start(owed: Plan, next: u64, time: u64) -> usize
     ensures { result ≡ asked_start owed.n next time }
 {
-    if 0 < owed.n {
-        return NO_SLOT;
+    if 0 < owed.n || time < next {
+        NO_SLOT
+    } else {
+        0
     }
-    if time < next {
-        return NO_SLOT;
-    }
-    0
 }
 
 // A browser after a tick that sends no query.
 fn resume(b: Browser, time: u64, owed: Option<usize>) -> Browser
     ensures { result ≡ resumed b time owed }
 {
-    let service = b.service;
-    let protocol = b.protocol;
-    let domain = b.domain;
     Browser {
-        service,
-        protocol,
-        domain,
-        draw: b.draw,
-        refresh: b.refresh,
-        series: b.series,
-        count: b.count,
-        query: b.query,
         owed,
         last: time,
+        ..b
     }
 }
 
@@ -277,34 +242,21 @@ fn ask(b: Browser, time: u64, owed: Option<usize>) -> Browser
     requires { Sound b }
     ensures { result ≡ asked b time owed }
 {
-    let service = b.service;
-    let protocol = b.protocol;
-    let domain = b.domain;
-    if time < crate::series::series_at(b) {
+    if time < series_at(b) {
         return Browser {
-            service,
-            protocol,
-            domain,
-            draw: b.draw,
-            refresh: b.refresh,
-            series: b.series,
-            count: b.count,
             query: time,
             owed,
             last: time,
+            ..b
         };
     }
     Browser {
-        service,
-        protocol,
-        domain,
-        draw: b.draw,
-        refresh: b.refresh,
         series: time,
-        count: crate::series::count_one(b.count),
+        count: count_one(b.count),
         query: time,
         owed,
         last: time,
+        ..b
     }
 }
 

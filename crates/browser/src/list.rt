@@ -4,8 +4,12 @@ ghost use Rattle.browser.specs.list.Listing.{is_shown, shows_too, is_listed};
 ghost use Rattle.browser.specs.Calls.{list_of, refused_list, found_list};
 
 use crate::Browser;
-use cache::entries::Entry;
+use crate::service::service_name;
+use cache::entries::{Entry, is_live, is_of, slot_of};
 use capi_cache::{entry_or_blank, table_refusal};
+use wire::case_folding::same_name;
+use wire::names::is_name;
+use wire::rdata::{PTR, part};
 
 // The number of a refusal, or 0; and the lowest listed slot, if there is one.
 #[derive(Clone, Copy)]
@@ -18,33 +22,23 @@ pub struct Listed {
 pub(crate) fn is_shown(e: Entry, i: usize, store: &[u8], b: Browser, time: u64) -> bool
     ensures { result ≡ is_shown time store.now b i e }
 {
-    if !cache::entries::is_live(e, time) {
+    if !is_live(e, time) || e.rtype != PTR {
         return false;
     }
-    if e.rtype != wire::rdata::PTR {
-        return false;
-    }
-    let name = crate::service::service_name(b);
-    let bytes = name.bytes;
-    let len = name.len;
-    if !cache::entries::is_of(e, i, store, &bytes[..len], wire::rdata::PTR) {
-        return false;
-    }
-    let target = wire::rdata::part(cache::entries::slot_of(store, i), 256, e.rdata as usize);
-    wire::names::is_name(target)
+    let name = service_name(b);
+    is_of(e, i, store, &name.bytes[..name.len], PTR)
+        && is_name(part(slot_of(store, i), 256, e.rdata as usize))
 }
 
 // Whether the entry d in slot j shows the target of the entry e in slot i.
 fn shows_too(d: Entry, j: usize, e: Entry, i: usize, store: &[u8], b: Browser, time: u64) -> bool
     ensures { result ≡ shows_too time store.now b i e j d }
 {
-    if !is_shown(d, j, store, b, time) {
-        return false;
-    }
-    wire::case_folding::same_name(
-        wire::rdata::part(cache::entries::slot_of(store, j), 256, d.rdata as usize),
-        wire::rdata::part(cache::entries::slot_of(store, i), 256, e.rdata as usize),
-    )
+    is_shown(d, j, store, b, time)
+        && same_name(
+            part(slot_of(store, j), 256, d.rdata as usize),
+            part(slot_of(store, i), 256, e.rdata as usize),
+        )
 }
 
 // Whether the entry e in slot i is listed still, after the entry d in slot j below it.
@@ -60,10 +54,7 @@ pub(crate) fn stays_listed(
 ) -> bool
     ensures { result ≡ (listed && not (shows_too time store.now b i e j d)) }
 {
-    if !listed {
-        return false;
-    }
-    !shows_too(d, j, e, i, store, b, time)
+    listed && !shows_too(d, j, e, i, store, b, time)
 }
 
 // Whether slot i is listed.

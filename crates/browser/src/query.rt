@@ -24,10 +24,7 @@ pub struct Draft {
 fn known_count(plan: Plan) -> usize
     ensures { result ≡ length (planned plan) }
 {
-    if plan.n < MOST_KNOWN {
-        return plan.n;
-    }
-    MOST_KNOWN
+    plan.n.min(MOST_KNOWN)
 }
 
 // The slot of the first known answer of a plan behind the first k.

@@ -5,6 +5,8 @@ ghost use Rattle.browser.specs.series.Series.{series_at};
 ghost use Rattle.browser.specs.refresh.Refresh.{greater, sooner_by, may_ask, sooner, next_query};
 
 use crate::Browser;
+use crate::list::is_shown;
+use crate::series::series_at;
 use cache::entries::Entry;
 
 // Four thresholds, in thousandths of the TTL.
@@ -51,10 +53,7 @@ fn sooner_by(b: Browser, time: u64, e: Entry, t: u64, part: u64) -> u64
 fn may_ask(e: Entry, i: usize, store: &[u8], b: Browser, time: u64) -> bool
     ensures { result ≡ may_ask time store.now b i e }
 {
-    if b.count == 0 {
-        return false;
-    }
-    crate::list::is_shown(e, i, store, b, time)
+    b.count != 0 && is_shown(e, i, store, b, time)
 }
 
 // The lesser of a time and that at which the entry in slot i asks for a query.
@@ -76,11 +75,7 @@ pub(crate) fn series_from(b: Browser, time: u64) -> u64
     requires { Sound b }
     ensures { result ≡ greater (series_at b) time }
 {
-    let at = crate::series::series_at(b);
-    if at <= time {
-        return time;
-    }
-    at
+    series_at(b).max(time)
 }
 
 // The next query from now on, with the table as it is: one of the series, or one that an entry asks for.

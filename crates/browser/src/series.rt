@@ -45,8 +45,5 @@ pub(crate) fn series_at(b: Browser) -> u64
 pub(crate) fn count_one(k: u64) -> u64
     ensures { result ≡ counted k }
 {
-    if k < 13 {
-        return k + 1;
-    }
-    k
+    if k < 13 { k + 1 } else { k }
 }

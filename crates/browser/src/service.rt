@@ -7,6 +7,7 @@ ghost use Rattle.browser.specs.service.Service.{right_labels, service_name, name
 
 use crate::Browser;
 use own::records::{MOST_SERVICE, Service};
+use own::setups::{domain_fits, protocol_fits, service_fits};
 
 // A service name: the first `len` of the bytes, zeros after them. The longest has a service label of 16 bytes.
 #[derive(Clone, Copy)]
@@ -19,23 +20,7 @@ pub struct ServiceName {
 pub(crate) fn labels_right(service: Service, protocol: [u8; 4], domain: [u8; 5]) -> bool
     ensures { result ≡ right_labels service protocol domain }
 {
-    if !own::setups::service_fits(service) {
-        return false;
-    }
-    if !own::setups::protocol_fits(protocol) {
-        return false;
-    }
-    own::setups::domain_fits(domain)
-}
-
-// How many bytes of a service label count: at most all of them.
-fn held_len(len: usize) -> usize
-    ensures { result ≡ lesser len 16 }
-{
-    if len <= MOST_SERVICE {
-        return len;
-    }
-    MOST_SERVICE
+    service_fits(service) && protocol_fits(protocol) && domain_fits(domain)
 }
 
 // The labels behind the service's, and the zero byte.
@@ -59,7 +44,8 @@ pub(crate) fn service_name(b: Browser) -> ServiceName
     let service = b.service;
     let protocol = b.protocol;
     let label = service.bytes;
-    let len = held_len(service.len);
+    // at most all bytes of a label count
+    let len = service.len.min(MOST_SERVICE);
     let behind = ending(protocol);
     let mut bytes = [0u8; 29];
     bytes[0] = len as u8;

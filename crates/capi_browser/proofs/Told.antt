@@ -1,6 +1,6 @@
 -- What the covered functions give, from what they have called and tested. Assumes nothing.
 use Rattle.std.proofs.Common.{None, Option, Some}
-use Prim.Native.Nat.{ℕ, ◌+◌, ◌-◌}
+use Prim.Native.Nat.{ℕ, ◌-◌}
 use mathlib.Core.Path.{◌≡◌, refl, sym, ap, ap₂, ◌∙◌}
 use mathlib.Core.Bool.{Bool}
 use Rattle.std.specs.Option.{is_some, unwrap_or}

@@ -9,7 +9,7 @@ use lib.Dec.{ltb}
 use borrow.Author.Tests.{lt-ltb, le-ltb, ltb-true, ltb-false}
 use Rattle.cache.specs.entries.Entries.{blank, heard_ahead, too_long}
 use Rattle.wire.specs.Lists.{some}
-use Rattle.cache.specs.entries.Cache.{is_size, bad_time, bad_table, entries_refusal}
+use Rattle.cache.specs.entries.Cache.{is_size, entries_refusal}
 use Rattle.cache.specs.declared.entries.Entry.{Entry}
 use Rattle.cache.proofs.entries.Searches.{at_slot}
 use Rattle.capi_cache.specs.Refusals.{no_most, most_with, ended}
@@ -76,11 +76,3 @@ unfolding rest_of
 scan_end now n m es i h = ap (rest_of now n m) (drop_of_length-le es h)
 
 -- the number of a whole table fits a byte
-pub entries-fits : (now : ℕ) (es : List Entry) → entries_refusal now es < 2 ^ 8
-unfolding entries_refusal
-entries-fits now es = go (bad_time now es) (bad_table es)
-  where
-    go : (x y : Bool) → num x y < 2 ^ 8
-    go true y = omega arith
-    go false true = omega arith
-    go false false = omega arith

@@ -1,16 +1,13 @@
-use mathlib.Core.Path.{sym}
-use borrow.Author.Tests.{lt-ltb, le-ltb}
+use Rattle.std.proofs.Common.{arith}
+use Rattle.std.proofs.lemmas.Grind.{common_steps}
+use Rattle.std.proofs.lemmas.Bool.Decides.{nat_tests}
 use Rattle.browser.specs.Steps.{asked_start}
 use Rattle.browser.proofs.asked_start.Goals as goal
 
-pub returns-then-owed-gt0 : goal.returns-then-owed-gt0
-unfolding asked_start
-returns-then-owed-gt0 c = sym (simp (lt-ltb _ _ c.if-owed-gt0.true))
-
 pub returns-then-time-next : goal.returns-then-time-next
 unfolding asked_start
-returns-then-time-next c = sym (simp (le-ltb _ _ c.if-owed-gt0.false, lt-ltb _ _ c.if-time-next.true))
+returns-then-time-next c = grind (arith, common_steps, nat_tests)
 
-pub returns : goal.returns
+pub returns-else-time-next : goal.returns-else-time-next
 unfolding asked_start
-returns c = sym (simp (le-ltb _ _ c.if-owed-gt0.false, le-ltb _ _ c.if-time-next.false))
+returns-else-time-next c = grind (arith, common_steps, nat_tests)

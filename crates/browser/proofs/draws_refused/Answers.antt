@@ -1,16 +1,13 @@
-use mathlib.Core.Path.{sym}
-use borrow.Author.Tests.{lt-ltb, le-ltb}
+use Rattle.std.proofs.Common.{arith}
+use Rattle.std.proofs.lemmas.Grind.{common_steps}
+use Rattle.std.proofs.lemmas.Bool.Decides.{nat_tests}
 use Rattle.browser.specs.Calls.{wrong_draws}
 use Rattle.browser.proofs.draws_refused.Goals as goal
 
-pub returns-then-draw-lt-LEAST_DRAW : goal.returns-then-draw-lt-LEAST_DRAW
-unfolding wrong_draws
-returns-then-draw-lt-LEAST_DRAW c = sym (simp (lt-ltb _ _ c.if-draw-lt-LEAST_DRAW.true))
-
 pub returns-then-draw-gt-MOST_DRAW : goal.returns-then-draw-gt-MOST_DRAW
 unfolding wrong_draws
-returns-then-draw-gt-MOST_DRAW c = sym (simp (le-ltb _ _ c.if-draw-lt-LEAST_DRAW.false, lt-ltb _ _ c.if-draw-gt-MOST_DRAW.true))
+returns-then-draw-gt-MOST_DRAW c = grind (arith, common_steps, nat_tests)
 
-pub returns : goal.returns
+pub returns-else-draw-gt-MOST_DRAW : goal.returns-else-draw-gt-MOST_DRAW
 unfolding wrong_draws
-returns c = sym (simp (le-ltb _ _ c.if-draw-lt-LEAST_DRAW.false, le-ltb _ _ c.if-draw-gt-MOST_DRAW.false))
+returns-else-draw-gt-MOST_DRAW c = grind (arith, common_steps, nat_tests)

@@ -3,10 +3,10 @@ use Rattle.std.proofs.Common.{None, Some}
 use mathlib.Core.Path.{◌≡◌, refl, sym, ap, ap₂, ◌∙◌}
 use mathlib.Core.List.{List, [], ◌∷◌, map}
 use mathlib.Core.Bool.{Bool, true, false, cond}
-use Prim.Native.Nat.{ℕ, zero, suc, ◌/◌, ◌%◌, ◌≤◌, ◌<◌}
+use Prim.Native.Nat.{ℕ, zero, suc, ◌/◌, ◌%◌, ◌≤◌, ◌<◌, min}
 use native.Mathlib.Omega.{arith}
 use lib.ListN.{length, get_or, drop, length-take}
-use lib.Seq.{get_or-take, length-take-le, take_all}
+use lib.Seq.{get_or-take}
 use Rattle.browser.specs.declared.known_answers.Known.{Known}
 use Rattle.browser.specs.declared.known_answers.Plan.{Plan}
 use Rattle.browser.specs.known_answers.Plans.{no_answer, planned}
@@ -25,11 +25,8 @@ head_is asks k truncated f q e g = ap₂ (λ (x y : ℕ). 0 ∷ 0 ∷ x ∷ 0 �
 
 -- a plan in an array of 121
 module _ (p : Plan) (sized : length p.known ≡ 121) where
-  pub count_less : p.n < 121 → p.n ≡ length (planned p)
-  count_less h = sym (length-take-le p.n p.known (omega arith))
-
-  pub count_all_lem : 121 ≤ p.n → 121 ≡ length (planned p)
-  count_all_lem h = sym (ap length (take_all p.n p.known (omega arith)) ∙ sized)
+  pub count_least : min p.n 121 ≡ length (planned p)
+  count_least = omega (arith, length-take p.n p.known, sized)
 
 map_at : (f : Known → ℕ) (ks : List Known) (k : ℕ) → k < length ks → first_slot (drop k (map f ks)) ≡ Some (f (get_or ks k no_answer))
 map_at f [] k h = absurd (omega arith)

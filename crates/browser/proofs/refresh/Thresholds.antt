@@ -10,7 +10,6 @@ use borrow.Author.Tests.{lt-ltb, le-ltb, le-leb, lt-leb, leb-true, leb-false}
 use Rattle.cache.specs.declared.entries.Entry.{Entry}
 use Rattle.cache.specs.entries.Entries.{lesser}
 use Rattle.browser.specs.declared.Browser.{Browser}
-use Rattle.browser.specs.list.Listing.{is_shown}
 use Rattle.browser.specs.refresh.Refresh.{threshold, greater, sooner_by, may_ask, sooner}
 
 -- the greater of two is at least each
@@ -87,14 +86,6 @@ module _ (b : Browser) (now : ℕ) (e : Entry) (t part : ℕ) where
     by-at q l f = sym (simp (lt-leb _ _ f)) ∙ at-threshold q l
 
 module _ (now : ℕ) (store : List ℕ) (b : Browser) (i : ℕ) (e : Entry) where
-  pub ask_never : b.count ≡ 0 → false ≡ may_ask now store b i e
-  unfolding may_ask
-  ask_never h = let z : b.count ≤ 0 = omega arith in sym (simp (le-ltb _ _ z))
-
-  pub ask_shown : (b.count ≡ 0 → ⊥) → (v : Bool) → v ≡ is_shown now store b i e → v ≡ may_ask now store b i e
-  unfolding may_ask
-  ask_shown h v is = let z : 0 < b.count = omega arith in is ∙ sym (simp (lt-ltb _ _ z))
-
   module _ (t : ℕ) (v : Bool) (is : v ≡ may_ask now store b i e) where
     pub sooner-not : v ≡ false → t ≡ sooner now store b i e t
     unfolding sooner

@@ -2,7 +2,7 @@
 use mathlib.Core.Path.{◌≡◌, refl, sym, ap, ◌∙◌}
 use mathlib.Core.Bool.{Bool, true, false, cond, ◌&&◌}
 use mathlib.Core.List.{List, [], ◌∷◌, ◌++◌}
-use Prim.Native.Nat.{ℕ, ◌+◌, ◌-◌, ◌≤◌, ◌<◌}
+use Prim.Native.Nat.{ℕ, ◌+◌, ◌-◌, ◌≤◌, ◌<◌, min}
 use native.Mathlib.Omega.{arith}
 use lib.ListN.{length, take, drop, set, replicate, length-append, length-take}
 use lib.Seq.{sets, sets-eq, take_all, take_at, length-take-le}
@@ -20,6 +20,14 @@ use Rattle.cache.specs.entries.Entries.{lesser}
 use Rattle.browser.specs.declared.Browser.{Browser}
 use Rattle.browser.specs.declared.service.ServiceName.{ServiceName}
 use Rattle.browser.specs.service.Service.{right_labels, name_labels, service_name, name_of}
+
+-- the lesser of two numbers is std's min
+pub min-lesser : (a b : ℕ) → min a b ≡ lesser a b
+min-lesser a b = go (leb a b) refl
+  where
+    go : (t : Bool) → leb a b ≡ t → min a b ≡ cond t a b
+    go true e = omega (arith, leb-true a b e)
+    go false e = omega (arith, leb-false a b e)
 
 -- the front of a name's bytes
 module _ (bs : List ℕ) (r : ServiceName) (e : r ≡ name_of bs) where

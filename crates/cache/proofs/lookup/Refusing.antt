@@ -16,13 +16,6 @@ use Rattle.cache.specs.entries.Cache.{is_size, bad_time, bad_table, bad_store, t
 use Rattle.cache.specs.declared.entries.Entry.{Entry}
 
 -- what a size is
-pub size_least : (n : ℕ) → is_size n ≡ true → 1 ≤ n
-unfolding is_size
-size_least n h = go (leb 1 n) refl h
-  where
-    go : (b : Bool) → leb 1 n ≡ b → (b && leb n 512) ≡ true → 1 ≤ n
-    go true e k = leb-true 1 n e
-    go false e k = let z : ◌≡◌ {A = ℕ} 0 1 = cc in absurd (omega arith)
 
 pub size_most : (n : ℕ) → is_size n ≡ true → n ≤ 512
 unfolding is_size

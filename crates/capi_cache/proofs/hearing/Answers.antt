@@ -31,7 +31,7 @@ use Rattle.wire.specs.declared.message.RecordAt.{RecordAt}
 use Rattle.cache.specs.records.Heard.{heard_of, heard_at}
 use Rattle.cache.specs.declared.records.Heard.{Heard}
 use Rattle.capi_cache.specs.hearing.Hearing.{heard_with, name_over, named_over, rdata_over, record_over, owner_over, heard_in}
-use Rattle.capi_cache.proofs.hearing.Shown.{named-rdata, rdata-length}
+use Rattle.capi_cache.proofs.hearing.Shown.{named-rdata}
 
 -- a part of a slot, from a place to its end, that a name was written into
 rest_written : (s : List ℕ) (place : ℕ) (x : Reading) (last : List ℕ) → last ≡ with_name (take (length s - place) (drop place s)) x
@@ -155,9 +155,6 @@ module _ (p : List ℕ) (f : RecordAt) where
         named-over s₃ e₃ =
             e₃ ∙ ap₂ (λ (q : List ℕ) (m : ℕ). sets q (256 + g.before + m) back) written (sym found.2)
             ∙ sym (over ∙ ap (λ (y : Reading). name_over (256 + g.before) back y (sets slot 256 front)) found.1)
-
-        pub named-size : (s₃ : List ℕ) → s₃ ≡ sets s₂ (256 + g.before + s.len) back → length s₃ ≡ length slot
-        named-size s₃ e₃ = ap length (named-over s₃ e₃ ∙ over_named slot) ∙ rdata-length p f slot
 
         pub named-elsewhere : (s.end ≡ to → ⊥) → None ≡ heard_with p f
         named-elsewhere z = heard-unfit (ending ∙ ap (ending_name front back to) found.1 ∙ simp (ne_eqb _ _ z))

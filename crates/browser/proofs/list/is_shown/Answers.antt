@@ -1,27 +1,23 @@
+use Rattle.std.proofs.Common.{arith}
+use Rattle.std.proofs.lemmas.Grind.{common_steps}
+use Rattle.std.proofs.lemmas.Bool.Decides.{nat_tests}
+use Rattle.cache.specs.entries.Entries.{is_of, live_of}
 use Rattle.browser.specs.service.Service.{service_name}
-use mathlib.Core.Path.{sym, ◌∙◌}
-use Rattle.browser.proofs.service.Names.{name-front, name-long, name-fits}
-use Rattle.browser.proofs.list.Shown.{shown-dead, shown-other, shown-elsewhere, shown-target}
+use Rattle.browser.specs.list.Listing.{is_shown}
+use Rattle.browser.proofs.service.Names.{name-front, name-long}
 use Rattle.browser.proofs.list.is_shown.Goals as goal
 
 pub returns-then-not-is_live : goal.returns-then-not-is_live
-returns-then-not-is_live c = shown-dead _ _ _ _ _ (sym c.is_live.ensures ∙ c.if-not-is_live.true)
-
-pub returns-then-e-ne-PTR : goal.returns-then-e-ne-PTR
-returns-then-e-ne-PTR c = shown-other _ _ _ _ _ (sym c.is_live.ensures ∙ c.if-not-is_live.false) c.if-e-ne-PTR.true
-
-pub slice_bounds-bytes-end : goal.slice_bounds-bytes-end
-slice_bounds-bytes-end c = name-fits (service_name c.args.b) _ c.service_name-name.ensures
+unfolding is_shown live_of is_of
+returns-then-not-is_live c = grind (arith, common_steps, nat_tests)
 
 pub slice_bounds-is_of-end : goal.slice_bounds-is_of-end
-slice_bounds-is_of-end c = name-long (service_name c.args.b) _
-    c.service_name-name.ensures
+slice_bounds-is_of-end c = name-long (service_name c.args.b) _ c.service_name-name.ensures
 
-pub returns-then-not-is_of : goal.returns-then-not-is_of
-returns-then-not-is_of c = shown-elsewhere _ _ _ _ _ (sym c.is_live.ensures
-    ∙ c.if-not-is_live.false) _
-    (name-front (service_name c.args.b) _
-    c.service_name-name.ensures) _ c.is_of.ensures (c.if-not-is_of.true)
+pub returns-then-is_of : goal.returns-then-is_of
+unfolding is_shown live_of
+returns-then-is_of c = let n = name-front (service_name c.args.b) _ c.service_name-name.ensures in grind (arith, common_steps, nat_tests)
 
-pub returns : goal.returns
-returns c = shown-target _ _ _ _ _ (sym c.is_live.ensures ∙ c.if-not-is_live.false) _ (name-front (service_name c.args.b) _ c.service_name-name.ensures) _ c.is_of.ensures (c.if-not-is_of.false) _ _ _ c.slot_of.ensures.bytes c.part-target.ensures.bytes c.is_name.ensures
+pub returns-else-is_of : goal.returns-else-is_of
+unfolding is_shown live_of
+returns-else-is_of c = let n = name-front (service_name c.args.b) _ c.service_name-name.ensures in grind (arith, common_steps, nat_tests)

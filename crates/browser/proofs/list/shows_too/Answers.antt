@@ -1,11 +1,13 @@
-use Rattle.browser.proofs.list.Shown.{too_hidden, too_same}
+use Rattle.std.proofs.Common.{arith}
+use Rattle.std.proofs.lemmas.Grind.{common_steps}
+use Rattle.std.proofs.lemmas.Bool.Decides.{nat_tests}
+use Rattle.browser.specs.list.Listing.{shows_too}
 use Rattle.browser.proofs.list.shows_too.Goals as goal
 
-pub returns-then-not-is_shown : goal.returns-then-not-is_shown
-returns-then-not-is_shown c = too_hidden _ _ _ _ _ _ _ _ c.is_shown.ensures (c.if-not-is_shown.true)
+pub returns-then-is_shown : goal.returns-then-is_shown
+unfolding shows_too
+returns-then-is_shown c = grind (arith, common_steps, nat_tests)
 
-pub returns : goal.returns
-returns c = too_same _ _ _ _ _ _ _ _ c.is_shown.ensures
-    (c.if-not-is_shown.false) _ _ _ _ _
-    c.slot_of.ensures.bytes c.part.ensures.bytes
-    c.slot_of-2.ensures.bytes c.part-2.ensures.bytes c.same_name.ensures
+pub returns-else-is_shown : goal.returns-else-is_shown
+unfolding shows_too
+returns-else-is_shown c = grind (arith, common_steps, nat_tests)

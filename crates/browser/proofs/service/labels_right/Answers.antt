@@ -1,23 +1,13 @@
-use mathlib.Core.Path.{sym, ◌∙◌}
+use Rattle.std.proofs.Common.{arith}
+use Rattle.std.proofs.lemmas.Grind.{common_steps}
+use Rattle.std.proofs.lemmas.Bool.Decides.{nat_tests}
 use Rattle.browser.specs.service.Service.{right_labels}
 use Rattle.browser.proofs.service.labels_right.Goals as goal
 
-pub returns-then-not-service_fits : goal.returns-then-not-service_fits
+pub returns-then-protocol_fits : goal.returns-then-protocol_fits
 unfolding right_labels
-returns-then-not-service_fits c = sym (simp (sym c.service_fits.ensures ∙ c.if-not-service_fits.true))
+returns-then-protocol_fits c = grind (arith, common_steps, nat_tests)
 
-pub returns-then-not-protocol_fits : goal.returns-then-not-protocol_fits
+pub returns-else-protocol_fits : goal.returns-else-protocol_fits
 unfolding right_labels
-returns-then-not-protocol_fits c = sym (simp (
-  sym c.service_fits.ensures ∙ c.if-not-service_fits.false,
-  sym
-      c.protocol_fits.ensures ∙ c.if-not-protocol_fits.true,
-))
-
-pub returns : goal.returns
-unfolding right_labels
-returns c = c.domain_fits.ensures ∙ sym (simp (
-  sym c.service_fits.ensures
-      ∙ c.if-not-service_fits.false,
-  sym c.protocol_fits.ensures ∙ c.if-not-protocol_fits.false,
-))
+returns-else-protocol_fits c = grind (arith, common_steps, nat_tests)
