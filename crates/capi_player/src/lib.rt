@@ -11,6 +11,7 @@ use own::records::{MOST_TXT, Setup};
 use playing::Turn;
 use responder::State;
 use wire::buffer::put;
+use wire::refusals::Refusal;
 
 // What playing from an offset came to: 7, 12 or 0; 0 at the trace's end or where it is refused, 1 for a call that was made, 2 for a claim that was recorded;
 // the refusal number of that call, or 0; whether the responder agrees with what was recorded; the offset behind the event, or that of the refusal; and of the
@@ -33,7 +34,7 @@ fn no_state(at: usize) -> PlayedTurn
     ensures { result ≡ no_state at }
 {
     PlayedTurn {
-        refusal: wire::refusals::SETUP,
+        refusal: Refusal::Setup.number(),
         turn: 0,
         call: 0,
         agrees: false,
@@ -61,7 +62,7 @@ fn turn_numbers(turn: Turn, call: u8, at: usize) -> PlayedTurn
     match turn {
         Turn::End => none,
         Turn::Refused(offset) => PlayedTurn {
-            refusal: wire::refusals::TRACE,
+            refusal: Refusal::Trace.number(),
             at: offset,
             ..none
         },

@@ -11,6 +11,7 @@ ghost use Rattle.capi_trace.specs.Numbers.{event_of, no_event, step_of, checked_
 use claims::holds::Address;
 use trace::reading::Event;
 use trace::writing::Unwritten;
+use wire::refusals::Refusal;
 
 // An event of a trace: 12 or 0; the kind of its record, 0 at the trace's end or where it is refused; the offset behind it, or that of the refusal; the time; of
 // a packet the halves of its source address, its port and draws; of an update the port; the claim and its state; and how many bytes it brings.
@@ -125,7 +126,7 @@ pub fn kurgashel_trace_next(trace: &[u8], at: usize) -> TraceEvent
     match trace::reading::next(trace, at) {
         Ok(Some(entry)) => event_of(entry.event, entry.next, entry.len),
         Ok(None) => no_event(0, at),
-        Err(refused) => no_event(wire::refusals::TRACE, refused.at),
+        Err(refused) => no_event(Refusal::Trace.number(), refused.at),
     }
 }
 
@@ -147,7 +148,7 @@ pub fn kurgashel_trace_check(trace: &[u8]) -> TraceAnswer
             at: trace.len(),
         },
         Err(refused) => TraceAnswer {
-            refusal: wire::refusals::TRACE,
+            refusal: Refusal::Trace.number(),
             at: refused.at,
         },
     }
@@ -198,11 +199,11 @@ fn written_of(w: Result<usize, Unwritten>) -> TraceAnswer
             at: next,
         },
         Err(Unwritten::Unfit { at }) => TraceAnswer {
-            refusal: wire::refusals::TRACE,
+            refusal: Refusal::Trace.number(),
             at,
         },
         Err(Unwritten::NoRoom) => TraceAnswer {
-            refusal: wire::refusals::BUFFER,
+            refusal: Refusal::Buffer.number(),
             at: 0,
         },
     }
@@ -229,7 +230,7 @@ pub fn kurgashel_trace_write<'o, 'b>(
     match told_by(kind, time, high, low, port, draw, hold, claim, state) {
         Some(event) => written_of(trace::writing::write(out, at, event, bytes)),
         None => TraceAnswer {
-            refusal: wire::refusals::TRACE,
+            refusal: Refusal::Trace.number(),
             at,
         },
     }

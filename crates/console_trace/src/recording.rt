@@ -6,6 +6,7 @@ use console_calls::output::{bad_line, bytes, finish, first, refused};
 use console_text::fields::{is_number, number};
 use console_text::lines::{arguments, front};
 use trace::writing::{Unfit, size_of, write};
+use wire::refusals::Refusal;
 
 // The index of the first event's word.
 const FIRST: usize = 2;
@@ -91,7 +92,7 @@ fn write_all(line: &[u8], out: &mut [u8]) -> usize {
 // The trace, where there is room for it.
 fn recorded(line: &[u8], size: usize, rt: &impl Print, text: &mut [u8; 4096]) {
     if number(line, 1) < size as u64 {
-        return refused(rt, text, wire::refusals::BUFFER as u64);
+        return refused(rt, text, Refusal::Buffer.number() as u64);
     }
     let mut out = [0u8; MOST_TRACE];
     let n = write_all(line, &mut out);

@@ -5,11 +5,12 @@ use console_text::hex::{fill, is_bytes};
 use console_text::lines::{arguments, field, front};
 use trace::reading::{Event, check, next};
 use wire::buffer::put;
+use wire::refusals::Refusal;
 
 // The answer to a trace or to events that are refused as 12, with the offset.
 pub fn refused_at(offset: usize, rt: &impl Print, text: &mut [u8; 4096]) {
     let used = first(rt, text, b"refused");
-    let used = number(rt, text, used, wire::refusals::TRACE as u64);
+    let used = number(rt, text, used, Refusal::Trace.number() as u64);
     let used = number(rt, text, used, offset as u64);
     finish(rt, text, used);
 }

@@ -1,9 +1,9 @@
 // The events that a line tells, in the words in which they are shown: `tick NOW`, `recv NOW FROM PORT DRAW HOLD PACKET`, `claim LAST K STATE`, `stop NOW`,
 // `port NOW PORT` and `txt NOW TXT`.
 use claims::holds::Address;
-use console_text::fields::{are_bytes, is_number, number};
+use console_text::fields::are_bytes;
 use console_text::hex::{fill, is_bytes};
-use console_text::lines::{field, front};
+use console_text::lines::{field, number};
 use responder::address::address_of;
 use trace::reading::Event;
 
@@ -15,33 +15,22 @@ pub struct Told {
     pub bytes: Option<usize>,
 }
 
-// No line has so many fields.
-const MOST_FIELDS: usize = 65536;
-
-// Whether a field is bytes, so many of them.
-fn is_bytes_of(field: &[u8], n: usize) -> bool {
-    let mut first = [0u8; 1];
-    is_bytes(field) && fill(field, &mut first) == n
+// A field of a line as a number.
+fn number_at(line: &[u8], index: usize) -> Option<u64> {
+    number(field(line, index))
 }
 
-// Whether a field is the address of a sender: 4 bytes of IPv4, or 16.
-fn is_address(field: &[u8]) -> bool {
-    is_bytes_of(field, 4) || is_bytes_of(field, 16)
-}
-
-// The address that a field tells.
-fn address(field: &[u8]) -> Address {
+// The address of a sender that a field tells: 4 bytes of IPv4, or 16.
+fn address(field: &[u8]) -> Option<Address> {
+    if !is_bytes(field) {
+        return None;
+    }
     let mut bytes = [0u8; 16];
-    let n = fill(field, &mut bytes);
-    address_of(front(&bytes, n))
-}
-
-// Whether the field with an index and the two behind it are numbers.
-fn are_numbers(line: &[u8], first: usize) -> bool {
-    first <= MOST_FIELDS
-        && is_number(line, first)
-        && is_number(line, first + 1)
-        && is_number(line, first + 2)
+    match fill(field, &mut bytes) {
+        4 => Some(address_of(&bytes[..4])),
+        16 => Some(address_of(&bytes)),
+        _ => None,
+    }
 }
 
 // An event that brings no bytes, with the index of the field behind it.
@@ -55,85 +44,77 @@ fn alone(event: Event, next: usize) -> Option<Told> {
 
 // `recv NOW FROM PORT DRAW HOLD PACKET`, its word at an index.
 fn packet(line: &[u8], at: usize) -> Option<Told> {
-    if MOST_FIELDS < at || !is_number(line, at + 1) {
-        return None;
-    }
-    let from = field(line, at + 2);
-    if !is_address(from) || !are_numbers(line, at + 3) || !are_bytes(line, at + 6) {
+    let next = at.checked_add(7)?;
+    if !are_bytes(line, at + 6) {
         return None;
     }
     Some(Told {
         event: Event::Packet {
-            time: number(line, at + 1),
-            from: address(from),
-            port: number(line, at + 3),
-            draw: number(line, at + 4),
-            hold: number(line, at + 5),
+            time: number_at(line, at + 1)?,
+            from: address(field(line, at + 2))?,
+            port: number_at(line, at + 3)?,
+            draw: number_at(line, at + 4)?,
+            hold: number_at(line, at + 5)?,
         },
-        next: at + 7,
+        next,
         bytes: Some(at + 6),
     })
 }
 
 // `claim LAST K STATE`
 fn claim(line: &[u8], at: usize) -> Option<Told> {
-    if MOST_FIELDS < at || !are_numbers(line, at + 1) {
-        return None;
-    }
-    alone(
-        Event::Claim {
-            last: number(line, at + 1),
-            claim: number(line, at + 2),
-            state: number(line, at + 3),
-        },
-        at + 4,
-    )
+    let next = at.checked_add(4)?;
+    let event = Event::Claim {
+        last: number_at(line, at + 1)?,
+        claim: number_at(line, at + 2)?,
+        state: number_at(line, at + 3)?,
+    };
+    alone(event, next)
 }
 
 // `port NOW PORT`
 fn port(line: &[u8], at: usize) -> Option<Told> {
-    if MOST_FIELDS < at || !is_number(line, at + 1) || !is_number(line, at + 2) {
-        return None;
-    }
-    alone(
-        Event::Port {
-            time: number(line, at + 1),
-            port: number(line, at + 2),
-        },
-        at + 3,
-    )
+    let next = at.checked_add(3)?;
+    let event = Event::Port {
+        time: number_at(line, at + 1)?,
+        port: number_at(line, at + 2)?,
+    };
+    alone(event, next)
 }
 
 // `txt NOW TXT`
 fn txt(line: &[u8], at: usize) -> Option<Told> {
-    if MOST_FIELDS < at || !is_number(line, at + 1) || !are_bytes(line, at + 2) {
+    let next = at.checked_add(3)?;
+    let event = Event::Txt(number_at(line, at + 1)?);
+    if !are_bytes(line, at + 2) {
         return None;
     }
     Some(Told {
-        event: Event::Txt(number(line, at + 1)),
-        next: at + 3,
+        event,
+        next,
         bytes: Some(at + 2),
     })
 }
 
-// `tick NOW` or `stop NOW`
-fn timed(line: &[u8], at: usize) -> Option<Told> {
-    if MOST_FIELDS < at || !is_number(line, at + 1) {
-        return None;
-    }
-    let time = number(line, at + 1);
-    match field(line, at) {
-        b"tick" => alone(Event::Tick(time), at + 2),
-        _ => alone(Event::Stop(time), at + 2),
-    }
+// `tick NOW`
+fn tick(line: &[u8], at: usize) -> Option<Told> {
+    let next = at.checked_add(2)?;
+    alone(Event::Tick(number_at(line, at + 1)?), next)
+}
+
+// `stop NOW`
+fn stop(line: &[u8], at: usize) -> Option<Told> {
+    let next = at.checked_add(2)?;
+    alone(Event::Stop(number_at(line, at + 1)?), next)
 }
 
 // The event whose word is the field with an index.
 pub(crate) fn event_at(line: &[u8], at: usize) -> Option<Told> {
     match field(line, at) {
-        b"tick" | b"stop" => timed(line, at),
+        b"tick" => tick(line, at),
         b"recv" => packet(line, at),
         b"claim" => claim(line, at),
+        b"stop" => stop(line, at),
         b"port" => port(line, at),
         b"txt" => txt(line, at),
         _ => None,

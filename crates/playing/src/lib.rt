@@ -58,16 +58,7 @@ pub struct Made {
 pub fn state_number(c: ClaimState) -> u64
     ensures { result ≡ state_number c }
 {
-    match c {
-        ClaimState::Waiting(_) => 0,
-        ClaimState::Probing1(_) => 1,
-        ClaimState::Probing2(_) => 1,
-        ClaimState::Probing3(_) => 1,
-        ClaimState::Deferred(_) => 2,
-        ClaimState::Announced(_) => 3,
-        ClaimState::Held => 3,
-        ClaimState::Lost => 4,
-    }
+    claims::state_number(c) as u64
 }
 
 // The number of the state that a claim, by its number, is in.
