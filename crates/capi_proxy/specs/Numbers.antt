@@ -1,24 +1,19 @@
 -- The answers of the proxy in numbers. Assumes nothing: these are definitions.
-use Rattle.std.specs.Prelude.{ℕ, List, true, false, replicate}
+use Rattle.std.specs.Prelude.{ℕ, List, true, false, replicate, Option, Some, None, Result, Ok, Err}
+use Rattle.wire.specs.refusals.Numbers.{number_of}
+use Rattle.wire.specs.declared.refusals.Refusal.{Refusal}
 use Rattle.wire.specs.rdata.Rdata.{form_of}
-use Rattle.proxy.specs.declared.questions.Question.{Question}
-use Rattle.proxy.specs.declared.questions.Asked.{Asked}
-use Rattle.proxy.specs.declared.questions.Asked.TheVariants as a
+use Rattle.proxy.specs.declared.domains.Moved.{Moved}
 use Rattle.proxy.specs.declared.records.Fields.{Fields}
 use Rattle.proxy.specs.declared.records.Passed.{Passed}
-use Rattle.proxy.specs.declared.records.Passing.{Passing}
-use Rattle.proxy.specs.declared.records.Passing.TheVariants as p
 use Rattle.capi_proxy.specs.declared.QuestionNumbers.{QuestionNumbers}
 use Rattle.capi_proxy.specs.declared.RecordNumbers.{RecordNumbers}
 
 -- what becomes of a question
-abbrev pub asked_numbers : Asked → List ℕ → QuestionNumbers
-asked_numbers (a.Name n) name = record { refusal = 0; negative = false; length = n; name = name }
-asked_numbers a.Negative name = record { refusal = 0; negative = true; length = 0; name = name }
-asked_numbers (a.Refused n) name = record { refusal = n; negative = false; length = 0; name = name }
-
-abbrev pub question_numbers : Question → QuestionNumbers
-question_numbers q = asked_numbers q.asked q.name
+abbrev pub question_numbers : Result (Option Moved) Refusal → QuestionNumbers
+question_numbers (Ok (Some m)) = record { refusal = 0; negative = false; length = m.len; name = m.bytes }
+question_numbers (Ok None) = record { refusal = 0; negative = true; length = 0; name = replicate 255 0 }
+question_numbers (Err refusal) = record { refusal = number_of refusal; negative = false; length = 0; name = replicate 255 0 }
 
 -- what becomes of a record: one that is left out is neither passed on nor refused
 abbrev pub refused_numbers : ℕ → RecordNumbers
@@ -49,10 +44,7 @@ field_numbers f owner rdata = record {
   rdata = rdata;
 }
 
-abbrev pub passing_numbers : Passing → List ℕ → List ℕ → RecordNumbers
-passing_numbers (p.Record f) owner rdata = field_numbers f owner rdata
-passing_numbers p.Left owner rdata = refused_numbers 0
-passing_numbers (p.Refused n) owner rdata = refused_numbers n
-
-abbrev pub record_numbers : Passed → RecordNumbers
-record_numbers r = passing_numbers r.passing r.owner r.rdata
+abbrev pub record_numbers : Result (Option Passed) Refusal → RecordNumbers
+record_numbers (Ok (Some x)) = field_numbers x.fields x.owner x.rdata
+record_numbers (Ok None) = refused_numbers 0
+record_numbers (Err refusal) = refused_numbers (number_of refusal)

@@ -12,8 +12,9 @@ ghost use Rattle.proxy.specs.records.Held.{held_out};
 ghost use Rattle.capi_proxy.specs.Numbers.{question_numbers, refused_numbers, field_numbers, record_numbers};
 
 use cache::entries::Entry;
-use proxy::questions::{Asked, Question};
-use proxy::records::{Fields, Passed, Passing};
+use proxy::domains::Moved;
+use proxy::records::{Fields, Passed};
+use wire::refusals::Refusal;
 
 // What becomes of a question: the specification's refusal number, or 0; whether it is answered negatively at once; and where it is asked on the link the
 // length of its name there and the bytes, zeros after them.
@@ -43,30 +44,33 @@ pub struct RecordNumbers {
     pub rdata: [u8; 261],
 }
 
-fn question_numbers(q: Question) -> QuestionNumbers
-    ensures { result ≡ question_numbers q }
-{
-    let asked = q.asked;
-    let name = q.name;
-    match asked {
-        Asked::Name(length) => QuestionNumbers {
-            refusal: 0,
-            negative: false,
-            length,
-            name,
-        },
-        Asked::Negative => QuestionNumbers {
-            refusal: 0,
-            negative: true,
-            length: 0,
-            name,
-        },
-        Asked::Refused(number) => QuestionNumbers {
-            refusal: number,
-            negative: false,
-            length: 0,
-            name,
-        },
+impl From<Result<Option<Moved>, Refusal>> for QuestionNumbers {
+    ghost from_gives = { λ q numbers. numbers ≡ question_numbers q };
+
+    fn from(q: Result<Option<Moved>, Refusal>) -> QuestionNumbers {
+        match q {
+            Ok(Some(moved)) => {
+                let name = moved.bytes;
+                QuestionNumbers {
+                    refusal: 0,
+                    negative: false,
+                    length: moved.len,
+                    name,
+                }
+            }
+            Ok(None) => QuestionNumbers {
+                refusal: 0,
+                negative: true,
+                length: 0,
+                name: [0u8; 255],
+            },
+            Err(refusal) => QuestionNumbers {
+                refusal: refusal.number(),
+                negative: false,
+                length: 0,
+                name: [0u8; 255],
+            },
+        }
     }
 }
 
@@ -90,11 +94,10 @@ fn refused_numbers(refusal: u8) -> RecordNumbers
 fn field_numbers(f: Fields, owner: [u8; 255], rdata: [u8; 261]) -> RecordNumbers
     ensures { result ≡ field_numbers f owner rdata }
 {
-    let form = wire::rdata::form_of(f.rtype);
     RecordNumbers {
         refusal: 0,
         passed: true,
-        named: form.named,
+        named: wire::rdata::form_of(f.rtype).named,
         rtype: f.rtype,
         class: f.class,
         ttl: f.ttl,
@@ -105,16 +108,15 @@ fn field_numbers(f: Fields, owner: [u8; 255], rdata: [u8; 261]) -> RecordNumbers
     }
 }
 
-fn record_numbers(p: Passed) -> RecordNumbers
-    ensures { result ≡ record_numbers p }
-{
-    let passing = p.passing;
-    let owner = p.owner;
-    let rdata = p.rdata;
-    match passing {
-        Passing::Record(f) => field_numbers(f, owner, rdata),
-        Passing::Left => refused_numbers(0),
-        Passing::Refused(number) => refused_numbers(number),
+impl From<Result<Option<Passed>, Refusal>> for RecordNumbers {
+    ghost from_gives = { λ p numbers. numbers ≡ record_numbers p };
+
+    fn from(p: Result<Option<Passed>, Refusal>) -> RecordNumbers {
+        match p {
+            Ok(Some(passed)) => field_numbers(passed.fields, passed.owner, passed.rdata),
+            Ok(None) => refused_numbers(0),
+            Err(refusal) => refused_numbers(refusal.number()),
+        }
     }
 }
 
@@ -122,7 +124,10 @@ fn record_numbers(p: Passed) -> RecordNumbers
 pub fn kurgashel_proxy_refusal(rich: &[u8], ldh: &[u8]) -> u8
     ensures { result ≡ setup_refusal (domains rich.now ldh.now) }
 {
-    proxy::domains::setup_refusal(rich, ldh)
+    match proxy::domains::check(rich, ldh) {
+        Ok(()) => 0,
+        Err(refusal) => refusal.number(),
+    }
 }
 
 // A unicast question for an uncompressed name and a type.
@@ -130,7 +135,7 @@ pub fn kurgashel_proxy_question(rich: &[u8], ldh: &[u8], name: &[u8], rtype: u16
     ensures { result ≡ question_numbers (question_of (domains rich.now ldh.now) name.now rtype) }
 {
     let q = proxy::questions::ask(rich, ldh, name, rtype);
-    question_numbers(q)
+    QuestionNumbers::from(q)
 }
 
 // The record at an offset of a message.
@@ -138,7 +143,7 @@ pub fn kurgashel_proxy_record(rich: &[u8], ldh: &[u8], message: &[u8], at: usize
     ensures { result ≡ record_numbers (item_out (domains rich.now ldh.now) (record_at message.now at)) }
 {
     let p = proxy::records::record_at(rich, ldh, message, at);
-    record_numbers(p)
+    RecordNumbers::from(p)
 }
 
 // A record whose names are uncompressed.
@@ -156,7 +161,7 @@ pub fn kurgashel_proxy_plain_record(
 {
     let counted = wire::message::counted_ttl(ttl);
     let p = proxy::records::record(rich, ldh, owner, rtype, class, counted, rdata);
-    record_numbers(p)
+    RecordNumbers::from(p)
 }
 
 // The record of an entry of the cache and the bytes of its slot.
@@ -170,5 +175,5 @@ pub fn kurgashel_proxy_cached(
     ensures { result ≡ record_numbers (held_out (domains rich.now ldh.now) time entry slot.now) }
 {
     let p = proxy::records::cached(rich, ldh, time, entry, slot);
-    record_numbers(p)
+    RecordNumbers::from(p)
 }

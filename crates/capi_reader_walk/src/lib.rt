@@ -13,7 +13,7 @@ ghost use Rattle.capi_reader_walk.specs.Parts.{address_of, address_at, srv_of, s
 use wire::message::{counted_ttl, question_at, record_at};
 use wire::octets::{be16, be32};
 use wire::rdata::{StringRead, address_in, name_in, next_form, part, srv_in, string_at};
-use wire::refusals::MALFORMED;
+use wire::refusals::Refusal;
 
 // A question: whether one is there, where its name starts, how long that is uncompressed, how many labels it has and how long the first is; its type and
 // class, and the offset past it.
@@ -261,7 +261,7 @@ pub fn kurgashel_txt_string(txt: &[u8], at: usize) -> Text
         },
         StringRead::End => Text::default(),
         StringRead::Malformed => Text {
-            refusal: MALFORMED,
+            refusal: Refusal::Malformed.number(),
             ..Text::default()
         },
     }

@@ -8,9 +8,8 @@ use console_table::{MOST_ENTRIES, Table};
 use console_text::fields::{MOST_16, are_bytes, has_arguments, is_number, number, number_of_16};
 use console_text::hex::fill;
 use console_text::lines::{field, front};
-use proxy::questions::Asked;
-use proxy::records::{Fields, Passed, Passing};
-use wire::expansion::same_bytes;
+use proxy::records::{Fields, Passed};
+use wire::refusals::Refusal;
 
 // The greatest number of 32 bits.
 const MOST_32: u64 = u32::MAX as u64;
@@ -38,14 +37,14 @@ fn question(line: &[u8], held: Domains, rt: &impl Print, text: &mut [u8; 4096]) 
         front(&name, n),
         number_of_16(line, 2),
     );
-    match q.asked {
-        Asked::Name(len) => {
+    match q {
+        Ok(Some(name)) => {
             let used = first(rt, text, b"ask");
-            let used = bytes(rt, text, used, front(&q.name, len));
+            let used = bytes(rt, text, used, front(&name.bytes, name.len));
             finish(rt, text, used)
         }
-        Asked::Negative => only(rt, text, b"negative"),
-        Asked::Refused(refusal) => refused(rt, text, refusal as u64),
+        Ok(None) => only(rt, text, b"negative"),
+        Err(refusal) => refused(rt, text, refusal.number() as u64),
     }
 }
 
@@ -61,19 +60,20 @@ fn record(f: Fields, owner: &[u8], rdata: &[u8], rt: &impl Print, text: &mut [u8
 }
 
 // What became of a record, whose rdata lies at hand: that is shown where it holds no name.
-fn passed(p: Passed, lies: &[u8], rt: &impl Print, text: &mut [u8; 4096]) {
-    match p.passing {
-        Passing::Record(f) => {
+fn passed(p: Result<Option<Passed>, Refusal>, lies: &[u8], rt: &impl Print, text: &mut [u8; 4096]) {
+    match p {
+        Ok(Some(passed)) => {
+            let f = passed.fields;
             let named = wire::rdata::form_of(f.rtype).named;
             let rdata = if named {
-                front(&p.rdata, f.rdata)
+                front(&passed.rdata, f.rdata)
             } else {
                 lies
             };
-            record(f, front(&p.owner, f.owner), rdata, rt, text)
+            record(f, front(&passed.owner, f.owner), rdata, rt, text)
         }
-        Passing::Left => only(rt, text, b"left"),
-        Passing::Refused(refusal) => refused(rt, text, refusal as u64),
+        Ok(None) => only(rt, text, b"left"),
+        Err(refusal) => refused(rt, text, refusal.number() as u64),
     }
 }
 
@@ -170,14 +170,10 @@ pub fn call(
     rt: &impl Print,
     text: &mut [u8; 4096],
 ) {
-    let word = field(line, 0);
-    if same_bytes(word, b"question") {
-        question(line, held, rt, text)
-    } else if same_bytes(word, b"answer") {
-        answer(line, held, rt, text)
-    } else if same_bytes(word, b"cached") {
-        cached(line, held, table, store, rt, text)
-    } else {
-        bad_line(rt, text)
+    match field(line, 0) {
+        b"question" => question(line, held, rt, text),
+        b"answer" => answer(line, held, rt, text),
+        b"cached" => cached(line, held, table, store, rt, text),
+        _ => bad_line(rt, text),
     }
 }

@@ -45,9 +45,8 @@ fn is_proxy(line: &[u8]) -> bool
 fn set_up(rich: &[u8], ldh: &[u8], held: Domains, rt: &impl Print, text: &mut [u8; 4096]) -> Domains
     ensures { result ≡ domains_of rich.now ldh.now held }
 {
-    let refusal = proxy::domains::setup_refusal(rich, ldh);
-    if refusal != 0 {
-        refused(rt, text, refusal as u64);
+    if let Err(refusal) = proxy::domains::check(rich, ldh) {
+        refused(rt, text, refusal.number() as u64);
         return held;
     }
     only(rt, text, b"proxied");

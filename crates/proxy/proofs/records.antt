@@ -1,5 +1,4 @@
 -- Laws that belong to no one function.
 pub mod Forms
 pub mod Contents
-pub mod Answers
 pub mod Lying

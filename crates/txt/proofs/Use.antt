@@ -3,11 +3,15 @@ use mathlib.Core.Path.{◌≡◌, refl, sym, ap, subst, ◌∙◌}
 use mathlib.Core.List.{List, [], ◌∷◌}
 use mathlib.Core.Option.{Option, none, some}
 use mathlib.Core.Logic.{◌⊎◌, inl, inr, ⊎_elim}
-use Prim.Native.Nat.{ℕ, zero, suc, ◌+◌, ◌-◌, ◌<◌, ◌≤◌}
+use Prim.Native.Nat.{ℕ, suc, ◌+◌, ◌-◌, ◌<◌, ◌≤◌}
 use native.Mathlib.Omega.{arith}
 use lib.ListN.{length, take, drop, length-take, length-drop}
 use Rattle.txt.specs.Txt.{Text, text, strings, key_of, value_of, first_with}
-use Rattle.txt.specs.Lookup.{refusal_of, valued, given_by, answer_of, in_txt, when_absent, unless_refused, lookup_of, number_of, part_of, shown_of, holder, bytes_of}
+use Rattle.wire.specs.refusals.Numbers.{number_in, refused_by}
+use Rattle.wire.specs.declared.refusals.Refusal.{Refusal}
+use Rattle.wire.proofs.refusals.Tests.{number_by}
+use Rattle.std.specs.Prelude.{Result, Ok, Err}
+use Rattle.txt.specs.Lookup.{lookup_tests, refusal_of, valued, given_by, answer_of, in_txt, when_absent, unless_refused, lookup_of, number_of, part_of, shown_of, holder, bytes_of}
 use Rattle.txt.specs.declared.Buffer.{Buffer}
 use Rattle.txt.specs.declared.Buffer.TheVariants.{Received, Factory}
 use Rattle.txt.specs.declared.Held.{Held}
@@ -71,9 +75,9 @@ module _ (b : Buffer) (key txt : List ℕ) (h : Held) where
   gives g = by-match (first_with key (strings txt)) refl g
 
 -- A lookup that gives a value: the buffer that held it, and where it lies there.
-unrefused : (n : ℕ) (a : Answer) (h : Held) → unless_refused n a ≡ Value h → a ≡ Value h
-unrefused zero a h e = e
-unrefused (suc n) a h e = let z : ◌≡◌ {A = ℕ} 0 1 = cc in absurd (omega arith)
+unrefused : (t : Result (Unit {0}) Refusal) (a : Answer) (h : Held) → unless_refused t a ≡ Value h → a ≡ Value h
+unrefused (Ok u) a h e = e
+unrefused (Err refusal) a h e = let z : ◌≡◌ {A = ℕ} 0 1 = cc in absurd (omega arith)
 
 either : (a other : Answer) (h : Held) → when_absent a other ≡ Value h → (a ≡ Value h) ⊎ (other ≡ Value h)
 either (Refused n) other h e = let z : ◌≡◌ {A = ℕ} 0 1 = cc in absurd (omega arith)
@@ -85,7 +89,7 @@ either (Value v) other h e = inl e
 module _ (key received factory : List ℕ) (h : Held) (e : lookup_of key received factory ≡ Value h) where
   held : (in_txt Received key received ≡ Value h) ⊎ (in_txt Factory key factory ≡ Value h)
   unfolding lookup_of
-  held = either (in_txt Received key received) (in_txt Factory key factory) h (unrefused (refusal_of key received factory) _ h e)
+  held = either (in_txt Received key received) (in_txt Factory key factory) h (unrefused (refused_by (lookup_tests key received factory)) _ h e)
 
   pub lookup_value : ValueIn h.buffer key (holder h.buffer received factory) h
   lookup_value = ⊎_elim (λ g. told (gives Received key received h g)) (λ g. told (gives Factory key factory h g)) held
@@ -140,17 +144,18 @@ absent-number Present other p q = p
 absent-number Empty other p q = p
 absent-number (Value v) other p q = p
 
-refused_number : (n : ℕ) (a : Answer) → number_of a ≡ 0 → number_of (unless_refused n a) ≡ n
-refused_number zero a p = p
-refused_number (suc n) a p = refl
+refused_number : (t : Result (Unit {0}) Refusal) (a : Answer) → number_of a ≡ 0 → number_of (unless_refused t a) ≡ number_in t
+refused_number (Ok u) a p = p
+refused_number (Err refusal) a p = refl
 
 pub number_is : (key received factory : List ℕ) → number_of (lookup_of key received factory) ≡ refusal_of key received factory
-unfolding lookup_of in_txt
+unfolding lookup_of refusal_of in_txt
 number_is key received factory =
     let r = in_txt Received key received in
     let f = in_txt Factory key factory in
-    refused_number (refusal_of key received factory) (when_absent r f)
+    refused_number (refused_by (lookup_tests key received factory)) (when_absent r f)
     (absent-number r f (answer_number_lem Received (first_with key (strings received))) (answer_number_lem Factory (first_with key (strings factory))))
+    ∙ number_by (lookup_tests key received factory)
 
 pub numbered : (key received factory : List ℕ) (r : Answer) → r ≡ lookup_of key received factory → (r ≡ lookup_of key received factory) × (number_of r ≡ refusal_of key received factory)
 numbered key received factory r e = (e, ap number_of e ∙ number_is key received factory)

@@ -1,9 +1,10 @@
 -- The lookup of a key in a received and a factory TXT: its refusals, its answer and the part that is shown (specification, 'TXT pairs' and 'Refusal
 -- numbers'). Assumes nothing: these are definitions.
-use Rattle.std.specs.Prelude.{ℕ, zero, suc, ◌+◌, List, [], ◌∷◌, Bool, not, ◌&&◌, ◌||◌, length, take, drop, ltb, eqb}
+use Rattle.std.specs.Prelude.{ℕ, ◌+◌, List, [], ◌∷◌, Bool, not, ◌&&◌, ◌||◌, length, take, drop, ltb, eqb, Result, Ok, Err}
 use Rattle.std.proofs.Math.Option.{Option, none, some}
 use Rattle.wire.specs.Lists.{some as some_of}
-use Rattle.wire.specs.refusals.Numbers.{first_refusal}
+use Rattle.wire.specs.refusals.Numbers.{number_of as refusal_number, refused_by, first_refusal}
+use Rattle.wire.specs.declared.refusals.Refusal.{Refusal}
 use Rattle.wire.specs.declared.refusals.Refusal.TheVariants.{Key, Malformed}
 use Rattle.wire.specs.rdata.Rdata.{strings_fill}
 use Rattle.txt.specs.Txt.{Text, text, strings, key_of, value_of, first_with}
@@ -25,8 +26,11 @@ abbrev pub bad_txt : List ℕ → List ℕ → Bool
 bad_txt received factory = not (strings_fill 0 received && strings_fill 0 factory)
 
 -- The refusals of a lookup, which "tests 9 first".
+abbrev pub lookup_tests : List ℕ → List ℕ → List ℕ → List (Refusal × Bool)
+lookup_tests key received factory = (Key, bad_key key) ∷ ((Malformed, bad_txt received factory) ∷ [])
+
 unfoldable pub refusal_of : List ℕ → List ℕ → List ℕ → ℕ
-refusal_of key received factory = first_refusal ((Key, bad_key key) ∷ ((Malformed, bad_txt received factory) ∷ []))
+refusal_of key received factory = first_refusal (lookup_tests key received factory)
 
 -- "present without value, empty value, or the value itself": a value of so many bytes that starts at `at` of a buffer
 abbrev pub valued : Buffer → ℕ → Option (List ℕ) → Answer
@@ -49,23 +53,23 @@ in_txt b key txt = answer_of b (first_with key (strings txt))
 -- "The mask asks the received TXT and then its factory TXT when absent"
 abbrev pub when_absent : Answer → Answer → Answer
 when_absent Absent other = other
-when_absent (Refused n) other = Refused n
+when_absent (Refused refusal) other = Refused refusal
 when_absent Present other = Present
 when_absent Empty other = Empty
 when_absent (Value h) other = Value h
 
-abbrev pub unless_refused : ℕ → Answer → Answer
-unless_refused zero answer = answer
-unless_refused (suc n) answer = Refused (suc n)
+abbrev pub unless_refused : Result (Unit {0}) Refusal → Answer → Answer
+unless_refused (Ok u) answer = answer
+unless_refused (Err refusal) answer = Refused refusal
 
 -- The answer of the lookup.
 unfoldable pub lookup_of : List ℕ → List ℕ → List ℕ → Answer
 lookup_of key received factory =
-    unless_refused (refusal_of key received factory) (when_absent (in_txt Received key received) (in_txt Factory key factory))
+    unless_refused (refused_by (lookup_tests key received factory)) (when_absent (in_txt Received key received) (in_txt Factory key factory))
 
 -- The number that each answer is, 0 where it is no refusal.
 abbrev pub number_of : Answer → ℕ
-number_of (Refused n) = n
+number_of (Refused refusal) = refusal_number refusal
 number_of Absent = 0
 number_of Present = 0
 number_of Empty = 0
@@ -77,7 +81,7 @@ abbrev pub empty_part : Held
 empty_part = record { buffer = Received; at = 0; len = 0 }
 
 abbrev pub part_of : Answer → Held
-part_of (Refused n) = empty_part
+part_of (Refused refusal) = empty_part
 part_of Absent = empty_part
 part_of Present = empty_part
 part_of Empty = empty_part

@@ -3,11 +3,11 @@
 #![tactic(auto)]
 
 ghost use Rattle.std.specs.Prelude.{◌≡◌, true, ◌-◌, ◌≤◌, length, take, drop};
-ghost use Rattle.wire.specs.refusals.Numbers.{number_in};
+ghost use Rattle.wire.specs.refusals.Numbers.{refused_by};
 ghost use Rattle.wire.specs.rdata.Rdata.{strings_fill};
 ghost use Rattle.wire.specs.rdata.Answers.{start_in};
 ghost use Rattle.txt.specs.Txt.{key_of, has_key};
-ghost use Rattle.txt.specs.Lookup.{bad_byte, bad_key, refusal_of, given_by, in_txt, lookup_of, number_of, part_of, shown_of, holder, bytes_of, stands_from};
+ghost use Rattle.txt.specs.Lookup.{bad_byte, bad_key, lookup_tests, refusal_of, given_by, in_txt, lookup_of, number_of, part_of, shown_of, holder, bytes_of, stands_from};
 
 use wire::rdata::{part, strings_fill};
 use wire::refusals::Refusal;
@@ -27,10 +27,10 @@ pub struct Held {
     pub len: usize,
 }
 
-// What a lookup answers: refused with its number, absent, present without value, empty value, or the value itself.
+// What a lookup answers: refused, absent, present without value, empty value, or the value itself.
 #[derive(Clone, Copy)]
 pub enum Answer {
-    Refused(u8),
+    Refused(Refusal),
     Absent,
     Present,
     Empty,
@@ -59,9 +59,8 @@ fn bad_key(key: &[u8]) -> bool
 }
 
 // Whether a lookup is refused.
-#[tactic(auto, unfolding(crate::specs::Lookup::refusal_of))]
 fn check(key: &[u8], received: &[u8], factory: &[u8]) -> Result<(), Refusal>
-    ensures { number_in result ≡ refusal_of key.now received.now factory.now }
+    ensures { result ≡ refused_by (lookup_tests key.now received.now factory.now) }
 {
     if bad_key(key) {
         return Err(Refusal::Key);
@@ -129,7 +128,7 @@ pub fn answer_for<'k, 'a>(key: &'k [u8], received: &'a [u8], factory: &'a [u8]) 
     ensures number { number_of result ≡ refusal_of key.now received.now factory.now }
 {
     if let Err(refusal) = check(key, received, factory) {
-        return Answer::Refused(refusal.number());
+        return Answer::Refused(refusal);
     }
     let answer = find(key, received, Buffer::Received);
     match answer {

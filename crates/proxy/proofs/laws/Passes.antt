@@ -1,4 +1,5 @@
 -- The theorems of specs/laws/Passing.antt. Assumes nothing.
+use Rattle.std.specs.Prelude.{Some, None, Result, Ok, Err}
 use mathlib.Core.Path.{◌≡◌, refl, sym, ap, ◌∙◌}
 use mathlib.Core.List.{List, ◌++◌}
 use mathlib.Core.Bool.{Bool, true, false, cond}
@@ -9,20 +10,19 @@ use mathlib.Mathlib.Data.Bool.Basic.{and-eq-true-eq-eq-true-and-eq-true as both}
 use lib.ListN.{length, take}
 use lib.Seq.{take_at, length-take-le}
 use lib.Dec.{ltb, eqb}
+use Rattle.wire.specs.refusals.Numbers.{refused_by}
+use Rattle.wire.specs.declared.refusals.Refusal.{Refusal}
 use Rattle.wire.specs.names.Names.{is_name}
+use Rattle.proxy.specs.domains.Under.{moved_name}
 use Rattle.wire.specs.rdata.Rdata.{form_of}
-use Rattle.wire.specs.message.Message.{Record, class_of}
+use Rattle.wire.specs.message.Message.{class_of}
 use Rattle.cache.specs.entries.Entries.{is_live}
-use Rattle.proxy.specs.domains.Domains.{Domains, are_domains, setup_refusal}
-use Rattle.proxy.specs.questions.Questions.{is_below, is_apex_type, inward, is_negative, question_refusal, refused_question, negative_question, asked_question, question_of}
-use Rattle.proxy.specs.records.Records.{fits_type, is_whole, target_out, rdata_out, capped, mapped, record_refusal, refused_record, left_record, passed_record, record_out, none_out}
-use Rattle.proxy.specs.records.Held.{held_record, held_refusal, held_out}
-use Rattle.proxy.specs.declared.questions.Asked.TheVariants as a
-use Rattle.proxy.specs.declared.questions.Question.{Question}
-use Rattle.proxy.specs.declared.records.Fields.{Fields}
-use Rattle.proxy.specs.declared.records.Passing.TheVariants as p
+use Rattle.proxy.specs.domains.Domains.{Domains, are_domains, setup_tests, unless_refused}
+use Rattle.proxy.specs.questions.Questions.{is_below, is_apex_type, inward, is_negative, question_tests, question_of}
+use Rattle.proxy.specs.records.Records.{fits_type, is_whole, target_out, rdata_out, capped, mapped, record_tests, passed_record, record_out, none_out}
+use Rattle.proxy.specs.records.Held.{held_record, held_tests, held_out}
+use Rattle.proxy.specs.declared.records.Passed.{Passed}
 use Rattle.proxy.specs.laws.Passing.{is_five, OnlyWhole, AllWhole, HeldOn, OnlyLive, DataKept, NegativeExactly}
-use Rattle.proxy.proofs.questions.Answers.{ask_3}
 use Rattle.proxy.proofs.laws.Mapping.{at-apex}
 
 -- what fits a type is of the five
@@ -60,23 +60,22 @@ capped_left n = go (ltb 10 n) refl
     go true e = rw e (omega (arith, ltb-true 10 n e))
     go false e = rw e (omega arith)
 
--- the answer by its two tests: a record is passed on only where there is no refusal and it is whole
-passes : (b w : Bool) (r : Record) (n : ℕ) (f : Fields) → (cond b (cond w (passed_record r) left_record) (refused_record n)).passing ≡ p.Record f
-    → (b ≡ true) × (w ≡ true) × (f ≡ record { owner = length r.owner; rtype = r.rtype; class = r.class; ttl = r.ttl; rdata = length r.rdata })
-passes true true r n f h = (refl, refl, cc)
-passes true false r n f h = let z : ◌≡◌ {A = ℕ} 0 1 = cc in absurd (omega arith)
-passes false w r n f h = let z : ◌≡◌ {A = ℕ} 0 1 = cc in absurd (omega arith)
+-- the answer by its tests: a record is passed on only where none of them refuses it and it is whole
+passes : (t : Result (Unit {0}) Refusal) (w : Bool) (y x : Passed) → unless_refused t (Ok (cond w (Some y) None)) ≡ Ok (Some x) → (w ≡ true) × (x ≡ y)
+passes (Ok u) true y x h = (refl, cc)
+passes (Ok u) false y x h = let z : ◌≡◌ {A = ℕ} 0 1 = cc in absurd (omega arith)
+passes (Err refusal) w y x h = let z : ◌≡◌ {A = ℕ} 0 1 = cc in absurd (omega arith)
 
 pub only-whole : OnlyWhole
-unfolding record_out mapped is_whole
-only-whole d r f h =
-    let q = passes (eqb (record_refusal d r) 0) (is_whole r.owner r.rtype r.rdata) (mapped d r) (record_refusal d r) f h in
-    let ttl : f.ttl ≡ capped r.ttl = ap (λ (x : Fields). x.ttl) q.2 in
-    let class : f.class ≡ class_of r.class = ap (λ (x : Fields). x.class) q.2 in
+unfolding record_out mapped
+only-whole d r x h =
+    let q = passes (refused_by (record_tests d r)) (is_whole r.owner r.rtype r.rdata) (passed_record (mapped d r)) x h in
+    let ttl : x.fields.ttl ≡ capped r.ttl = ap (λ (y : Passed). y.fields.ttl) q.1 in
+    let class : x.fields.class ≡ class_of r.class = ap (λ (y : Passed). y.fields.class) q.1 in
     record {
-      whole = q.1;
-      five = fits-five r.rtype r.rdata ((both (is_name r.owner) (fits_type r.rtype r.rdata)).0 q.1).1;
-      type_kept = ap (λ (x : Fields). x.rtype) q.2;
+      whole = q.0;
+      five = fits-five r.rtype r.rdata ((both (is_name r.owner) (fits_type r.rtype r.rdata)).0 q.0).1;
+      type_kept = ap (λ (y : Passed). y.fields.rtype) q.1;
       ttl_most = rw ttl (capped-most r.ttl);
       ttl_left = rw ttl (capped_left r.ttl);
       class_clear = omega (arith, class);
@@ -84,27 +83,26 @@ only-whole d r f h =
     }
 
 pub all_whole : AllWhole
-unfolding record_out record_refusal
+unfolding record_out
 all_whole d r h w l = simp (h, w, l)
 
 -- no record is passed on of none
-none_passes : (d : Domains) (f : Fields) → (none_out d).passing ≡ p.Record f → ⊥
+none_passes : (d : Domains) (x : Passed) → none_out d ≡ Ok (Some x) → ⊥
 unfolding none_out
-none_passes d f h = go (eqb (setup_refusal d) 0) h
+none_passes d x h = go (refused_by (setup_tests d)) h
   where
-    go : (b : Bool) → (cond b left_record (refused_record (setup_refusal d))).passing ≡ p.Record f → ⊥
-    go true k = let z : ◌≡◌ {A = ℕ} 0 1 = cc in omega arith
-    go false k = let z : ◌≡◌ {A = ℕ} 0 1 = cc in omega arith
+    go : (t : Result (Unit {0}) Refusal) → unless_refused t (Ok None) ≡ Ok (Some x) → ⊥
+    go (Ok u) k = let z : ◌≡◌ {A = ℕ} 0 1 = cc in omega arith
+    go (Err refusal) k = let z : ◌≡◌ {A = ℕ} 0 1 = cc in omega arith
 
 pub only-live : OnlyLive
 unfolding held_out
-only-live d now e slot f h = go (eqb (held_refusal now e slot) 0) (is_live now e) refl h
+only-live d now e slot x h = go (refused_by (held_tests now e slot)) (is_live now e) refl h
   where
-    go : (b l : Bool) → is_live now e ≡ l → (cond b (cond l (record_out d (held_record now e slot)) (none_out d))
-        (refused_record (held_refusal now e slot))).passing ≡ p.Record f
-        → HeldOn now e f
-    go true true t k =
-        let q = only-whole d (held_record now e slot) f k in
+    go : (t : Result (Unit {0}) Refusal) (l : Bool) → is_live now e ≡ l
+        → unless_refused t (cond l (record_out d (held_record now e slot)) (none_out d)) ≡ Ok (Some x) → HeldOn now e x.fields
+    go (Ok u) true t k =
+        let q = only-whole d (held_record now e slot) x k in
         let live : now < e.expiry = ltb-true now e.expiry t in
         record {
           live = live;
@@ -113,8 +111,8 @@ only-live d now e slot f h = go (eqb (held_refusal now e slot) 0) (is_live now e
           ttl_left = omega (arith, q.ttl_left);
           class_one = q.class_kept;
         }
-    go true false t k = absurd (none_passes d f k)
-    go false l t k = let z : ◌≡◌ {A = ℕ} 0 1 = cc in absurd (omega arith)
+    go (Ok u) false t k = absurd (none_passes d x k)
+    go (Err refusal) l t k = let z : ◌≡◌ {A = ℕ} 0 1 = cc in absurd (omega arith)
 
 kept-plain : (d : Domains) (rtype : ℕ) (rdata : List ℕ) → (form_of rtype).named ≡ false → rdata_out d rtype rdata ≡ rdata
 unfolding rdata_out
@@ -150,29 +148,32 @@ negative_is : (d : Domains) (name : List ℕ) (rtype : ℕ) → is_apex_type rty
 unfolding is_negative
 negative_is d name rtype t b = simp (t, b)
 
-negative_only : (d : Domains) (name : List ℕ) (rtype : ℕ) → (question_of d name rtype).asked ≡ a.Negative → (is_apex_type rtype ≡ true) × (is_below d name ≡ true)
+negative_only : (d : Domains) (name : List ℕ) (rtype : ℕ) → question_of d name rtype ≡ Ok None → (is_apex_type rtype ≡ true) × (is_below d name ≡ true)
 unfolding question_of is_negative
-negative_only d name rtype h = go (eqb (question_refusal d name rtype) 0) (is_negative d name rtype) refl h
+negative_only d name rtype h = go (refused_by (question_tests d name rtype)) (is_negative d name rtype) refl h
   where
-    go : (b n : Bool) → is_negative d name rtype ≡ n
-        → (cond b (cond n negative_question (asked_question (inward d name))) (refused_question (question_refusal d name rtype))).asked ≡ a.Negative
-        → (is_apex_type rtype ≡ true) × (is_below d name ≡ true)
-    go true true e k = (both (is_apex_type rtype) (is_below d name)).0 e
-    go true false e k = let z : ◌≡◌ {A = ℕ} 0 1 = cc in absurd (omega arith)
-    go false n e k = let z : ◌≡◌ {A = ℕ} 0 1 = cc in absurd (omega arith)
+    go : (t : Result (Unit {0}) Refusal) (n : Bool) → is_negative d name rtype ≡ n
+        → unless_refused t (Ok (cond n None (Some (moved_name (inward d name))))) ≡ Ok None → (is_apex_type rtype ≡ true) × (is_below d name ≡ true)
+    go (Ok u) true e k = (both (is_apex_type rtype) (is_below d name)).0 e
+    go (Ok u) false e k = let z : ◌≡◌ {A = ℕ} 0 1 = cc in absurd (omega arith)
+    go (Err refusal) n e k = let z : ◌≡◌ {A = ℕ} 0 1 = cc in absurd (omega arith)
+
+negative_all : (d : Domains) (name : List ℕ) (rtype : ℕ) → is_name name ≡ true → are_domains d ≡ true → is_negative d name rtype ≡ true
+    → question_of d name rtype ≡ Ok None
+unfolding question_of
+negative_all d name rtype n h k = simp (n, h, k)
 
 pub negative_exactly : NegativeExactly
 negative_exactly = record { only = only; all = all; apex = apex }
   where
-    only : (d : Domains) (name : List ℕ) (rtype : ℕ) → (question_of d name rtype).asked ≡ a.Negative → (is_apex_type rtype ≡ true) × (is_below d name ≡ true)
+    only : (d : Domains) (name : List ℕ) (rtype : ℕ) → question_of d name rtype ≡ Ok None → (is_apex_type rtype ≡ true) × (is_below d name ≡ true)
     only d name rtype h = negative_only d name rtype h
 
     all : (d : Domains) (name : List ℕ) (rtype : ℕ) → is_name name ≡ true → are_domains d ≡ true → is_apex_type rtype ≡ true → is_below d name ≡ true
-        → (question_of d name rtype).asked ≡ a.Negative
-    all d name rtype n h t b = ap (λ (x : Question). x.asked) (sym (ask_3 d name rtype negative_question n h (negative_is d name rtype t b) refl))
+        → question_of d name rtype ≡ Ok None
+    all d name rtype n h t b = negative_all d name rtype n h (negative_is d name rtype t b)
 
-    apex : (d : Domains) (rtype : ℕ) → are_domains d ≡ true → ((question_of d d.rich rtype).asked ≡ a.Negative → ⊥) ×
-        ((question_of d d.ldh rtype).asked ≡ a.Negative → ⊥)
+    apex : (d : Domains) (rtype : ℕ) → are_domains d ≡ true → (question_of d d.rich rtype ≡ Ok None → ⊥) × (question_of d d.ldh rtype ≡ Ok None → ⊥)
     apex d rtype h =
         let k = at-apex d h in (
           λ g. differ (sym (negative_only d d.rich rtype g).1 ∙ k.0),

@@ -1,4 +1,5 @@
 -- Every record of the five types that the reader reads is well formed here too. Assumes nothing.
+use Rattle.std.specs.Prelude.{Option, Some, None}
 use mathlib.Core.Path.{◌≡◌, refl, sym, ap, ◌∙◌}
 use mathlib.Core.List.{List, [], ◌++◌, append-nil}
 use mathlib.Core.Bool.{Bool, true, false, cond, ◌&&◌}
@@ -15,11 +16,9 @@ use Rattle.wire.specs.message.Message.{Record}
 use Rattle.wire.specs.message.Layout.{item, broken, record_at}
 use Rattle.wire.specs.message.Readable.{whole_read, record_shown}
 use Rattle.wire.specs.declared.message.RecordAt.{RecordAt}
-use Rattle.wire.specs.declared.message.RecordRead.{RecordRead}
-use Rattle.wire.specs.declared.message.RecordRead.TheVariants as rr
 use Rattle.wire.proofs.names.Plain.{expanded-is_name}
 use Rattle.wire.proofs.message.Walk.{RecordMet, record_found, record_broken}
-use Rattle.proxy.specs.records.Records.{fits_type, is_whole}
+use Rattle.proxy.specs.records.Records.{fits_type}
 use Rattle.proxy.specs.laws.Passing.{is_five, ReadWhole}
 
 clash : {A : Type 0} → ◌≡◌ {A = ℕ} 0 1 → A
@@ -122,12 +121,11 @@ module _ (p : List ℕ) (f : RecordAt) (d : List ℕ) (five : is_five f.rtype �
       go false k = let z : ◌≡◌ {A = ℕ} 0 1 = cc in clash z
 
 pub read_whole : ReadWhole
-unfolding is_whole
 read_whole p at r next h five = go (whole_read p at) refl
   where
-    go : (a : RecordRead) → whole_read p at ≡ a → (is_name r.owner && fits_type r.rtype r.rdata) ≡ true
-    go rr.Malformed e = let k : record_at p at ≡ broken = record_broken p at (whole_read p at) refl e in let z : ◌≡◌ {A = ℕ} 0 1 = cc in clash z
-    go (rr.Found f) e =
+    go : (a : Option RecordAt) → whole_read p at ≡ a → (is_name r.owner && fits_type r.rtype r.rdata) ≡ true
+    go None e = let k : record_at p at ≡ broken = record_broken p at (whole_read p at) refl e in let z : ◌≡◌ {A = ℕ} 0 1 = cc in clash z
+    go (Some f) e =
         let met : RecordMet p at f = record_found p at (whole_read p at) refl f e in
         let same : item (record_shown p f) f.next ≡ item r next = sym met.here ∙ h in
         let is : record_shown p f ≡ r = cc in

@@ -1,9 +1,12 @@
 -- Cases that meet the premises of the theorems, evaluated: so none of them is empty. The domains are "rich.example" and "ldh.example". Assumes nothing.
+use Rattle.std.specs.Prelude.{Option, Some, None, Result, Ok, Err}
 use mathlib.Core.Path.{◌≡◌, refl}
 use mathlib.Core.List.{List, [], ◌∷◌, ◌++◌}
 use mathlib.Core.Bool.{true, false}
 use Prim.Native.Nat.{ℕ}
 use lib.ListN.{length, replicate}
+use Rattle.wire.specs.declared.refusals.Refusal.{Refusal}
+use Rattle.wire.specs.declared.refusals.Refusal.TheVariants.{Time, TooLong}
 use Rattle.wire.specs.case_folding.Fold.{same_name}
 use Rattle.wire.specs.name_pieces.Pieces.{piece_at}
 use Rattle.wire.specs.names.Names.{name_at, from_run, read_from, labels_fill, is_name}
@@ -14,12 +17,24 @@ use Rattle.cache.specs.declared.entries.Entry.{Entry}
 use Rattle.cache.specs.entries.Cache.{entry_for, slot_for}
 use Rattle.proxy.specs.domains.Under.{starts_at, is_under, moved, is_overlong}
 use Rattle.proxy.specs.domains.Domains.{Domains, domains, are_domains, setup_refusal, local}
-use Rattle.proxy.specs.questions.Questions.{is_below, inward, is_apex_type, is_negative, question_refusal, question_of}
-use Rattle.proxy.specs.records.Records.{is_address, fits_type, is_whole, outward, owner_out, target_out, rdata_out, mapped, is_too_long, record_refusal, record_out, none_out}
-use Rattle.proxy.specs.records.Held.{held_refusal, held_out}
+use Rattle.proxy.specs.questions.Questions.{is_below, inward, is_apex_type, is_negative, question_of}
+use Rattle.proxy.specs.records.Records.{is_address, fits_type, outward, target_out, rdata_out, mapped, record_out, none_out}
+use Rattle.proxy.specs.records.Held.{held_out}
 use Rattle.proxy.specs.laws.Passing.{is_five}
-use Rattle.proxy.specs.declared.questions.Asked.TheVariants as a
-use Rattle.proxy.specs.declared.records.Passing.TheVariants as p
+use Rattle.proxy.specs.declared.domains.Moved.{Moved}
+use Rattle.proxy.specs.declared.records.Fields.{Fields}
+use Rattle.proxy.specs.declared.records.Passed.{Passed}
+
+-- the fields of what is passed on, and the length of the name that is asked for
+abbrev fields_of : Result (Option Passed) Refusal → Result (Option Fields) Refusal
+fields_of (Ok (Some x)) = Ok (Some x.fields)
+fields_of (Ok None) = Ok None
+fields_of (Err refusal) = Err refusal
+
+abbrev length_of : Result (Option Moved) Refusal → Result (Option ℕ) Refusal
+length_of (Ok (Some m)) = Ok (Some m.len)
+length_of (Ok None) = Ok None
+length_of (Err refusal) = Err refusal
 
 -- "example", "rich.example", "ldh.example"
 abbrev example : List ℕ
@@ -67,22 +82,21 @@ stay = (refl, refl, refl)
 an_a : Record
 an_a = record_of (dock ++ local) 1 32769 120 (10 ∷ 0 ∷ 0 ∷ 7 ∷ [])
 
-a-passes : (record_out d an_a).passing ≡ p.Record (record { owner = 18; rtype = 1; class = 1; ttl = 10; rdata = 4 })
-unfolding record_out record_refusal is_too_long mapped is_whole fits_type owner_out target_out rdata_out outward moved is_address are_domains is_under starts_at same_name
+a-passes : fields_of (record_out d an_a) ≡ Ok (Some (record { owner = 18; rtype = 1; class = 1; ttl = 10; rdata = 4 }))
+unfolding record_out mapped fits_type target_out rdata_out outward moved is_address are_domains is_under starts_at same_name
     labels_fill an_a
 a-passes = refl
 
 -- an SRV, whose target goes under the one domain and whose owner goes under the other
-srv_passes : (record_out d (record_of (dock ++ local) 33 1 7 (0 ∷ 0 ∷ 0 ∷ 0 ∷ 15 ∷ 160 ∷ (dock ++ local)))).passing
-    ≡ p.Record (record { owner = 19; rtype = 33; class = 1; ttl = 7; rdata = 24 })
-unfolding record_out record_refusal is_too_long mapped is_whole fits_type owner_out target_out rdata_out outward moved is_address are_domains is_under starts_at same_name
+srv_passes : fields_of (record_out d (record_of (dock ++ local) 33 1 7 (0 ∷ 0 ∷ 0 ∷ 0 ∷ 15 ∷ 160 ∷ (dock ++ local))))
+    ≡ Ok (Some (record { owner = 19; rtype = 33; class = 1; ttl = 7; rdata = 24 }))
+unfolding record_out mapped fits_type target_out rdata_out outward moved is_address are_domains is_under starts_at same_name
     labels_fill
 srv_passes = refl
 
 -- an A of 5 bytes, and an NSEC, are left out
-left_out_lem : ((record_out d (record_of (dock ++ local) 1 1 120 (10 ∷ 0 ∷ 0 ∷ 7 ∷ 0 ∷ []))).passing ≡ p.Left) ×
-    ((record_out d (record_of (dock ++ local) 47 1 120 [])).passing ≡ p.Left)
-unfolding record_out record_refusal is_too_long mapped is_whole fits_type owner_out target_out rdata_out outward moved is_address are_domains is_under starts_at same_name
+left_out_lem : (record_out d (record_of (dock ++ local) 1 1 120 (10 ∷ 0 ∷ 0 ∷ 7 ∷ 0 ∷ [])) ≡ Ok None) × (record_out d (record_of (dock ++ local) 47 1 120 []) ≡ Ok None)
+unfolding record_out mapped fits_type target_out rdata_out outward moved is_address are_domains is_under starts_at same_name
     labels_fill
 left_out_lem = (refl, refl)
 
@@ -96,15 +110,15 @@ entry = entry_for 1000 heard
 slot : List ℕ
 slot = slot_for heard
 
-held-passes : ((held_out d 117001 entry slot).passing ≡ p.Record (record { owner = 18; rtype = 1; class = 1; ttl = 3; rdata = 4 }))
-    × ((held_out d 121000 entry slot).passing ≡ p.Left) × ((held_out d 999 entry slot).passing ≡ p.Refused 1)
-unfolding held_out held_refusal none_out setup_refusal record_out record_refusal is_too_long mapped is_whole fits_type owner_out target_out rdata_out outward moved
+held-passes : (fields_of (held_out d 117001 entry slot) ≡ Ok (Some (record { owner = 18; rtype = 1; class = 1; ttl = 3; rdata = 4 })))
+    × (held_out d 121000 entry slot ≡ Ok None) × (held_out d 999 entry slot ≡ Err Time)
+unfolding held_out none_out record_out mapped fits_type target_out rdata_out outward moved
     is_address are_domains is_under starts_at same_name labels_fill heard entry slot
 held-passes = (refl, refl, refl)
 
 -- `negative-exactly`: an SOA below an apex is answered at once; at the apex it is asked for, and so is an A below it
-answers : ((question_of d (dock ++ rich) 6).asked ≡ a.Negative) × ((question_of d rich 6).asked ≡ a.Name 14) × ((question_of d (dock ++ rich) 1).asked ≡ a.Name 12)
-unfolding question_of question_refusal is_negative is_apex_type is_below inward moved are_domains is_under starts_at same_name labels_fill
+answers : (question_of d (dock ++ rich) 6 ≡ Ok None) × (length_of (question_of d rich 6) ≡ Ok (Some 14)) × (length_of (question_of d (dock ++ rich) 1) ≡ Ok (Some 12))
+unfolding question_of is_negative is_apex_type is_below inward moved are_domains is_under starts_at same_name labels_fill
 answers = (refl, refl, refl)
 
 -- 13: four labels of 60 bytes under "local", 251 bytes, are too long under "rich.example"
@@ -112,8 +126,8 @@ long : List ℕ
 long = (60 ∷ replicate 60 97) ++ ((60 ∷ replicate 60 97) ++ ((60 ∷ replicate 60 97) ++ (60 ∷ replicate 60 97)))
 
 too_long_lem : (is_name (long ++ local) ≡ true) × (is_overlong (outward d false (long ++ local)) ≡ true)
-    × ((record_out d (record_of (long ++ local) 16 1 120 [])).passing ≡ p.Refused 13)
-unfolding record_out record_refusal is_too_long mapped is_whole fits_type owner_out target_out rdata_out outward moved is_address are_domains is_under starts_at same_name
+    × (record_out d (record_of (long ++ local) 16 1 120 []) ≡ Err TooLong)
+unfolding record_out mapped fits_type target_out rdata_out outward moved is_address are_domains is_under starts_at same_name
     labels_fill strings_fill long
 too_long_lem = (refl, refl, refl)
 

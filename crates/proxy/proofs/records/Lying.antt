@@ -1,4 +1,5 @@
 -- A record as it lies in a message, and as it lies in the cache. Assumes nothing.
+use Rattle.std.specs.Prelude.{Option, Some, None, Result, Ok}
 use mathlib.Core.Path.{◌≡◌, refl, sym, ap, ap₂, ◌∙◌}
 use mathlib.Core.List.{List, ◌++◌}
 use mathlib.Core.Bool.{Bool, true, false, cond}
@@ -6,8 +7,7 @@ use Prim.Native.Nat.{ℕ, ◌-◌, ◌≤◌}
 use native.Mathlib.Omega.{arith}
 use lib.ListN.{length, take, drop, replicate, length-append}
 use lib.Seq.{take_at}
-use lib.Dec.{ltb, eqb}
-use borrow.Author.Tests.{ne_eqb, eq-eqb}
+use lib.Dec.{ltb}
 use Rattle.wire.specs.names.Names.{name_at}
 use Rattle.wire.specs.names.Answers.{expanded}
 use Rattle.wire.specs.declared.names.Expanded.{Expanded}
@@ -19,26 +19,28 @@ use Rattle.wire.specs.message.Message.{record_of, class_of}
 use Rattle.wire.specs.message.Layout.{record_at}
 use Rattle.wire.specs.message.Readable.{whole_read, record_shown}
 use Rattle.wire.specs.declared.message.RecordAt.{RecordAt}
-use Rattle.wire.specs.declared.message.RecordRead.{RecordRead}
-use Rattle.wire.specs.declared.message.RecordRead.TheVariants as rr
+use Rattle.wire.specs.declared.refusals.Refusal.{Refusal}
+use Rattle.wire.specs.refusals.Numbers.{refused_by}
 use Rattle.wire.proofs.message.Walk.{RecordMet, record_found, record_broken}
 use Rattle.wire.proofs.expansion.Views.{view_is}
 use Rattle.cache.specs.entries.Entries.{is_live}
 use Rattle.cache.specs.declared.entries.Entry.{Entry}
-use Rattle.proxy.specs.domains.Domains.{Domains}
-use Rattle.proxy.specs.records.Records.{is_whole, owner_out, rdata_out, capped, mapped, is_too_long, record_refusal, refused_record, left_record, passed_record, record_out, none_out, item_out}
-use Rattle.proxy.specs.records.Held.{left_of, held_record, held_refusal, held_out}
+use Rattle.proxy.specs.domains.Domains.{Domains, unless_refused}
+use Rattle.proxy.specs.records.Records.{is_whole, owner_out, rdata_out, capped, mapped, record_tests, passed_record, record_out, none_out, item_out}
+use Rattle.proxy.specs.records.Held.{left_of, held_record, held_tests, held_out}
 use Rattle.proxy.specs.declared.records.Passed.{Passed}
 
--- in a message
-module _ (d : Domains) (p : List ℕ) (at : ℕ) (a : RecordRead) (is : a ≡ whole_read p at) (r : Passed) where
-  pub none-lying : a ≡ rr.Malformed → r ≡ none_out d → r ≡ item_out d (record_at p at)
-  none-lying e h = h ∙ ap (item_out d) (sym (record_broken p at a is e))
+abbrev Out : Type 0
+Out = Result (Option Passed) Refusal
 
-module _ (p : List ℕ) (at : ℕ) (a : RecordRead) (is : a ≡ whole_read p at) (f : RecordAt) (e : a ≡ rr.Found f) (x : Expanded)
+-- in a message
+pub none-lying : (d : Domains) (p : List ℕ) (at : ℕ) → whole_read p at ≡ None → (r : Out) → r ≡ none_out d → r ≡ item_out d (record_at p at)
+none-lying d p at e r h = h ∙ ap (item_out d) (sym (record_broken p at (whole_read p at) refl e))
+
+module _ (p : List ℕ) (at : ℕ) (f : RecordAt) (e : whole_read p at ≡ Some f) (x : Expanded)
     (xi : x ≡ expanded (name_at p f.owner)) where
   met : RecordMet p at f
-  met = record_found p at a is f e
+  met = record_found p at (whole_read p at) refl f e
 
   abbrev owner : List ℕ
   owner = (record_shown p f).owner
@@ -55,7 +57,7 @@ module _ (p : List ℕ) (at : ℕ) (a : RecordRead) (is : a ≡ whole_read p at)
   pub span_long : f.span.len ≡ length (take f.span.len x.bytes)
   span_long = met.span ∙ sym (ap length owner_is)
 
-  pub record_lying : (o : Opened) → o ≡ opened_at p f → (seen : List ℕ) → seen ≡ view_of p o.bytes o.len f → (d : Domains) (r : Passed)
+  pub record_lying : (o : Opened) → o ≡ opened_at p f → (seen : List ℕ) → seen ≡ view_of p o.bytes o.len f → (d : Domains) (r : Out)
       → r ≡ record_out d (record_of (take f.span.len x.bytes) f.rtype f.class f.ttl seen) → r ≡ item_out d (record_at p at)
   record_lying o oi seen s d r h =
       let fit : fits (rdata_at p f) ≡ true = ap fits met.content in
@@ -64,20 +66,6 @@ module _ (p : List ℕ) (at : ℕ) (a : RecordRead) (is : a ≡ whole_read p at)
       h ∙ ap₂ (λ (l m : List ℕ). record_out d (record_of l f.rtype f.class f.ttl m)) owner_is bytes ∙ ap (item_out d) (sym met.here)
 
 -- in the cache
-module _ (d : Domains) (time : ℕ) (e : Entry) (slot : List ℕ) (number : ℕ) (is : number ≡ held_refusal time e slot) (r : Passed) where
-  pub held-refused : (number ≡ 0 → ⊥) → r ≡ refused_record number → r ≡ held_out d time e slot
-  unfolding held_out
-  held-refused n h =
-      let z : held_refusal time e slot ≡ 0 → ⊥ = λ k. n (is ∙ k) in
-      h ∙ ap refused_record is ∙ sym (simp (ne_eqb (held_refusal time e slot) 0 z))
-
-  module _ (z : number ≡ 0) where
-    none-refused : eqb (held_refusal time e slot) 0 ≡ true
-    none-refused = eq-eqb (held_refusal time e slot) 0 (sym is ∙ z)
-
-    pub held-dead : is_live time e ≡ false → r ≡ none_out d → r ≡ held_out d time e slot
-    unfolding held_out
-    held-dead l h = h ∙ sym (simp (none-refused, l))
 
 -- a TTL that was capped already is capped no further
 capped-twice : (n : ℕ) → capped (capped n) ≡ capped n
@@ -87,24 +75,22 @@ capped-twice n = go (ltb 10 n) refl
     go true e = ap (λ (b : Bool). capped (cond b 10 n)) e ∙ sym (ap (λ (b : Bool). cond b 10 n) e)
     go false e = ap (λ (b : Bool). capped (cond b 10 n)) e
 
-capped-first : (d : Domains) (owner : List ℕ) (rtype class n : ℕ) (content : List ℕ)
+pub capped-first : (d : Domains) (owner : List ℕ) (rtype class n : ℕ) (content : List ℕ)
     → record_out d (record_of owner rtype class (capped n) content) ≡ record_out d (record_of owner rtype class n content)
-unfolding record_out record_refusal is_too_long mapped
+unfolding record_out mapped
 capped-first d owner rtype class n content = ap with-ttl (capped-twice n)
   where
-    with-ttl : ℕ → Passed
+    with-ttl : ℕ → Out
     with-ttl k =
-        cond (eqb (record_refusal d (record_of owner rtype class 0 content)) 0)
-        (cond (is_whole owner rtype content) (passed_record (record_of (owner_out d rtype owner) rtype (class_of class) k (rdata_out d rtype content))) left_record)
-        (refused_record (record_refusal d (record_of owner rtype class 0 content)))
+        unless_refused (refused_by (record_tests d (record_of owner rtype class 0 content)))
+        (Ok (cond (is_whole owner rtype content) (Some (passed_record (record_of (owner_out d rtype owner) rtype (class_of class) k (rdata_out d rtype content)))) None))
 
-pub held-live : (d : Domains) (time : ℕ) (e : Entry) (slot : List ℕ) (number : ℕ) → number ≡ held_refusal time e slot → number ≡ 0 → is_live time e ≡ true
-    → (owner content : List ℕ) (ttl : ℕ) → owner ≡ take e.owner (drop 0 slot) → content ≡ take e.rdata (drop 256 slot) → ttl ≡ capped
-    (left_of time e.expiry)
-    → (r : Passed) → r ≡ record_out d (record_of owner e.rtype 1 ttl content) → r ≡ held_out d time e slot
+pub held-live : (d : Domains) (time : ℕ) (e : Entry) (slot : List ℕ) → refused_by (held_tests time e slot) ≡ Ok tt → is_live time e ≡ true
+    → (owner content : List ℕ) (ttl : ℕ) → owner ≡ take e.owner (drop 0 slot) → content ≡ take e.rdata (drop 256 slot) → ttl ≡ capped (left_of time e.expiry)
+    → (r : Out) → r ≡ record_out d (record_of owner e.rtype 1 ttl content) → r ≡ held_out d time e slot
 unfolding held_out
-held-live d time e slot number is z l owner content ttl o c t r h =
+held-live d time e slot z l owner content ttl o c t r h =
     let whole : record_out d (record_of owner e.rtype 1 ttl content) ≡ record_out d (held_record time e slot) =
     ap (λ (k : ℕ). record_out d (record_of owner e.rtype 1 k content)) t ∙ capped-first d owner e.rtype 1 (left_of time e.expiry) content
     ∙ ap₂ (λ (x y : List ℕ). record_out d (record_of x e.rtype 1 (left_of time e.expiry) y)) o c in
-    h ∙ whole ∙ sym (simp (eq-eqb (held_refusal time e slot) 0 (sym is ∙ z), l))
+    h ∙ whole ∙ sym (simp (z, l))

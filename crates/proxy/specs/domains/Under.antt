@@ -1,6 +1,6 @@
 -- When a name lies under a domain, and the same name under another domain (specification, 'The proxy'; RFC 8766, 5.5). Names are lists of bytes,
 -- uncompressed. Assumes nothing: these are definitions.
-use Rattle.std.specs.Prelude.{ℕ, zero, suc, ◌-◌, List, [], ◌∷◌, ◌++◌, Bool, true, false, cond, ◌&&◌, length, take, drop, replicate, ltb, eqb}
+use Rattle.std.specs.Prelude.{ℕ, zero, suc, ◌-◌, List, [], ◌∷◌, ◌++◌, Bool, false, cond, ◌&&◌, length, take, drop, replicate, ltb, eqb, Option, Some, None}
 use Rattle.std.proofs.lemmas.List.Edits.{sets}
 use Rattle.wire.specs.case_folding.Fold.{same_name}
 use Rattle.proxy.specs.declared.domains.Moved.{Moved}
@@ -32,7 +32,10 @@ is_overlong name = ltb 255 (length name)
 abbrev pub laid : ℕ → List ℕ → List ℕ
 laid n bs = sets (replicate n 0) 0 bs
 
+-- a name in a buffer of 255 bytes
+abbrev pub moved_name : List ℕ → Moved
+moved_name name = record { len = length name; bytes = laid 255 name }
+
 -- the answer of `move_name`: of a name that is too long nothing
-abbrev pub moved_of : List ℕ → Moved
-moved_of name =
-    cond (is_overlong name) (record { fits = false; len = 0; bytes = replicate 255 0 }) (record { fits = true; len = length name; bytes = laid 255 name })
+abbrev pub moved_of : List ℕ → Option Moved
+moved_of name = cond (is_overlong name) None (Some (moved_name name))

@@ -1,6 +1,6 @@
 -- Which records are passed on, and how; which questions are answered at once (specification, 'The proxy'; RFC 8766, 5.4 and 5.5.4). Statements; proved in
 -- proofs/laws/Passes.antt and proofs/laws/Wholes.antt. Assumes nothing.
-use Rattle.std.specs.Prelude.{◌≡◌, List, Bool, true, false, ◌||◌, ℕ, ◌*◌, ◌-◌, ◌<◌, ◌≤◌, length, take, eqb}
+use Rattle.std.specs.Prelude.{◌≡◌, List, Bool, true, false, ◌||◌, ℕ, ◌*◌, ◌-◌, ◌<◌, ◌≤◌, length, take, eqb, Some, None, Ok}
 use Rattle.wire.specs.names.Names.{is_name}
 use Rattle.wire.specs.rdata.Rdata.{form_of}
 use Rattle.wire.specs.message.Message.{Record, class_of}
@@ -10,9 +10,8 @@ use Rattle.proxy.specs.domains.Domains.{Domains, are_domains}
 use Rattle.proxy.specs.questions.Questions.{is_below, is_apex_type, question_of}
 use Rattle.proxy.specs.records.Records.{is_whole, rdata_out, mapped, is_too_long, passed_record, record_out}
 use Rattle.proxy.specs.records.Held.{held_out}
-use Rattle.proxy.specs.declared.questions.Asked.TheVariants.{Negative}
 use Rattle.proxy.specs.declared.records.Fields.{Fields}
-use Rattle.proxy.specs.declared.records.Passing.TheVariants as p
+use Rattle.proxy.specs.declared.records.Passed.{Passed}
 
 -- A, PTR, TXT, AAAA, SRV
 unfoldable pub is_five : ℕ → Bool
@@ -30,13 +29,13 @@ pub record PassedOn (r : Record) (f : Fields) : Type 0 where
 
 -- `only-whole`: "only well-formed records of the five types are passed on", "TTLs .. are capped at 10, the top class bit is cleared"
 abbrev pub OnlyWhole : Type 0
-OnlyWhole = (d : Domains) (r : Record) (f : Fields) → (record_out d r).passing ≡ p.Record f → PassedOn r f
+OnlyWhole = (d : Domains) (r : Record) (x : Passed) → record_out d r ≡ Ok (Some x) → PassedOn r x.fields
 
 -- `all_whole`: and no others are left out than those that are refused
 abbrev pub AllWhole : Type 0
 AllWhole =
     (d : Domains) (r : Record) → are_domains d ≡ true → is_whole r.owner r.rtype r.rdata ≡ true → is_too_long d r ≡ false
-    → record_out d r ≡ passed_record (mapped d r)
+    → record_out d r ≡ Ok (Some (passed_record (mapped d r)))
 
 -- `read_whole`: every record of the five types that the reader reads is well formed here too
 abbrev pub ReadWhole : Type 0
@@ -54,7 +53,7 @@ pub record HeldOn (now : ℕ) (e : Entry) (f : Fields) : Type 0 where
 
 -- `only-live`
 abbrev pub OnlyLive : Type 0
-OnlyLive = (d : Domains) (now : ℕ) (e : Entry) (slot : List ℕ) (f : Fields) → (held_out d now e slot).passing ≡ p.Record f → HeldOn now e f
+OnlyLive = (d : Domains) (now : ℕ) (e : Entry) (slot : List ℕ) (x : Passed) → held_out d now e slot ≡ Ok (Some x) → HeldOn now e x.fields
 
 -- `data-kept`, "text is never re-encoded": rdata that holds no name is passed on byte for byte, and of other rdata what stands before the name
 pub record DataKept : Type 0 where
@@ -64,8 +63,8 @@ pub record DataKept : Type 0 where
 
 -- `negative-exactly`: "Questions for SOA, NS and DS below either apex, and no others, get a negative answer at once"; at an apex none do
 pub record NegativeExactly : Type 0 where
-  pub only : (d : Domains) (name : List ℕ) (rtype : ℕ) → (question_of d name rtype).asked ≡ Negative → (is_apex_type rtype ≡ true) × (is_below d name ≡ true)
+  pub only : (d : Domains) (name : List ℕ) (rtype : ℕ) → question_of d name rtype ≡ Ok None → (is_apex_type rtype ≡ true) × (is_below d name ≡ true)
   pub all : (d : Domains) (name : List ℕ) (rtype : ℕ) → is_name name ≡ true → are_domains d ≡ true → is_apex_type rtype ≡ true → is_below d name ≡ true
-      → (question_of d name rtype).asked ≡ Negative
-  pub apex : (d : Domains) (rtype : ℕ) → are_domains d ≡ true → ((question_of d d.rich rtype).asked ≡ Negative → ⊥) ×
-      ((question_of d d.ldh rtype).asked ≡ Negative → ⊥)
+      → question_of d name rtype ≡ Ok None
+  pub apex : (d : Domains) (rtype : ℕ) → are_domains d ≡ true → (question_of d d.rich rtype ≡ Ok None → ⊥) ×
+      (question_of d d.ldh rtype ≡ Ok None → ⊥)

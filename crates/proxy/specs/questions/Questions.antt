@@ -1,12 +1,12 @@
 -- A unicast question at the proxy (specification, 'The proxy'; RFC 8766, 5.5.1 and 5.4). Assumes nothing: these are definitions.
-use Rattle.std.specs.Prelude.{ℕ, List, [], ◌∷◌, Bool, cond, not, ◌&&◌, ◌||◌, length, replicate, eqb}
+use Rattle.std.specs.Prelude.{ℕ, List, [], ◌∷◌, Bool, cond, not, ◌&&◌, ◌||◌, eqb, Option, Some, None, Result, Ok}
 use Rattle.wire.specs.names.Names.{is_name}
-use Rattle.wire.specs.refusals.Numbers.{first_refusal}
+use Rattle.wire.specs.refusals.Numbers.{first_refusal, refused_by}
+use Rattle.wire.specs.declared.refusals.Refusal.{Refusal}
 use Rattle.wire.specs.declared.refusals.Refusal.TheVariants.{Malformed, Setup, TooLong}
-use Rattle.proxy.specs.domains.Under.{is_under, moved, is_overlong, laid}
-use Rattle.proxy.specs.domains.Domains.{Domains, are_domains, local}
-use Rattle.proxy.specs.declared.questions.Question.{Question}
-use Rattle.proxy.specs.declared.questions.Asked.TheVariants.{Name, Negative, Refused}
+use Rattle.proxy.specs.domains.Under.{is_under, moved, is_overlong, moved_name}
+use Rattle.proxy.specs.domains.Domains.{Domains, are_domains, local, unless_refused}
+use Rattle.proxy.specs.declared.domains.Moved.{Moved}
 
 -- a name lies under either domain
 unfoldable pub is_below : Domains → List ℕ → Bool
@@ -25,24 +25,14 @@ unfoldable pub is_negative : Domains → List ℕ → ℕ → Bool
 is_negative d name rtype = is_apex_type rtype && is_below d name
 
 -- the refusals of a question: 6 a malformed name, 7, and 13 "tested last", of a question that is not answered at once
+abbrev pub question_tests : Domains → List ℕ → ℕ → List (Refusal × Bool)
+question_tests d name rtype =
+    (Malformed, not (is_name name)) ∷ ((Setup, not (are_domains d)) ∷ ((TooLong, not (is_negative d name rtype) && is_overlong (inward d name)) ∷ []))
+
 unfoldable pub question_refusal : Domains → List ℕ → ℕ → ℕ
-question_refusal d name rtype =
-    first_refusal
-    ((Malformed, not (is_name name)) ∷ ((Setup, not (are_domains d)) ∷ ((TooLong, not (is_negative d name rtype) && is_overlong (inward d name)) ∷ [])))
+question_refusal d name rtype = first_refusal (question_tests d name rtype)
 
-abbrev pub refused_question : ℕ → Question
-refused_question number = record { asked = Refused number; name = replicate 255 0 }
-
-abbrev pub negative_question : Question
-negative_question = record { asked = Negative; name = replicate 255 0 }
-
--- the question on the link
-abbrev pub asked_question : List ℕ → Question
-asked_question name = record { asked = Name (length name); name = laid 255 name }
-
--- what becomes of a question for a name and a type
-unfoldable pub question_of : Domains → List ℕ → ℕ → Question
+-- what becomes of a question for a name and a type: it is refused, it is answered negatively at once (none), or it is asked on the link by a name
+unfoldable pub question_of : Domains → List ℕ → ℕ → Result (Option Moved) Refusal
 question_of d name rtype =
-    cond (eqb (question_refusal d name rtype) 0)
-    (cond (is_negative d name rtype) negative_question (asked_question (inward d name)))
-    (refused_question (question_refusal d name rtype))
+    unless_refused (refused_by (question_tests d name rtype)) (Ok (cond (is_negative d name rtype) None (Some (moved_name (inward d name)))))

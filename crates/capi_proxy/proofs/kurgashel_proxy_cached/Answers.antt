@@ -1,6 +1,0 @@
-use Rattle.capi_proxy.specs.Numbers.{record_numbers}
-use mathlib.Core.Path.{ap, ◌∙◌}
-use Rattle.capi_proxy.proofs.kurgashel_proxy_cached.Goals as goal
-
-pub returns : goal.returns
-returns c = c.record_numbers.ensures ∙ ap record_numbers c.cached-p.ensures
