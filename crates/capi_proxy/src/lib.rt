@@ -44,31 +44,33 @@ pub struct RecordNumbers {
     pub rdata: [u8; 261],
 }
 
-fn question_numbers(q: Result<Option<Moved>, Refusal>) -> QuestionNumbers
-    ensures { result ≡ question_numbers q }
-{
-    match q {
-        Ok(Some(moved)) => {
-            let name = moved.bytes;
-            QuestionNumbers {
-                refusal: 0,
-                negative: false,
-                length: moved.len,
-                name,
+impl From<Result<Option<Moved>, Refusal>> for QuestionNumbers {
+    ghost from_gives = { λ q numbers. numbers ≡ question_numbers q };
+
+    fn from(q: Result<Option<Moved>, Refusal>) -> QuestionNumbers {
+        match q {
+            Ok(Some(moved)) => {
+                let name = moved.bytes;
+                QuestionNumbers {
+                    refusal: 0,
+                    negative: false,
+                    length: moved.len,
+                    name,
+                }
             }
+            Ok(None) => QuestionNumbers {
+                refusal: 0,
+                negative: true,
+                length: 0,
+                name: [0u8; 255],
+            },
+            Err(refusal) => QuestionNumbers {
+                refusal: refusal.number(),
+                negative: false,
+                length: 0,
+                name: [0u8; 255],
+            },
         }
-        Ok(None) => QuestionNumbers {
-            refusal: 0,
-            negative: true,
-            length: 0,
-            name: [0u8; 255],
-        },
-        Err(refusal) => QuestionNumbers {
-            refusal: refusal.number(),
-            negative: false,
-            length: 0,
-            name: [0u8; 255],
-        },
     }
 }
 
@@ -106,13 +108,15 @@ fn field_numbers(f: Fields, owner: [u8; 255], rdata: [u8; 261]) -> RecordNumbers
     }
 }
 
-fn record_numbers(p: Result<Option<Passed>, Refusal>) -> RecordNumbers
-    ensures { result ≡ record_numbers p }
-{
-    match p {
-        Ok(Some(passed)) => field_numbers(passed.fields, passed.owner, passed.rdata),
-        Ok(None) => refused_numbers(0),
-        Err(refusal) => refused_numbers(refusal.number()),
+impl From<Result<Option<Passed>, Refusal>> for RecordNumbers {
+    ghost from_gives = { λ p numbers. numbers ≡ record_numbers p };
+
+    fn from(p: Result<Option<Passed>, Refusal>) -> RecordNumbers {
+        match p {
+            Ok(Some(passed)) => field_numbers(passed.fields, passed.owner, passed.rdata),
+            Ok(None) => refused_numbers(0),
+            Err(refusal) => refused_numbers(refusal.number()),
+        }
     }
 }
 
@@ -131,7 +135,7 @@ pub fn kurgashel_proxy_question(rich: &[u8], ldh: &[u8], name: &[u8], rtype: u16
     ensures { result ≡ question_numbers (question_of (domains rich.now ldh.now) name.now rtype) }
 {
     let q = proxy::questions::ask(rich, ldh, name, rtype);
-    question_numbers(q)
+    QuestionNumbers::from(q)
 }
 
 // The record at an offset of a message.
@@ -139,7 +143,7 @@ pub fn kurgashel_proxy_record(rich: &[u8], ldh: &[u8], message: &[u8], at: usize
     ensures { result ≡ record_numbers (item_out (domains rich.now ldh.now) (record_at message.now at)) }
 {
     let p = proxy::records::record_at(rich, ldh, message, at);
-    record_numbers(p)
+    RecordNumbers::from(p)
 }
 
 // A record whose names are uncompressed.
@@ -157,7 +161,7 @@ pub fn kurgashel_proxy_plain_record(
 {
     let counted = wire::message::counted_ttl(ttl);
     let p = proxy::records::record(rich, ldh, owner, rtype, class, counted, rdata);
-    record_numbers(p)
+    RecordNumbers::from(p)
 }
 
 // The record of an entry of the cache and the bytes of its slot.
@@ -171,5 +175,5 @@ pub fn kurgashel_proxy_cached(
     ensures { result ≡ record_numbers (held_out (domains rich.now ldh.now) time entry slot.now) }
 {
     let p = proxy::records::cached(rich, ldh, time, entry, slot);
-    record_numbers(p)
+    RecordNumbers::from(p)
 }

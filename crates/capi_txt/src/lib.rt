@@ -29,30 +29,32 @@ fn buffer_number(buffer: Buffer) -> u8
     }
 }
 
-fn pair_of(answer: Answer) -> Pair
-    ensures { result ≡ pair_of answer }
-{
-    match answer {
-        Answer::Refused(refusal) => Pair {
-            refusal: refusal.number(),
-            ..Pair::default()
-        },
-        Answer::Absent => Pair::default(),
-        Answer::Present => Pair {
-            answer: 1,
-            ..Pair::default()
-        },
-        Answer::Empty => Pair {
-            answer: 2,
-            ..Pair::default()
-        },
-        Answer::Value(held) => Pair {
-            refusal: 0,
-            answer: 3,
-            buffer: buffer_number(held.buffer),
-            at: held.at,
-            length: held.len,
-        },
+impl From<Answer> for Pair {
+    ghost from_gives = { λ answer pair. pair ≡ pair_of answer };
+
+    fn from(answer: Answer) -> Pair {
+        match answer {
+            Answer::Refused(refusal) => Pair {
+                refusal: refusal.number(),
+                ..Pair::default()
+            },
+            Answer::Absent => Pair::default(),
+            Answer::Present => Pair {
+                answer: 1,
+                ..Pair::default()
+            },
+            Answer::Empty => Pair {
+                answer: 2,
+                ..Pair::default()
+            },
+            Answer::Value(held) => Pair {
+                refusal: 0,
+                answer: 3,
+                buffer: buffer_number(held.buffer),
+                at: held.at,
+                length: held.len,
+            },
+        }
     }
 }
 
@@ -61,5 +63,5 @@ pub fn kurgashel_txt_lookup<'k, 'a>(key: &'k [u8], received: &'a [u8], factory: 
     ensures { result ≡ pair_of (lookup_of key.now received.now factory.now) }
 {
     let answer = txt::answer_for(key, received, factory);
-    pair_of(answer)
+    Pair::from(answer)
 }

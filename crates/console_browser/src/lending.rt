@@ -1,47 +1,13 @@
 // The first entries of the console's table, and the first bytes of its store, lent to the exported browser.
-ghost use Rattle.std.specs.Prelude.{◌≡◌, ℕ, ◌≤◌, List, length, take};
+ghost use Rattle.std.specs.Prelude.{◌≡◌, ℕ, List, length};
 ghost use Rattle.writer.specs.own_packets.Own.{laid_over};
 ghost use Rattle.cache.specs.declared.entries.Entry.{Entry};
 ghost use Rattle.browser.specs.Calls.{tick_of, ticked_packet, list_of};
 ghost use Rattle.capi_browser.specs.Numbers.{browser_of, ticked_numbers, listed_numbers};
 ghost use Rattle.console_table.specs.Table.{lent_entries, lent_bytes};
 
-use cache::entries::Entry;
 use capi_browser::{BrowserNumbers, ListedNumbers, TickedNumbers};
 use console_table::{MOST_ENTRIES, Table, least};
-
-// Ticks on the first `n` entries and all bytes of a store.
-fn tick_first(
-    es: [Entry; 513],
-    n: usize,
-    store: &[u8],
-    b: BrowserNumbers,
-    time: u64,
-    out: &mut [u8],
-) -> TickedNumbers
-    requires { n ≤ 513 }
-    ensures { (let bytes : List ℕ = store.now in
-        let room : ℕ = length out.old in
-        (result ≡ ticked_numbers (tick_of (browser_of b) time (take n es) bytes room))
-        × (out.new ≡ laid_over (ticked_packet (browser_of b) time (take n es) bytes room) out.old)) }
-{
-    capi_browser::kurgashel_browse_tick(&es[..n], store, b, time, out)
-}
-
-// The lowest listed of the first `n` entries, from a slot on.
-fn list_first(
-    es: [Entry; 513],
-    n: usize,
-    store: &[u8],
-    b: BrowserNumbers,
-    time: u64,
-    from: usize,
-) -> ListedNumbers
-    requires { n ≤ 513 }
-    ensures { result ≡ listed_numbers (list_of (browser_of b) time (take n es) store.now from) }
-{
-    capi_browser::kurgashel_browse_list(&es[..n], store, b, time, from)
-}
 
 // Ticks on a table and its store.
 pub fn tick(
@@ -59,8 +25,7 @@ pub fn tick(
 {
     let n = least(table.count, MOST_ENTRIES);
     let m = least(table.room, store.len());
-    let entries = table.entries;
-    tick_first(entries, n, &store[..m], b, time, out)
+    capi_browser::kurgashel_browse_tick(&table.entries[..n], &store[..m], b, time, out)
 }
 
 // The lowest listed slot of a table and its store, from a slot on.
@@ -69,6 +34,5 @@ pub fn list(table: Table, store: &[u8], b: BrowserNumbers, time: u64, from: usiz
 {
     let n = least(table.count, MOST_ENTRIES);
     let m = least(table.room, store.len());
-    let entries = table.entries;
-    list_first(entries, n, &store[..m], b, time, from)
+    capi_browser::kurgashel_browse_list(&table.entries[..n], &store[..m], b, time, from)
 }

@@ -260,6 +260,7 @@ fn make_table(
 }
 
 // Whether a word is one of these calls.
+// by same_bytes: of a pattern of bytes the proof knows their number alone
 #[tactic(auto, unfolding(crate::specs::cache_calls::Lines::is_cache_call))]
 pub fn is_call(word: &[u8]) -> bool
     ensures { result ≡ is_cache_call word.now }

@@ -5,16 +5,12 @@ mod reading;
 
 use crate::output::bad_line;
 use console_text::lines::field;
-use wire::expansion::same_bytes;
 
 // Answers one of these calls. Any other line is a bad one.
 pub fn call(line: &[u8], rt: &impl Print, text: &mut [u8; 4096]) {
-    let word = field(line, 0);
-    if same_bytes(word, b"read") {
-        reading::read(line, rt, text)
-    } else if same_bytes(word, b"txt") {
-        pairs::txt(line, rt, text)
-    } else {
-        bad_line(rt, text)
+    match field(line, 0) {
+        b"read" => reading::read(line, rt, text),
+        b"txt" => pairs::txt(line, rt, text),
+        _ => bad_line(rt, text),
     }
 }

@@ -9,7 +9,6 @@ use console_text::fields::{MOST_16, are_bytes, has_arguments, is_number, number,
 use console_text::hex::fill;
 use console_text::lines::{field, front};
 use proxy::records::{Fields, Passed};
-use wire::expansion::same_bytes;
 use wire::refusals::Refusal;
 
 // The greatest number of 32 bits.
@@ -171,14 +170,10 @@ pub fn call(
     rt: &impl Print,
     text: &mut [u8; 4096],
 ) {
-    let word = field(line, 0);
-    if same_bytes(word, b"question") {
-        question(line, held, rt, text)
-    } else if same_bytes(word, b"answer") {
-        answer(line, held, rt, text)
-    } else if same_bytes(word, b"cached") {
-        cached(line, held, table, store, rt, text)
-    } else {
-        bad_line(rt, text)
+    match field(line, 0) {
+        b"question" => question(line, held, rt, text),
+        b"answer" => answer(line, held, rt, text),
+        b"cached" => cached(line, held, table, store, rt, text),
+        _ => bad_line(rt, text),
     }
 }

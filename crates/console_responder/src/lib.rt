@@ -25,6 +25,7 @@ pub fn at_first() -> State
 }
 
 // Whether a word is one of these calls.
+// by same_bytes: of a pattern of bytes the proof knows their number alone
 #[tactic(auto, unfolding(crate::specs::Forms::is_responder_call))]
 pub fn is_call(word: &[u8]) -> bool
     ensures { result ≡ is_responder_call word.now }

@@ -1,7 +1,7 @@
 // What calls show: what they send; and the calls that only show what is held: `claims`, the times and states of the responder; `holds`, its held queries; and
 // `out AT LEN` and `unicast AT LEN`, a part of an out buffer.
 use claims::holds::{Address, Hold, Holds, is_taken};
-use claims::ClaimState;
+use claims::{ClaimState, due_of};
 use console_calls::output::{self, bad_line, bytes, finish, first, only, refused, word};
 use console_text::fields::{has_arguments, is_number, number};
 use console_text::lines::front;
@@ -60,38 +60,31 @@ fn first_number(rt: &impl Print, text: &mut [u8; 4096], n: u64) -> usize {
     first(rt, text, digits.format(n).as_bytes())
 }
 
-// Adds a state and the time at which its next step is due.
-fn timed(rt: &impl Print, text: &mut [u8; 4096], used: usize, state: &[u8], due: u64) -> usize {
-    let used = word(rt, text, used, state);
-    output::number(rt, text, used, due)
-}
-
-// Adds a state that has no next step.
-fn untimed(rt: &impl Print, text: &mut [u8; 4096], used: usize, state: &[u8]) -> usize {
-    let used = word(rt, text, used, state);
-    word(rt, text, used, b"-")
+// Adds a word and the time that goes with it, such as a state and when its next step is due; `-` where there is none.
+fn timed(
+    rt: &impl Print,
+    text: &mut [u8; 4096],
+    used: usize,
+    name: &[u8],
+    due: Option<u64>,
+) -> usize {
+    let used = word(rt, text, used, name);
+    match due {
+        Some(time) => output::number(rt, text, used, time),
+        None => word(rt, text, used, b"-"),
+    }
 }
 
 // Adds a claim: ` STATE DUE`.
 fn claim(rt: &impl Print, text: &mut [u8; 4096], used: usize, c: ClaimState) -> usize {
-    match c {
-        ClaimState::Waiting(due) => timed(rt, text, used, b"waiting", due),
-        ClaimState::Probing1(due) | ClaimState::Probing2(due) | ClaimState::Probing3(due) => {
-            timed(rt, text, used, b"probing", due)
-        }
-        ClaimState::Deferred(due) => timed(rt, text, used, b"deferred", due),
-        ClaimState::Announced(due) => timed(rt, text, used, b"held", due),
-        ClaimState::Held => untimed(rt, text, used, b"held"),
-        ClaimState::Lost => untimed(rt, text, used, b"lost"),
-    }
-}
-
-// Adds a time that is set or not, behind its word: the PTR reply, ` reply DUE`, or the last update, ` updated TIME`.
-fn when(rt: &impl Print, text: &mut [u8; 4096], used: usize, name: &[u8], w: Option<u64>) -> usize {
-    match w {
-        Some(time) => timed(rt, text, used, name, time),
-        None => untimed(rt, text, used, name),
-    }
+    let state: &[u8] = match c {
+        ClaimState::Waiting(_) => b"waiting",
+        ClaimState::Probing1(_) | ClaimState::Probing2(_) | ClaimState::Probing3(_) => b"probing",
+        ClaimState::Deferred(_) => b"deferred",
+        ClaimState::Announced(_) | ClaimState::Held => b"held",
+        ClaimState::Lost => b"lost",
+    };
+    timed(rt, text, used, state, due_of(c))
 }
 
 // `claims`: `LAST instance STATE DUE host STATE DUE reply DUE updated TIME`
@@ -105,8 +98,8 @@ pub fn claims(line: &[u8], held: State, rt: &impl Print, text: &mut [u8; 4096]) 
     let used = claim(rt, text, used, progress.instance);
     let used = word(rt, text, used, b"host");
     let used = claim(rt, text, used, progress.host);
-    let used = when(rt, text, used, b"reply", progress.reply);
-    let used = when(rt, text, used, b"updated", progress.updated);
+    let used = timed(rt, text, used, b"reply", progress.reply);
+    let used = timed(rt, text, used, b"updated", progress.updated);
     finish(rt, text, used);
 }
 

@@ -63,22 +63,6 @@ fn take_first(
     FirstTaken { numbers, entries }
 }
 
-// Looks a name and a type up in the first `n` entries, from a slot on.
-fn look_first(
-    es: [Entry; 513],
-    n: usize,
-    store: &[u8],
-    time: u64,
-    name: &[u8],
-    rtype: u16,
-    from: usize,
-) -> LookedNumbers
-    requires { n ≤ 513 }
-    ensures { result ≡ looked_numbers (looked_of time (take n es) store.now name.now rtype from) }
-{
-    capi_cache::kurgashel_cache_look_up(&es[..n], store, time, name, rtype, from)
-}
-
 // An entry of zeros.
 fn unused() -> Entry
     ensures { result ≡ blank }
@@ -152,5 +136,5 @@ pub fn look_up(
 {
     let n = table.count.min(MOST_ENTRIES);
     let lent = &store[..table.room.min(store.len())];
-    look_first(table.entries, n, lent, time, name, rtype, from)
+    capi_cache::kurgashel_cache_look_up(&table.entries[..n], lent, time, name, rtype, from)
 }

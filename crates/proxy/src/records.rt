@@ -102,15 +102,12 @@ fn content_of(rich: &[u8], ldh: &[u8], rtype: u16, rdata: &[u8]) -> Option<Conte
             bytes,
         });
     }
-    let before = form.before;
-    let target = part(rdata, before, rdata.len());
+    let target = part(rdata, form.before, rdata.len());
     let moved = from_local(rich, ldh, rtype == SRV, target)?;
-    let name = moved.bytes;
-    let n = moved.len;
-    put(&mut bytes, 0, &rdata[..before]);
-    put(&mut bytes, before, &name[..n]);
+    put(&mut bytes, 0, &rdata[..form.before]);
+    put(&mut bytes, form.before, &moved.bytes[..moved.len]);
     Some(Content {
-        len: before + n,
+        len: form.before + moved.len,
         bytes,
     })
 }
@@ -185,13 +182,11 @@ pub fn record_at(
     let Some(f) = wire::message::whole_record(message, at) else {
         return none(rich, ldh);
     };
-    let expanded = wire::names::expand(message, f.owner);
-    let name = expanded.bytes;
-    let n = f.span.len;
+    let owner = wire::names::expand(message, f.owner).bytes;
     let opened = wire::expansion::open(message, f);
-    let bytes = opened.bytes;
-    let rdata = wire::expansion::view(message, &bytes, opened.len, f);
-    record(rich, ldh, &name[..n], f.rtype, f.class, f.ttl, rdata)
+    let rdata = wire::expansion::view(message, &opened.bytes, opened.len, f);
+    let n = f.span.len;
+    record(rich, ldh, &owner[..n], f.rtype, f.class, f.ttl, rdata)
 }
 
 // What is left of a cached record, in whole seconds rounded down, and at most 10.

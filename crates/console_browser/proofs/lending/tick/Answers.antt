@@ -1,11 +1,5 @@
-use mathlib.Core.Path.{sym}
-use native.Mathlib.Omega.{arith}
-use lib.Seq.{length-take-le}
 use Rattle.console_browser.proofs.After.{lent_ticked}
 use Rattle.console_browser.proofs.lending.tick.Goals as goal
 
-pub slice_bounds-tick_first-end : goal.slice_bounds-tick_first-end
-slice_bounds-tick_first-end c = sym (length-take-le _ c.args.store.now (omega arith))
-
 pub returns : goal.returns
-returns c = lent_ticked c.args.table c.well_formed.0.1.1.0.1.0.1 c.args.store.now _ _ c.least-n.ensures.0 c.least-m.ensures.0 _ _ c.args.out.now _ _ c.tick_first.ensures
+returns c = lent_ticked c.args.table c.well_formed.0.1.1.0.1.0.1 c.args.store.now _ _ c.least-n.ensures.0 c.least-m.ensures.0 _ _ c.args.out.now _ _ c.kurgashel_browse_tick.ensures

@@ -5,11 +5,11 @@ use Rattle.proxy.proofs.records.record_at.Goals as goal
 pub returns-in_default : goal.returns-in_default
 returns-in_default c = none-lying _ _ _ (sym c.in_default.ensures) _ c.none.ensures
 
-pub slice_bounds-name-end : goal.slice_bounds-name-end
-slice_bounds-name-end c = span_within_lem _ _ _ (sym c.in-Some.ensures) _ c.expand-expanded.ensures
+pub slice_bounds-owner-end : goal.slice_bounds-owner-end
+slice_bounds-owner-end c = span_within_lem _ _ _ (sym c.in-Some.ensures) _ c.expand.ensures
 
 pub slice_bounds-record-end : goal.slice_bounds-record-end
-slice_bounds-record-end c = span_long _ _ _ (sym c.in-Some.ensures) _ c.expand-expanded.ensures
+slice_bounds-record-end c = span_long _ _ _ (sym c.in-Some.ensures) _ c.expand.ensures
 
 pub returns : goal.returns
-returns c = record_lying _ _ _ (sym c.in-Some.ensures) _ c.expand-expanded.ensures _ c.open-opened.ensures _ c.view-rdata.ensures.bytes _ _ c.record.ensures
+returns c = record_lying _ _ _ (sym c.in-Some.ensures) _ c.expand.ensures _ c.open-opened.ensures _ c.view-rdata.ensures.bytes _ _ c.record.ensures
