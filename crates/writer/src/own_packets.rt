@@ -1,22 +1,24 @@
 // Writes the own packets (specification, 'Writing a packet': "ID 0. Responses have flags 0x8400, probes 0. .. by rising type, class 1."; "Unicast answers
 // carry the query's ID"; "Our own probes now set the bit"): a response of any of the own records, a claim's probe, and a reply to a plain resolver. Questions
 // and records are put by `writer`.
-ghost use Rattle.std.specs.Prelude.{◌≡◌, cond, map, ◌+◌, ◌≤◌, ◌<◌, length};
+ghost use Rattle.std.specs.Prelude.{◌≡◌, map, ◌+◌, ◌≤◌, ◌<◌, length};
 ghost use Rattle.claims.specs.records.Own.{records};
 ghost use Rattle.std.proofs.lemmas.List.Edits.{sets};
 ghost use Rattle.writer.specs.Items.{put_question, put_record};
 ghost use Rattle.wire.specs.message.Message.{Question};
+ghost use Rattle.wire.specs.refusals.Numbers.{refused_by};
 ghost use Rattle.writer.specs.Writer.{question_of, held_in, Grown};
 ghost use Rattle.writer.specs.own_packets.Packets.{put_all, header_bytes};
-ghost use Rattle.writer.specs.own_packets.Ready.{HeaderReady, spot_after, OwnReady, Picks, listed, ListReady, AskReady, PacketReady};
+ghost use Rattle.writer.specs.own_packets.Ready.{HeaderReady, spot_after, OwnReady, Picks, listed, AnswerStyle, ListReady, AskReady, PacketReady};
 ghost use Rattle.writer.specs.own_packets.Styles.{response_style, probe_style, plain_style, class_in, ttl_in, asked, own_record, packet_in};
 ghost use Rattle.writer.specs.own_packets.Own.{refusal_of, length_of, response_records, probe_records, response_packet, probe_packet, plain_packet};
-ghost use Rattle.writer.specs.own_packets.Own.{refusal, unless_refused, written_of, laid_over};
+ghost use Rattle.writer.specs.own_packets.Own.{write_tests, refusal, unless_refused, answer_to, chosen_packet, laid_over};
 ghost use Rattle.writer.specs.own_packets.Goodbye.{goodbye_style, goodbye_packet};
 
 use crate::{Misfit, Spot};
 use claims::records::{Claim, Own, RECORDS, Set};
 use own::records::Setup;
+use wire::refusals::Refusal;
 
 // The least buffer that a packet is written into.
 pub const LEAST_OUT: usize = 1452;
@@ -34,16 +36,21 @@ const PROBE_CLASS: u16 = 0x8001;
 // The TTL of records in a reply to a plain resolver.
 const PLAIN_TTL: u32 = 10;
 
-// How a packet of own records is written: its header, whether a question stands in front and of which type and class, the section of the records
+// The type and the class of a question.
+#[derive(Clone, Copy)]
+pub struct Asked {
+    pub qtype: u16,
+    pub qclass: u16,
+}
+
+// How a packet of own records is written: its header, the type and the class of the question in front, if there is one, the section of the records
 // (Authority, else Answers), the TTL of all of them (none: each has its own), whether those that are not shared have the class's top bit, and whether the
 // target of the SRV is written whole.
 #[derive(Clone, Copy)]
 pub struct Style {
     pub id: u16,
     pub flags: u16,
-    pub asks: bool,
-    pub qtype: u16,
-    pub qclass: u16,
+    pub asks: Option<Asked>,
     pub authority: bool,
     pub ttl: Option<u32>,
     pub flush: bool,
@@ -57,12 +64,17 @@ pub struct Picked {
     pub n: usize,
 }
 
-// What became of a packet. A refusal carries the specification's number: 3 or 7.
-#[derive(Clone, Copy)]
-pub enum Written {
-    Sent(usize),
-    Nothing,
-    Refused(u8),
+// The tests of a call that writes a packet into a buffer of so many bytes.
+fn check_call(s: Setup, room: usize) -> Result<(), Refusal>
+    ensures { result ≡ refused_by (write_tests s room) }
+{
+    if room < LEAST_OUT {
+        return Err(Refusal::Buffer);
+    }
+    if !own::setups::check_setup(s) {
+        return Err(Refusal::Setup);
+    }
+    Ok(())
 }
 
 // "Responses have flags 0x8400", and of the own records all but PTR have class 0x8001. The ID is 0 to all, and the query's to one that wants unicast.
@@ -72,9 +84,7 @@ fn response_style(id: u16) -> Style
     Style {
         id,
         flags: RESPONSE_FLAGS,
-        asks: false,
-        qtype: 0,
-        qclass: 0,
+        asks: None,
         authority: false,
         ttl: None,
         flush: true,
@@ -89,9 +99,10 @@ fn probe_style() -> Style
     Style {
         id: 0,
         flags: 0,
-        asks: true,
-        qtype: 255,
-        qclass: PROBE_CLASS,
+        asks: Some(Asked {
+            qtype: 255,
+            qclass: PROBE_CLASS,
+        }),
         authority: true,
         ttl: None,
         flush: false,
@@ -106,21 +117,12 @@ fn plain_style(id: u16, qtype: u16, qclass: u16) -> Style
     Style {
         id,
         flags: RESPONSE_FLAGS,
-        asks: true,
-        qtype,
-        qclass,
+        asks: Some(Asked { qtype, qclass }),
         authority: false,
         ttl: Some(PLAIN_TTL),
         flush: false,
         whole: true,
     }
-}
-
-// One of two numbers.
-fn either(first: bool, a: usize, b: usize) -> usize
-    ensures { result ≡ cond first a b }
-{
-    if first { a } else { b }
 }
 
 // Writes a header; there are no additional records.
@@ -262,10 +264,10 @@ fn write_asked(style: Style, name: &[u8], out: &mut [u8], places: &mut [usize]) 
     ensures { Grown (put_all put_question (held_in out.old places.old 12 0) (asked style name.now))
         out.old places.old result out.new places.new }
 {
-    if !style.asks {
+    let Some(asked) = style.asks else {
         return Spot { end: 12, count: 0 };
-    }
-    let placed = crate::put_question(out, 12, places, 0, name, style.qtype, style.qclass);
+    };
+    let placed = crate::put_question(out, 12, places, 0, name, asked.qtype, asked.qclass);
     spot_after(placed, 12, 0)
 }
 
@@ -276,10 +278,12 @@ fn write_packet(s: Setup, style: Style, name: &[u8], list: Picked, out: &mut [u8
     ensures value { result ≡ length (packet_in s style name.now (listed list)) }
     ensures out_after { out.new ≡ laid_over (packet_in s style name.now (listed list)) out.old }
 {
-    let n = list.n;
-    let questions = either(style.asks, 1, 0);
-    let answers = either(style.authority, 0, n);
-    let authorities = either(style.authority, n, 0);
+    let questions = if style.asks.is_some() { 1 } else { 0 };
+    let (answers, authorities) = if style.authority {
+        (0, list.n)
+    } else {
+        (list.n, 0)
+    };
     put_header(
         out,
         style.id as usize,
@@ -294,42 +298,49 @@ fn write_packet(s: Setup, style: Style, name: &[u8], list: Picked, out: &mut [u8
     r.end
 }
 
+// Writes the chosen ones of the own records that the set-up has, in a style that asks nothing.
+fn write_chosen(
+    s: Setup,
+    style: Style,
+    chosen: Set,
+    out: &mut [u8],
+) -> Result<Option<usize>, Refusal>
+    requires { AnswerStyle style }
+    ensures answer { result ≡ answer_to s out.old (chosen_packet s style chosen) }
+    ensures out { out.new ≡ laid_over (unless_refused (refusal s out.old) (chosen_packet s style chosen)) out.old }
+    ensures number { refusal_of result ≡ refusal s out.old }
+    ensures sent { length_of result ≡ length (unless_refused (refusal s out.old) (chosen_packet s style chosen)) }
+{
+    check_call(s, out.len())?;
+    let list = pick(s, chosen);
+    if list.n == 0 {
+        return Ok(None);
+    }
+    Ok(Some(write_packet(s, style, b"", list, out)))
+}
+
 // Writes a response with this ID of the chosen ones of the own records that the set-up has: PTR, SRV, TXT, A, AAAA, and the two NSEC.
-pub fn respond(s: Setup, id: u16, chosen: Set, out: &mut [u8]) -> Written
-    ensures answer { result ≡ written_of (refusal s out.old) (response_packet s id chosen) }
+#[tactic(auto, unfolding(crate::specs::own_packets::Own::response_packet))]
+pub fn respond(s: Setup, id: u16, chosen: Set, out: &mut [u8]) -> Result<Option<usize>, Refusal>
+    ensures answer { result ≡ answer_to s out.old (response_packet s id chosen) }
     ensures out { out.new ≡ laid_over (unless_refused (refusal s out.old) (response_packet s id chosen)) out.old }
     ensures number { refusal_of result ≡ refusal s out.old }
     ensures sent { length_of result ≡ length (unless_refused (refusal s out.old) (response_packet s id chosen)) }
 {
-    if out.len() < LEAST_OUT {
-        return Written::Refused(wire::refusals::BUFFER);
-    }
-    if !own::setups::check_setup(s) {
-        return Written::Refused(wire::refusals::SETUP);
-    }
-    let list = pick(s, chosen);
-    if list.n == 0 {
-        return Written::Nothing;
-    }
-    Written::Sent(write_packet(s, response_style(id), b"", list, out))
+    write_chosen(s, response_style(id), chosen, out)
 }
 
 // Writes a claim's probe.
-pub fn probe(s: Setup, claim: Claim, out: &mut [u8]) -> Written
-    ensures answer { result ≡ written_of (refusal s out.old) (probe_packet s claim) }
+pub fn probe(s: Setup, claim: Claim, out: &mut [u8]) -> Result<Option<usize>, Refusal>
+    ensures answer { result ≡ answer_to s out.old (probe_packet s claim) }
     ensures out { out.new ≡ laid_over (unless_refused (refusal s out.old) (probe_packet s claim)) out.old }
     ensures number { refusal_of result ≡ refusal s out.old }
     ensures sent { length_of result ≡ length (unless_refused (refusal s out.old) (probe_packet s claim)) }
 {
-    if out.len() < LEAST_OUT {
-        return Written::Refused(wire::refusals::BUFFER);
-    }
-    if !own::setups::check_setup(s) {
-        return Written::Refused(wire::refusals::SETUP);
-    }
+    check_call(s, out.len())?;
     let list = pick_claim(s, claim);
     let owner = own::records::own_name(s, claims::records::first_of(claim));
-    Written::Sent(write_packet(s, probe_style(), &owner.bytes[..owner.len], list, out))
+    Ok(Some(write_packet(s, probe_style(), &owner.bytes[..owner.len], list, out)))
 }
 
 // Writes a reply to the question of a plain resolver, with the ID of its query: the chosen ones of the own records that carry data and that the set-up has.
@@ -341,30 +352,25 @@ pub fn plain_reply(
     qtype: u16,
     qclass: u16,
     out: &mut [u8],
-) -> Written
+) -> Result<Option<usize>, Refusal>
     ensures answer { (let q : Question = question_of name.now qtype qclass in
-        result ≡ written_of (refusal s out.old) (plain_packet s chosen id q)) }
+        result ≡ answer_to s out.old (plain_packet s chosen id q)) }
     ensures out { (let q : Question = question_of name.now qtype qclass in
         out.new ≡ laid_over (unless_refused (refusal s out.old) (plain_packet s chosen id q)) out.old) }
     ensures number { refusal_of result ≡ refusal s out.old }
     ensures sent { (let q : Question = question_of name.now qtype qclass in
         length_of result ≡ length (unless_refused (refusal s out.old) (plain_packet s chosen id q))) }
 {
-    if out.len() < LEAST_OUT {
-        return Written::Refused(wire::refusals::BUFFER);
-    }
-    if !own::setups::check_setup(s) {
-        return Written::Refused(wire::refusals::SETUP);
-    }
+    check_call(s, out.len())?;
     if !wire::names::is_name(name) {
-        return Written::Nothing;
+        return Ok(None);
     }
     let records = pick(s, claims::records::with_data(chosen));
     if records.n == 0 {
-        return Written::Nothing;
+        return Ok(None);
     }
     let style = plain_style(id, qtype, qclass);
-    Written::Sent(write_packet(s, style, name, records, out))
+    Ok(Some(write_packet(s, style, name, records, out)))
 }
 
 // A goodbye is a response whose records have TTL 0.
@@ -372,34 +378,18 @@ fn goodbye_style() -> Style
     ensures { result ≡ goodbye_style }
 {
     Style {
-        id: 0,
-        flags: RESPONSE_FLAGS,
-        asks: false,
-        qtype: 0,
-        qclass: 0,
-        authority: false,
         ttl: Some(0),
-        flush: true,
-        whole: false,
+        ..response_style(0)
     }
 }
 
 // Writes a goodbye to the chosen ones of the own records that the set-up has.
-pub fn goodbye(s: Setup, chosen: Set, out: &mut [u8]) -> Written
-    ensures answer { result ≡ written_of (refusal s out.old) (goodbye_packet s chosen) }
+#[tactic(auto, unfolding(crate::specs::own_packets::Goodbye::goodbye_packet))]
+pub fn goodbye(s: Setup, chosen: Set, out: &mut [u8]) -> Result<Option<usize>, Refusal>
+    ensures answer { result ≡ answer_to s out.old (goodbye_packet s chosen) }
     ensures out { out.new ≡ laid_over (unless_refused (refusal s out.old) (goodbye_packet s chosen)) out.old }
     ensures number { refusal_of result ≡ refusal s out.old }
     ensures sent { length_of result ≡ length (unless_refused (refusal s out.old) (goodbye_packet s chosen)) }
 {
-    if out.len() < LEAST_OUT {
-        return Written::Refused(wire::refusals::BUFFER);
-    }
-    if !own::setups::check_setup(s) {
-        return Written::Refused(wire::refusals::SETUP);
-    }
-    let parting = pick(s, chosen);
-    if parting.n == 0 {
-        return Written::Nothing;
-    }
-    Written::Sent(write_packet(s, goodbye_style(), b"", parting, out))
+    write_chosen(s, goodbye_style(), chosen, out)
 }

@@ -1,13 +1,13 @@
 -- A packet in a style: the header, the question, the records, and what the buffer then is; a response and a probe. Assumes nothing.
-use mathlib.Core.Path.{◌≡◌, refl, sym, ap, ap₂, ◌∙◌, subst}
+use mathlib.Core.Path.{◌≡◌, refl, sym, ap, ◌∙◌, subst}
 use mathlib.Core.List.{List, [], ◌∷◌, ◌++◌, map}
-use mathlib.Core.Bool.{Bool, true, false, cond}
-use Prim.Native.Nat.{ℕ, zero, suc, ◌+◌, ◌-◌, ◌<◌, ◌≤◌}
+use mathlib.Core.Bool.{Bool, true, false, cond, not}
+use Prim.Native.Nat.{ℕ, ◌+◌, ◌-◌, ◌<◌, ◌≤◌}
 use native.Mathlib.Omega.{arith}
-use borrow.Author.Tests.{le-leb, lt-ltb, le-ltb, eq-eqb, ne_eqb}
+use borrow.Author.Tests.{le-leb, eq-eqb, ne_eqb, ltb-false}
 use lib.ListN.{length, take, drop, take-append-drop, length-map}
 use lib.Seq.{sets, sets-eq, length-sets, length-take-le, drop_at, drop-drop}
-use lib.Dec.{eqb}
+use lib.Dec.{eqb, ltb}
 use Rattle.wire.specs.names.Names.{is_name}
 use Rattle.wire.specs.message.Message.{Question, Record}
 use Rattle.wire.specs.labels.Counted.{labels_in}
@@ -25,55 +25,78 @@ use Rattle.writer.specs.Items.{Writing, put_question, put_record}
 use Rattle.writer.specs.Writer.{held_in, spot_of, room_in, question_of, name_fits, question_fits, Placing, Grown}
 use Rattle.writer.proofs.Use.{question-size, question-count, question-low, record_low, held-so}
 use Rattle.writer.specs.declared.own_packets.Picked.{Picked}
+use Rattle.writer.specs.declared.own_packets.Asked.{Asked}
 use Rattle.writer.specs.declared.own_packets.Style.{Style}
-use Rattle.writer.specs.declared.own_packets.Written.{Written}
-use Rattle.writer.specs.declared.own_packets.Written.TheVariants.{Sent, Nothing, Refused}
 use Rattle.writer.specs.own_packets.Packets.{header_bytes, header, put_all, packet_of}
-use Rattle.writer.specs.own_packets.Styles.{probe_style, own_record, asked, styled_message, packet_in}
-use Rattle.writer.specs.own_packets.Own.{refusal_of, length_of, response_records, probe_records, none_if_empty, probe_packet}
-use Rattle.writer.specs.own_packets.Own.{refusal, unless_refused, sent_of, written_of, laid_over}
-use Rattle.writer.specs.own_packets.Ready.{spot_after, TtlSmall, each, ListReady, listed, Picks, asked_size, asked_labels, AskReady, most_places, PacketReady}
+use Rattle.writer.specs.own_packets.Styles.{probe_style, own_record, questions_of, asked, styled_message, packet_in}
+use Rattle.writer.specs.own_packets.Own.{refusal_of, length_of, response_records, probe_records, none_if_empty, chosen_packet, probe_packet}
+use Rattle.writer.specs.own_packets.Own.{write_tests, refusal, unless_refused, sent_of, written_of, answer_to, laid_over}
+use Rattle.writer.specs.own_packets.Ready.{spot_after, AnswerStyle, each, ListReady, listed, Picks, asked_size, asked_labels, AskReady, most_places, PacketReady}
 use Rattle.writer.proofs.own_packets.Owned.{own_front, placed-grown, own_shaped}
 use Rattle.writer.proofs.own_packets.Room.{response_size, response_labels, probe-size, probe-labels, claim_size_lem, claim_labels}
-use Rattle.std.specs.Prelude.{Result}
+use Rattle.std.specs.Prelude.{Option, Some, None, is_some, Result, Ok, Err}
+use Rattle.wire.specs.declared.refusals.Refusal.{Refusal}
+use Rattle.wire.specs.declared.refusals.Refusal.TheVariants.{Buffer}
+use Rattle.wire.specs.declared.refusals.Refusal.TheVariants as cause
+use Rattle.wire.specs.refusals.Numbers.{number_of, number_in, refused_by}
+use Rattle.wire.proofs.refusals.Tests.{numbers_from-1, number_by}
 use Rattle.writer.specs.declared.Misfit.{Misfit}
 
 -- the answer and the buffer
-abbrev pub Answered : ℕ → List ℕ → List ℕ → Written → List ℕ → Type 0
-Answered n packet o r o' =
-    (r ≡ written_of n packet)
-    × ((o' ≡ laid_over (unless_refused n packet) o) × ((refusal_of r ≡ n) × (length_of r ≡ length (unless_refused n packet))))
+abbrev pub Answered : Setup → List ℕ → List ℕ → Result (Option ℕ) Refusal → List ℕ → Type 0
+Answered s packet o r o' =
+    (r ≡ answer_to s o packet)
+    × ((o' ≡ laid_over (unless_refused (refusal s o) packet) o) × ((refusal_of r ≡ refusal s o) × (length_of r ≡ length (unless_refused (refusal s o) packet))))
 
--- The specification's number and length for the answer
-number_of : (n : ℕ) (packet : List ℕ) → refusal_of (written_of n packet) ≡ n
-number_of zero [] = refl
-number_of zero (b ∷ bs) = refl
-number_of (suc n) packet = simp (ne_eqb (suc n) 0 (λ e. absurd (omega arith)))
+-- what the tests of a call come to
+module _ (s : Setup) (o : List ℕ) (v : Result (Unit {0}) Refusal) (is : v ≡ refused_by (write_tests s (length o))) where
+  tested : number_in v ≡ refusal s o
+  unfolding refusal
+  tested = ap number_in is ∙ number_by (write_tests s (length o))
 
-length-of : (n : ℕ) (packet : List ℕ) → length_of (written_of n packet) ≡ length (unless_refused n packet)
-length-of zero [] = refl
-length-of zero (b ∷ bs) = refl
-length-of (suc n) packet = simp (ne_eqb (suc n) 0 (λ e. absurd (omega arith)))
+  pub refused : (packet : List ℕ) (cause : Refusal) → v ≡ Err cause → (r : Result (Option ℕ) Refusal) → r ≡ Err cause → Answered s packet o r o
+  refused packet cause e r k =
+      let n : number_of cause ≡ refusal s o = sym (ap number_in e) ∙ tested in
+      let z : eqb (refusal s o) 0 ≡ false = ne_eqb (refusal s o) 0 (λ q. absurd (omega (arith, numbers_from-1 cause))) in
+      (k ∙ ap (λ (x : Result (Unit {0}) Refusal). written_of x packet) (sym e ∙ is), (simp z, (ap refusal_of k ∙ n, ap length_of k ∙ simp z)))
 
-numbered : (n : ℕ) (packet o : List ℕ) (r : Written) (o' : List ℕ) → r ≡ written_of n packet → o' ≡ laid_over (unless_refused n packet) o → Answered n packet o r
-    o'
-numbered n packet o r o' e f = (e, (f, (ap refusal_of e ∙ number_of n packet, ap length_of e ∙ length-of n packet)))
+  module _ (t : v ≡ Ok tt) where
+    accepted : refusal s o ≡ 0
+    accepted = sym tested ∙ ap number_in t
 
-refused : (n m : ℕ) (packet o : List ℕ) → n ≡ m → (m ≡ 0 → ⊥) → Answered n packet o (Refused m) o
-refused n m packet o e z =
-    let k : eqb n 0 ≡ false = ne_eqb n 0 (λ q. z (sym e ∙ q)) in
-    numbered n packet o (Refused m) o (rw (← e) (simp k)) (simp k)
+    -- there is room, and the set-up keeps the rules
+    passed : (ltb (length o) 1452 ≡ false) × (valid_setup s ≡ true)
+    passed = go (ltb (length o) 1452) (valid_setup s) (sym is ∙ t)
+      where
+        go : (a b : Bool) → ◌≡◌ {A = Result (Unit {0}) Refusal} (cond a (Err Buffer) (cond (not b) (Err cause.Setup) (Ok tt))) (Ok tt) → (a ≡ false) × (b ≡ true)
+        go true b e = cc
+        go false true e = (refl, refl)
+        go false false e = cc
 
-sent_of_lem : (packet : List ℕ) → 1 ≤ length packet → sent_of packet ≡ Sent (length packet)
-sent_of_lem [] h = absurd (omega arith)
-sent_of_lem (b ∷ bs) h = refl
+    pub room : 1452 ≤ length o
+    room = ltb-false _ _ passed.0
 
-pub sent : (n : ℕ) (packet o : List ℕ) (e : ℕ) (o' : List ℕ) → n ≡ 0 → 1 ≤ length packet → e ≡ length packet → o' ≡ packet ++ drop (length packet) o → Answered n
-    packet o (Sent e) o'
-sent n packet o e o' z h le w = let k : eqb n 0 ≡ true = eq-eqb n 0 z in numbered n packet o (Sent e) o' (simp (k, sent_of_lem packet h) (ap Sent le)) (simp k w)
+    pub fine : valid_setup s ≡ true
+    fine = passed.1
 
-pub nothing : (n : ℕ) (packet o : List ℕ) → n ≡ 0 → packet ≡ [] → Answered n packet o Nothing o
-nothing n packet o z e = let k : eqb n 0 ≡ true = eq-eqb n 0 z in numbered n packet o Nothing o (simp (k, e)) (simp (k, e))
+    answered : (packet : List ℕ) (r : Option ℕ) (o' : List ℕ) → r ≡ sent_of packet → o' ≡ laid_over packet o → Answered s packet o (Ok r) o'
+    answered packet r o' e w =
+        let z : eqb (refusal s o) 0 ≡ true = eq-eqb (refusal s o) 0 accepted in
+        (ap Ok e ∙ ap (λ (x : Result (Unit {0}) Refusal). written_of x packet) (sym t ∙ is), (simp z w, (sym accepted, simp z (ap (λ (x : Option ℕ). length_of (Ok x)) e ∙ long packet))))
+      where
+        long : (bs : List ℕ) → length_of (Ok (sent_of bs)) ≡ length bs
+        long [] = refl
+        long (b ∷ bs) = refl
+
+    pub nothing : (packet : List ℕ) → packet ≡ [] → Answered s packet o (Ok None) o
+    nothing packet e = answered packet None o (sym (ap sent_of e)) (sym (ap (λ (l : List ℕ). laid_over l o) e))
+
+    pub sent : (packet : List ℕ) (n : ℕ) (o' : List ℕ) → 1 ≤ length packet → n ≡ length packet → o' ≡ laid_over packet o → Answered s packet o (Ok (Some n)) o'
+    sent packet n o' h e w = answered packet (Some n) o' (go packet h e) w
+      where
+        go : (bs : List ℕ) → 1 ≤ length bs → n ≡ length bs → Some n ≡ sent_of bs
+        go [] h e = absurd (omega arith)
+        go (b ∷ bs) h e = ap Some e
 
 -- what stands behind a packet is as it was
 laid_on : (v o o₀ o' : List ℕ) (n : ℕ) → o' ≡ v ++ drop (length v) o → n ≤ length v → drop n o ≡ drop n o₀ → o' ≡ v ++ drop (length v) o₀
@@ -97,11 +120,9 @@ all-low s ok style w (i ∷ is) =
 
 -- the question, if the style asks one
 module _ (style : Style) (name o pl : List ℕ) (ready : AskReady style name o pl) where
-  pub asked-not : style.asks ≡ false → Grown (put_all put_question (held_in o pl 12 0) (asked style name)) o pl (spot_of 12 0) o pl
+  pub asked-not : style.asks ≡ None → Grown (put_all put_question (held_in o pl 12 0) (asked style name)) o pl (spot_of 12 0) o pl
   asked-not t =
-      subst (λ (b : Bool). Grown (put_all put_question (held_in o pl 12 0) (cond b (question_of name style.qtype style.qclass ∷ []) [])) o pl (spot_of 12 0) o
-      pl)
-      (sym t) none
+      subst (λ (b : Option Asked). Grown (put_all put_question (held_in o pl 12 0) (questions_of b name)) o pl (spot_of 12 0) o pl) (sym t) none
     where
       long : length (take 12 o) ≡ 12
       long = length-take-le 12 o (omega (arith, ready.room))
@@ -114,15 +135,15 @@ module _ (style : Style) (name o pl : List ℕ) (ready : AskReady style name o p
         counted = refl;
       }
 
-  module _ (t : style.asks ≡ true) where
+  module _ (one : Asked) (t : style.asks ≡ Some one) where
     size : 12 + (length name + 4) ≤ length o
-    size = let e : asked_size style name ≡ length name + 4 = ap (λ (b : Bool). cond b (length name + 4) 0) t in omega (arith, ready.room)
+    size = let e : asked_size style name ≡ length name + 4 = ap (λ (b : Option Asked). cond (is_some b) (length name + 4) 0) t in omega (arith, ready.room)
 
     labels : labels_in name ≤ length pl
-    labels = let e : asked_labels style name ≡ labels_in name = ap (λ (b : Bool). cond b (labels_in name) 0) t in omega (arith, ready.slots)
+    labels = let e : asked_labels style name ≡ labels_in name = ap (λ (b : Option Asked). cond (is_some b) (labels_in name) 0) t in omega (arith, ready.slots)
 
     few : length name + 4 ≤ 16372
-    few = let e : asked_size style name ≡ length name + 4 = ap (λ (b : Bool). cond b (length name + 4) 0) t in omega (arith, ready.small)
+    few = let e : asked_size style name ≡ length name + 4 = ap (λ (b : Option Asked). cond (is_some b) (length name + 4) 0) t in omega (arith, ready.small)
 
     question-fits : question_fits (room_in o pl 12 0) name ≡ true
     unfolding name_fits
@@ -133,34 +154,33 @@ module _ (style : Style) (name o pl : List ℕ) (ready : AskReady style name o p
         simp (le-leb _ _ a, le-leb _ _ b, le-leb _ _ c)
 
     pub asked-grown : (placed : Result Spot Misfit) (o' pl' : List ℕ)
-        → Placing (is_name name) (question_fits (room_in o pl 12 0) name) (put_question (held_in o pl 12 0) (question_of name style.qtype style.qclass)) o pl
+        → Placing (is_name name) (question_fits (room_in o pl 12 0) name) (put_question (held_in o pl 12 0) (question_of name one.qtype one.qclass)) o pl
         placed o' pl'
         → (r : Spot) → r ≡ spot_after placed 12 0 → Grown (put_all put_question (held_in o pl 12 0) (asked style name)) o pl r o' pl'
     asked-grown placed o' pl' p r e =
-        subst (λ (b : Bool). Grown (put_all put_question (held_in o pl 12 0) (cond b (question_of name style.qtype style.qclass ∷ []) [])) o pl r o' pl')
-        (sym t) (placed-grown _ _ _ o pl placed o' pl' p (ready.named t) question-fits 12 0 r e)
+        subst (λ (b : Option Asked). Grown (put_all put_question (held_in o pl 12 0) (questions_of b name)) o pl r o' pl')
+        (sym t) (placed-grown _ _ _ o pl placed o' pl' p (ready.named (ap is_some t)) question-fits 12 0 r e)
 
 -- the header and the question take so much at most
-pub asked-size : (style : Style) (name : List ℕ) → (style.asks ≡ true → is_name name ≡ true) → (w : Writing)
+pub asked-size : (style : Style) (name : List ℕ) → (is_some style.asks ≡ true → is_name name ≡ true) → (w : Writing)
     → (length w.bytes ≤ length (put_all put_question w (asked style name)).bytes)
     × (length (put_all put_question w (asked style name)).bytes ≤ length w.bytes + asked_size style name)
     × (length (put_all put_question w (asked style name)).places ≤ length w.places + asked_labels style name)
 asked-size style name named w = go style.asks refl
   where
-    q : Question
-    q = question_of name style.qtype style.qclass
-
-    go : (b : Bool) → style.asks ≡ b
-        → (length w.bytes ≤ length (put_all put_question w (cond b (q ∷ []) [])).bytes)
-        × (length (put_all put_question w (cond b (q ∷ []) [])).bytes ≤ length w.bytes + cond b (length name + 4) 0)
-        × (length (put_all put_question w (cond b (q ∷ []) [])).places ≤ length w.places + cond b (labels_in name) 0)
-    go true t = (question-low w q, omega (arith, question-size w q (named t)), question-count w q)
-    go false t = (omega arith, omega arith, omega arith)
+    go : (b : Option Asked) → style.asks ≡ b
+        → (length w.bytes ≤ length (put_all put_question w (questions_of b name)).bytes)
+        × (length (put_all put_question w (questions_of b name)).bytes ≤ length w.bytes + cond (is_some b) (length name + 4) 0)
+        × (length (put_all put_question w (questions_of b name)).places ≤ length w.places + cond (is_some b) (labels_in name) 0)
+    go (Some one) t =
+        let q : Question = question_of name one.qtype one.qclass in
+        (question-low w q, omega (arith, question-size w q (named (ap is_some t))), question-count w q)
+    go None t = (omega arith, omega arith, omega arith)
 
 -- the counts of the header
-count_asked : (b : Bool) (q : Question) → cond b 1 0 ≡ length (cond b (q ∷ []) [])
-count_asked true q = refl
-count_asked false q = refl
+count_asked : (b : Option Asked) (name : List ℕ) → cond (is_some b) 1 0 ≡ length (questions_of b name)
+count_asked (Some one) name = refl
+count_asked None name = refl
 
 count_answers : (b : Bool) (rs : List Record) (n : ℕ) → n ≡ length rs → cond b 0 n ≡ length (cond b [] rs)
 count_answers true rs n e = refl
@@ -193,7 +213,7 @@ module _ (s : Setup) (style : Style) (name : List ℕ) (list : Picked) (o : List
       (length-map os (own_record s style) ∙ length-map (take list.n list.order) record_at
       ∙ length-take-le list.n list.order (omega (arith, sized.0, sized.1)))
 
-  module _ (nq na nn : ℕ) (eq : nq ≡ cond style.asks 1 0) (ea : na ≡ cond style.authority 0 list.n)
+  module _ (nq na nn : ℕ) (eq : nq ≡ cond (is_some style.asks) 1 0) (ea : na ≡ cond style.authority 0 list.n)
       (en : nn ≡ cond style.authority list.n 0) where
     abbrev H : List ℕ
     H = header_bytes style.id style.flags nq na nn 0
@@ -203,13 +223,13 @@ module _ (s : Setup) (style : Style) (name : List ℕ) (list : Picked) (o : List
 
     header_is : w₀ ≡ header (styled_message s style name os)
     header_is =
-        let x : nq ≡ length (asked style name) = eq ∙ count_asked style.asks (question_of name style.qtype style.qclass) in
+        let x : nq ≡ length (asked style name) = eq ∙ count_asked style.asks name in
         let y : na ≡ length (cond style.authority [] rs) = ea ∙ count_answers style.authority rs list.n number in
         let z : nn ≡ length (cond style.authority rs []) = en ∙ count_authorities style.authority rs list.n number in
         λ i. record { bytes = header_bytes style.id style.flags (x i) (y i) (z i) 0; places = [] }
 
     pub counts_small : (nq < 65536) × (na < 65536) × (nn < 65536)
-    counts_small = (go₁ style.asks eq, go₂ style.authority ea, go₃ style.authority en)
+    counts_small = (go₁ (is_some style.asks) eq, go₂ style.authority ea, go₃ style.authority en)
       where
         go₁ : (b : Bool) → nq ≡ cond b 1 0 → nq < 65536
         go₁ true e = omega arith
@@ -298,7 +318,7 @@ module _ (s : Setup) (style : Style) (name : List ℕ) (list : Picked) (o : List
           )
 
 -- the packet is longer than nothing
-pub packet_some : (s : Setup) (ok : Valid s) (style : Style) (name : List ℕ) (os : List Own) → (style.asks ≡ true → is_name name ≡ true) → 1 ≤ length
+pub packet_some : (s : Setup) (ok : Valid s) (style : Style) (name : List ℕ) (os : List Own) → (is_some style.asks ≡ true → is_name name ≡ true) → 1 ≤ length
     (packet_in s style name os)
 unfolding packet_of
 packet_some s ok style name os named =
@@ -307,96 +327,85 @@ packet_some s ok style name os named =
     let e = one-section style.authority style.whole w rs in
     omega (arith, ap (λ (x : Writing). length x.bytes) e, all-low s ok style w os, (asked-size style name named (header (styled_message s style name os))).0)
 
-module _ (s : Setup) (o : List ℕ) where
-  pub refuse_3 : (packet : List ℕ) → length o < 1452 → Answered (refusal s o) packet o (Refused 3) o
-  unfolding refusal
-  refuse_3 packet h = refused (refusal s o) 3 packet o (simp (lt-ltb _ _ h)) (λ q. omega arith)
+module _ (s : Setup) (o : List ℕ) (v : Result (Unit {0}) Refusal) (is : v ≡ refused_by (write_tests s (length o))) (t : v ≡ Ok tt) where
+  h : 1452 ≤ length o
+  h = room s o v is t
 
-  module _ (h : 1452 ≤ length o) (v : Bool) (is : v ≡ valid_setup s) where
-    pub refuse_7 : (packet : List ℕ) → v ≡ false → Answered (refusal s o) packet o (Refused 7) o
-    unfolding refusal
-    refuse_7 packet t = refused (refusal s o) 7 packet o (simp (le-ltb _ _ h, sym is ∙ t)) (λ q. omega arith)
+  ok : Valid s
+  ok = valid s (fine s o v is t)
 
-    module _ (t : v ≡ true) where
-      accepted : refusal s o ≡ 0
-      unfolding refusal
-      accepted = simp (le-ltb _ _ h, sym is ∙ t)
+  -- own records in a style that asks nothing
+  module _ (st : Style) (quiet : AnswerStyle st) (chosen : Set) (list : Picked) (p : Picks (response_records s chosen) list) where
+    abbrev those : List ℕ
+    those = chosen_packet s st chosen
 
-      ok : Valid s
-      ok = valid s (sym is ∙ t)
+    unasked : is_some st.asks ≡ true → is_name [] ≡ true
+    unasked f = let e : ◌≡◌ {A = Bool} false true = sym (ap is_some quiet.unasked) ∙ f in let z : ◌≡◌ {A = ℕ} 0 1 = cc in absurd (omega arith)
 
-      -- own records in a style that asks nothing
-      module _ (st : Style) (silent : st.asks ≡ false) (ttls : TtlSmall st.ttl) (chosen : Set) (list : Picked) (p : Picks (response_records s chosen) list) where
-        abbrev those : List ℕ
-        those = none_if_empty (response_records s chosen) (packet_in s st [] (response_records s chosen))
+    no_question : asked_size st [] ≡ 0
+    no_question = ap (λ (b : Option Asked). cond (is_some b) (length {A = ℕ} [] + 4) 0) quiet.unasked
 
-        unasked : st.asks ≡ true → is_name [] ≡ true
-        unasked f = let e : ◌≡◌ {A = Bool} false true = sym silent ∙ f in let z : ◌≡◌ {A = ℕ} 0 1 = cc in absurd (omega arith)
+    no_labels : asked_labels st [] ≡ 0
+    no_labels = ap (λ (b : Option Asked). cond (is_some b) (labels_in []) 0) quiet.unasked
 
-        no_question : asked_size st [] ≡ 0
-        no_question = ap (λ (b : Bool). cond b (length {A = ℕ} [] + 4) 0) silent
+    pub empty-nothing : list.n ≡ 0 → Answered s those o (Ok None) o
+    empty-nothing z =
+        let e : response_records s chosen ≡ [] = sym p.those ∙ ap (λ (k : ℕ). map record_at (take k list.order)) z in
+        nothing s o v is t those (ap (λ (l : List Own). none_if_empty l (packet_in s st [] (response_records s chosen))) e)
 
-        no_labels : asked_labels st [] ≡ 0
-        no_labels = ap (λ (b : Bool). cond b (labels_in []) 0) silent
+    pub response_ready : PacketReady s st [] (listed list) o
+    response_ready = rw p.those (record {
+      ok = fine s o v is t;
+      named = unasked;
+      counts = quiet.counts;
+      room = omega (arith, h, no_question, response_size s ok chosen);
+      small = omega (arith, h, no_question, response_size s ok chosen);
+      slots = omega (arith, h, no_labels, response_labels s ok chosen);
+    })
 
-        pub empty-nothing : list.n ≡ 0 → Answered (refusal s o) those o Nothing o
-        empty-nothing z =
-            let e : response_records s chosen ≡ [] = sym p.those ∙ ap (λ (k : ℕ). map record_at (take k list.order)) z in
-            nothing (refusal s o) those o accepted (ap (λ (l : List Own). none_if_empty l (packet_in s st [] (response_records s chosen))) e)
+    pub response_sent : (list.n ≡ 0 → ⊥) → (n : ℕ) (o₁ : List ℕ) → n ≡ length (packet_in s st [] (listed list))
+        → o₁ ≡ laid_over (packet_in s st [] (listed list)) o → Answered s those o (Ok (Some n)) o₁
+    response_sent nz n o₁ en w =
+        sent s o v is t those n o₁ (omega (arith, ap length packet, packet_some s ok st [] (response_records s chosen) unasked))
+        (en ∙ ap length (as_listed ∙ sym packet)) (w ∙ ap (λ (l : List ℕ). laid_over l o) (as_listed ∙ sym packet))
+      where
+        as_listed : packet_in s st [] (listed list) ≡ packet_in s st [] (response_records s chosen)
+        as_listed = ap (packet_in s st []) p.those
 
-        pub response_ready : (style : Style) → style ≡ st → PacketReady s style [] (listed list) o
-        response_ready style e = rw (e, p.those) (record {
-          ok = sym is ∙ t;
-          named = unasked;
-          counts = ttls;
-          room = omega (arith, no_question, response_size s ok chosen);
-          small = omega (arith, no_question, response_size s ok chosen);
-          slots = omega (arith, no_labels, response_labels s ok chosen);
-        })
+        some : (l : List Own) → (length l ≡ 0 → ⊥) → (b : List ℕ) → none_if_empty l b ≡ b
+        some [] z b = absurd (z refl)
+        some (x ∷ xs) z b = refl
 
-        pub response_sent : (list.n ≡ 0 → ⊥) → (style : Style) → style ≡ st → (n : ℕ) (o₁ : List ℕ) → n ≡ length (packet_in s style [] (listed list))
-            → o₁ ≡ laid_over (packet_in s style [] (listed list)) o → Answered (refusal s o) those o (Sent n) o₁
-        response_sent nz style e n o₁ en w =
-            sent (refusal s o) those o n o₁ accepted (omega (arith, ap length packet, packet_some s ok st [] (response_records s chosen) unasked))
-            (en ∙ ap length (as_listed ∙ sym packet)) (w ∙ ap (λ (l : List ℕ). laid_over l o) (as_listed ∙ sym packet))
-          where
-            as_listed : packet_in s style [] (listed list) ≡ packet_in s st [] (response_records s chosen)
-            as_listed = ap₂ (λ (x : Style) (l : List Own). packet_in s x [] l) e p.those
+        many : length (response_records s chosen) ≡ list.n
+        many =
+            ap length (sym p.those) ∙ length-map (take list.n list.order) record_at
+            ∙ length-take-le list.n list.order (omega (arith, p.few, p.sized))
 
-            some : (l : List Own) → (length l ≡ 0 → ⊥) → (b : List ℕ) → none_if_empty l b ≡ b
-            some [] z b = absurd (z refl)
-            some (x ∷ xs) z b = refl
+        packet : those ≡ packet_in s st [] (response_records s chosen)
+        packet = some (response_records s chosen) (λ z. nz (sym many ∙ z)) _
 
-            many : length (response_records s chosen) ≡ list.n
-            many =
-                ap length (sym p.those) ∙ length-map (take list.n list.order) record_at
-                ∙ length-take-le list.n list.order (omega (arith, p.few, p.sized))
+  module _ (claim : Claim) (list : Picked) (p : Picks (probe_records s claim) list) (k : Own) (ek : k ≡ first_of claim) (n : OwnBytes)
+      (en : n ≡ own_of (own_name s k)) where
+    name-is : take n.len n.bytes ≡ own_name s (first_of claim)
+    name-is = own_front (own_name s k) n en ∙ ap (own_name s) ek
 
-            packet : those ≡ packet_in s st [] (response_records s chosen)
-            packet = some (response_records s chosen) (λ z. nz (sym many ∙ z)) _
+    pub probe-ready : (style : Style) → style ≡ probe_style → PacketReady s style (take n.len n.bytes) (listed list) o
+    probe-ready style e = rw (e, name-is, p.those) (record {
+      ok = fine s o v is t;
+      named = λ f. own_is_name s ok (first_of claim);
+      counts = each;
+      room = omega (arith, h, claim_size_lem s ok claim, probe-size s ok claim);
+      small = omega (arith, h, claim_size_lem s ok claim, probe-size s ok claim);
+      slots = omega (arith, claim_labels s ok claim, probe-labels s ok claim);
+    })
 
-      module _ (claim : Claim) (list : Picked) (p : Picks (probe_records s claim) list) (k : Own) (ek : k ≡ first_of claim) (n : OwnBytes)
-          (en : n ≡ own_of (own_name s k)) where
-        name-is : take n.len n.bytes ≡ own_name s (first_of claim)
-        name-is = own_front (own_name s k) n en ∙ ap (own_name s) ek
-
-        pub probe-ready : (style : Style) → style ≡ probe_style → PacketReady s style (take n.len n.bytes) (listed list) o
-        probe-ready style e = rw (e, name-is, p.those) (record {
-          ok = sym is ∙ t;
-          named = λ f. own_is_name s ok (first_of claim);
-          counts = each;
-          room = omega (arith, claim_size_lem s ok claim, probe-size s ok claim);
-          small = omega (arith, claim_size_lem s ok claim, probe-size s ok claim);
-          slots = omega (arith, claim_labels s ok claim, probe-labels s ok claim);
-        })
-
-        pub probe-sent : (style : Style) → style ≡ probe_style → (m : ℕ) (o₁ : List ℕ) → m ≡ length (packet_in s style (take n.len n.bytes) (listed list))
-            → o₁ ≡ laid_over (packet_in s style (take n.len n.bytes) (listed list)) o → Answered (refusal s o) (probe_packet s claim) o (Sent m) o₁
-        unfolding probe_packet
-        probe-sent style e m o₁ em w =
-            sent (refusal s o) (probe_packet s claim) o m o₁ accepted
-            (packet_some s ok probe_style (own_name s (first_of claim)) (probe_records s claim) (λ f. own_is_name s ok (first_of claim))) (em ∙ ap length packet)
-            (w ∙ ap (λ (l : List ℕ). laid_over l o) packet)
-          where
-            packet : packet_in s style (take n.len n.bytes) (listed list) ≡ packet_in s probe_style (own_name s (first_of claim)) (probe_records s claim)
-            packet = λ i. packet_in s (e i) (name-is i) (p.those i)
+    pub probe-sent : (style : Style) → style ≡ probe_style → (m : ℕ) (o₁ : List ℕ) → m ≡ length (packet_in s style (take n.len n.bytes) (listed list))
+        → o₁ ≡ laid_over (packet_in s style (take n.len n.bytes) (listed list)) o → Answered s (probe_packet s claim) o (Ok (Some m)) o₁
+    unfolding probe_packet
+    probe-sent style e m o₁ em w =
+        sent s o v is t (probe_packet s claim) m o₁
+        (packet_some s ok probe_style (own_name s (first_of claim)) (probe_records s claim) (λ f. own_is_name s ok (first_of claim))) (em ∙ ap length packet)
+        (w ∙ ap (λ (l : List ℕ). laid_over l o) packet)
+      where
+        packet : packet_in s style (take n.len n.bytes) (listed list) ≡ packet_in s probe_style (own_name s (first_of claim)) (probe_records s claim)
+        packet = λ i. packet_in s (e i) (name-is i) (p.those i)

@@ -1,10 +1,12 @@
 -- A reply to a plain resolver. Assumes nothing.
+use Rattle.std.specs.Prelude.{Some, None, Result, Ok}
+use Rattle.wire.specs.declared.refusals.Refusal.{Refusal}
+use Rattle.wire.specs.refusals.Numbers.{refused_by}
 use mathlib.Core.Path.{◌≡◌, refl, sym, ap, ap₂, ◌∙◌}
 use mathlib.Core.List.{List, [], ◌∷◌, map}
 use mathlib.Core.Bool.{Bool, true, false}
 use Prim.Native.Nat.{ℕ, ◌≤◌}
 use native.Mathlib.Omega.{arith}
-use borrow.Author.Tests.{le-ltb}
 use lib.ListN.{length, take, length-map}
 use lib.Seq.{length-take-le}
 use Rattle.wire.specs.names.Names.{is_name}
@@ -16,32 +18,29 @@ use Rattle.claims.specs.records.Sets.{with_data}
 use Rattle.claims.specs.declared.records.Own.{Own}
 use Rattle.claims.specs.declared.records.Set.{Set}
 use Rattle.own.specs.declared.records.Setup.{Setup}
-use Rattle.own.specs.records.Setups.{valid_setup}
 use Rattle.own.proofs.records.Valid.{Valid, valid}
 use Rattle.writer.specs.declared.own_packets.Picked.{Picked}
 use Rattle.writer.specs.declared.own_packets.Style.{Style}
-use Rattle.writer.specs.declared.own_packets.Written.TheVariants.{Sent, Nothing}
 use Rattle.writer.specs.own_packets.Styles.{plain_style, packet_in}
-use Rattle.writer.specs.own_packets.Own.{response_records, plain_records, none_if_empty, plain_packet, refusal, laid_over}
+use Rattle.writer.specs.own_packets.Own.{response_records, plain_records, none_if_empty, plain_packet, write_tests, laid_over}
 use Rattle.writer.specs.own_packets.Ready.{listed, fixed, Picks, PacketReady}
 use Rattle.writer.proofs.own_packets.Room.{plain_size, plain-labels}
-use Rattle.writer.proofs.own_packets.Answering.{Answered, nothing, sent, packet_some}
+use Rattle.writer.proofs.own_packets.Answering.{Answered, room, fine, nothing, sent, packet_some}
 
 pub name-most : (name : List ℕ) → is_name name ≡ true → length name ≤ 255
 name-most name h = let m = made_of name h in omega (arith, m.1.short, ap length m.2)
 
-module _ (s : Setup) (o : List ℕ) (room : 1452 ≤ length o) (v : Bool) (is : v ≡ valid_setup s) (t : v ≡ true) (chosen : Set) (id : ℕ) (q : Question) where
-  accepted : refusal s o ≡ 0
-  unfolding refusal
-  accepted = simp (le-ltb _ _ room, sym is ∙ t)
+module _ (s : Setup) (o : List ℕ) (v : Result (Unit {0}) Refusal) (is : v ≡ refused_by (write_tests s (length o))) (t : v ≡ Ok tt) (chosen : Set) (id : ℕ) (q : Question) where
+  room_is : 1452 ≤ length o
+  room_is = room s o v is t
 
   ok : Valid s
-  ok = valid s (sym is ∙ t)
+  ok = valid s (fine s o v is t)
 
   module _ (b : Bool) (named : b ≡ is_name q.name) where
-    pub unnamed : b ≡ false → Answered (refusal s o) (plain_packet s chosen id q) o Nothing o
+    pub unnamed : b ≡ false → Answered s (plain_packet s chosen id q) o (Ok None) o
     unfolding plain_packet
-    unnamed not = nothing (refusal s o) (plain_packet s chosen id q) o accepted (simp (sym named ∙ not))
+    unnamed not = nothing s o v is t (plain_packet s chosen id q) (simp (sym named ∙ not))
 
     module _ (is_true : b ≡ true) (carrying : Set) (ed : carrying ≡ with_data chosen) (list : Picked)
         (p : Picks (response_records s carrying) list) where
@@ -52,30 +51,30 @@ module _ (s : Setup) (o : List ℕ) (room : 1452 ≤ length o) (v : Bool) (is : 
       is-named : is_name q.name ≡ true
       is-named = sym named ∙ is_true
 
-      pub empty : list.n ≡ 0 → Answered (refusal s o) (plain_packet s chosen id q) o Nothing o
+      pub empty : list.n ≡ 0 → Answered s (plain_packet s chosen id q) o (Ok None) o
       unfolding plain_packet
       empty z =
           let e : plain_records s chosen ≡ [] = sym those ∙ ap (λ (k : ℕ). map record_at (take k list.order)) z in
-          nothing (refusal s o) (plain_packet s chosen id q) o accepted (simp (is-named, e))
+          nothing s o v is t (plain_packet s chosen id q) (simp (is-named, e))
 
       pub plain_ready : (style : Style) → style ≡ plain_style id q.rtype q.class → PacketReady s style q.name (listed list) o
       plain_ready style e =
           let long = name-most q.name is-named in
           rw (e, those) (record {
-            ok = sym is ∙ t;
+            ok = fine s o v is t;
             named = λ f. is-named;
             counts = fixed {ttl = 10} (omega arith);
-            room = omega (arith, plain_size s ok chosen, long);
-            small = omega (arith, plain_size s ok chosen, long);
+            room = omega (arith, room_is, plain_size s ok chosen, long);
+            small = omega (arith, room_is, plain_size s ok chosen, long);
             slots = omega (arith, plain-labels s ok chosen, at_most-127 q.name is-named);
           })
 
       pub plain-sent : (list.n ≡ 0 → ⊥) → (style : Style) → style ≡ plain_style id q.rtype q.class → (n : ℕ) (o₁ : List ℕ)
           → n ≡ length (packet_in s style q.name (listed list)) → o₁ ≡ laid_over (packet_in s style q.name (listed list)) o
-          → Answered (refusal s o) (plain_packet s chosen id q) o (Sent n) o₁
+          → Answered s (plain_packet s chosen id q) o (Ok (Some n)) o₁
       unfolding plain_packet
       plain-sent nz style e n o₁ en w =
-          sent (refusal s o) (plain_packet s chosen id q) o n o₁ accepted
+          sent s o v is t (plain_packet s chosen id q) n o₁
           (omega (arith, ap length packet, packet_some s ok written q.name (plain_records s chosen) (λ f. is-named)))
           (en ∙ ap length (as_listed ∙ sym packet)) (w ∙ ap (λ (l : List ℕ). laid_over l o) (as_listed ∙ sym packet))
         where

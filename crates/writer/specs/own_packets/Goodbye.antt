@@ -1,6 +1,6 @@
 -- A goodbye (specification, 'Stops and updates'; RFC 6762, section 10.1): "one packet with the held claims' records, own classes, TTL 0, in 01's order; nothing
 -- where no claim is held". Assumes nothing: these are definitions.
-use Rattle.std.specs.Prelude.{ℕ, List, [], true, false, Some}
+use Rattle.std.specs.Prelude.{ℕ, List, [], true, false, Some, None}
 use Rattle.claims.specs.declared.records.Set.{Set}
 use Rattle.wire.specs.message.Message.{Message}
 use Rattle.own.specs.declared.records.Setup.{Setup}
@@ -13,9 +13,7 @@ abbrev pub goodbye_style : Style
 goodbye_style = record {
   id = 0;
   flags = 0x8400;
-  asks = false;
-  qtype = 0;
-  qclass = 0;
+  asks = None;
   authority = false;
   ttl = Some 0;
   flush = true;

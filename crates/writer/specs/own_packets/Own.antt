@@ -1,20 +1,20 @@
 -- The packets of own records (specification, 'Writing a packet'): a response of any of them, a claim's probe, and a reply to a plain resolver. Assumes nothing: these are definitions.
-use Rattle.std.specs.Prelude.{ℕ, List, [], ◌∷◌, ◌++◌, Bool, cond, not, ◌&&◌, length, drop, ltb, eqb}
+use Rattle.std.specs.Prelude.{ℕ, List, [], ◌∷◌, ◌++◌, Bool, cond, not, ◌&&◌, length, drop, ltb, eqb, Option, Some, None, Result, Ok, Err}
 use Rattle.claims.specs.records.Own.{all, first_of, claimed, has}
 use Rattle.claims.specs.records.Sets.{picked, with_data}
 use Rattle.claims.specs.declared.records.Claim.{Claim}
 use Rattle.claims.specs.declared.records.Own.{Own}
 use Rattle.claims.specs.declared.records.Set.{Set}
-use Rattle.wire.specs.refusals.Numbers.{first_refusal}
+use Rattle.wire.specs.refusals.Numbers.{number_in, refused_by, first_refusal}
+use Rattle.wire.specs.declared.refusals.Refusal.{Refusal}
 use Rattle.wire.specs.declared.refusals.Refusal.TheVariants as cause
 use Rattle.wire.specs.names.Names.{is_name}
 use Rattle.wire.specs.message.Message.{Question, Message}
 use Rattle.own.specs.declared.records.Setup.{Setup}
 use Rattle.own.specs.records.Setups.{valid_setup}
 use Rattle.own.specs.records.Records.{has_record, own_name}
+use Rattle.writer.specs.declared.own_packets.Style.{Style}
 use Rattle.writer.specs.own_packets.Styles.{response_style, probe_style, plain_style, styled_message, packet_in}
-use Rattle.writer.specs.declared.own_packets.Written.{Written}
-use Rattle.writer.specs.declared.own_packets.Written.TheVariants.{Sent, Nothing, Refused}
 
 -- "Records in responses go in the order PTR, SRV, TXT, A, AAAA": those that are chosen and that the set-up has
 unfoldable pub response_records : Setup → Set → List Own
@@ -43,8 +43,12 @@ abbrev pub none_if_empty : List Own → List ℕ → List ℕ
 none_if_empty [] packet = []
 none_if_empty (o ∷ os) packet = packet
 
+-- in any style
+abbrev pub chosen_packet : Setup → Style → Set → List ℕ
+chosen_packet s style chosen = none_if_empty (response_records s chosen) (packet_in s style [] (response_records s chosen))
+
 unfoldable pub response_packet : Setup → ℕ → Set → List ℕ
-response_packet s id chosen = none_if_empty (response_records s chosen) (packet_in s (response_style id) [] (response_records s chosen))
+response_packet s id chosen = chosen_packet s (response_style id) chosen
 
 unfoldable pub probe_packet : Setup → Claim → List ℕ
 probe_packet s claim = packet_in s probe_style (own_name s (first_of claim)) (probe_records s claim)
@@ -61,32 +65,38 @@ abbrev pub small_buffer : ℕ → Bool
 small_buffer room = ltb room 1452
 
 -- 3, then 7: "names or data, in a setup .. break the rules"
+abbrev pub write_tests : Setup → ℕ → List (Refusal × Bool)
+write_tests s room = (cause.Buffer, small_buffer room) ∷ ((cause.Setup, not (valid_setup s)) ∷ [])
+
 unfoldable pub refusal : Setup → List ℕ → ℕ
-refusal s out = first_refusal ((cause.Buffer, small_buffer (length out)) ∷ ((cause.Setup, not (valid_setup s)) ∷ []))
+refusal s out = first_refusal (write_tests s (length out))
 
 -- what is written: nothing where it is refused
 abbrev pub unless_refused : ℕ → List ℕ → List ℕ
 unless_refused refusal packet = cond (eqb refusal 0) packet []
 
--- the answer: the number of the refusal, or the packet's length
-abbrev pub sent_of : List ℕ → Written
-sent_of [] = Nothing
-sent_of (b ∷ bs) = Sent (length (b ∷ bs))
+-- the answer: the refusal, or the packet's length, if one is sent
+abbrev pub sent_of : List ℕ → Option ℕ
+sent_of [] = None
+sent_of (b ∷ bs) = Some (length (b ∷ bs))
 
-abbrev pub written_of : ℕ → List ℕ → Written
-written_of refusal packet = cond (eqb refusal 0) (sent_of packet) (Refused refusal)
+abbrev pub written_of : Result (Unit {0}) Refusal → List ℕ → Result (Option ℕ) Refusal
+written_of (Ok u) packet = Ok (sent_of packet)
+written_of (Err refusal) packet = Err refusal
+
+-- of a call that writes into a buffer
+abbrev pub answer_to : Setup → List ℕ → List ℕ → Result (Option ℕ) Refusal
+answer_to s out packet = written_of (refused_by (write_tests s (length out))) packet
 
 -- "Out bytes beyond a written packet are also kept."
 abbrev pub laid_over : List ℕ → List ℕ → List ℕ
 laid_over packet out = packet ++ drop (length packet) out
 
 -- The specification's values for each answer: the number of the refusal, 0 for none, and the length of what was written
-abbrev pub refusal_of : Written → ℕ
-refusal_of (Sent n) = 0
-refusal_of Nothing = 0
-refusal_of (Refused n) = n
+abbrev pub refusal_of : Result (Option ℕ) Refusal → ℕ
+refusal_of answer = number_in answer
 
-abbrev pub length_of : Written → ℕ
-length_of (Sent n) = n
-length_of Nothing = 0
-length_of (Refused n) = 0
+abbrev pub length_of : Result (Option ℕ) Refusal → ℕ
+length_of (Ok (Some n)) = n
+length_of (Ok None) = 0
+length_of (Err refusal) = 0

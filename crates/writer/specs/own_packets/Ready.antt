@@ -1,5 +1,5 @@
 -- What the private functions that write own records ask for and leave: room for each record with its names whole.
-use Rattle.std.specs.Prelude.{ℕ, ◌+◌, ◌≤◌, ◌<◌, ◌≡◌, List, [], ◌∷◌, map, true, cond, length, take, Result, Ok, Err, Option, Some, None}
+use Rattle.std.specs.Prelude.{ℕ, ◌+◌, ◌≤◌, ◌<◌, ◌≡◌, List, [], ◌∷◌, map, true, cond, length, take, Result, Ok, Err, Option, Some, None, is_some}
 use Rattle.wire.specs.names.Names.{is_name}
 use Rattle.wire.specs.labels.Counted.{labels_in}
 use Rattle.claims.specs.records.Own.{records, record_at, own_type}
@@ -49,6 +49,11 @@ pub data TtlSmall : Option ℕ → Type 0 where
   each : TtlSmall None
   fixed : {ttl : ℕ} → ttl < 2147483648 → TtlSmall (Some ttl)
 
+-- a style in which records are sent with no question
+pub record AnswerStyle (style : Style) : Type 0 where
+  pub unasked : style.asks ≡ None
+  pub counts : TtlSmall style.ttl
+
 pub record OwnReady (s : Setup) (style : Style) (o : Own) (at count : ℕ) (out places : List ℕ) : Type 0 where
   pub ok : valid_setup s ≡ true
   pub counts : TtlSmall style.ttl
@@ -65,13 +70,13 @@ pub record ListReady (s : Setup) (style : Style) (os : List Own) (at count : ℕ
 
 -- what the question takes, if there is one
 abbrev pub asked_size : Style → List ℕ → ℕ
-asked_size style name = cond style.asks (length name + 4) 0
+asked_size style name = cond (is_some style.asks) (length name + 4) 0
 
 abbrev pub asked_labels : Style → List ℕ → ℕ
-asked_labels style name = cond style.asks (labels_in name) 0
+asked_labels style name = cond (is_some style.asks) (labels_in name) 0
 
 pub record AskReady (style : Style) (name out places : List ℕ) : Type 0 where
-  pub named : style.asks ≡ true → is_name name ≡ true
+  pub named : is_some style.asks ≡ true → is_name name ≡ true
   pub room : 12 + asked_size style name ≤ length out
   pub small : asked_size style name ≤ 16372
   pub slots : asked_labels style name ≤ length places
@@ -82,7 +87,7 @@ most_places = 148
 
 pub record PacketReady (s : Setup) (style : Style) (name : List ℕ) (os : List Own) (out : List ℕ) : Type 0 where
   pub ok : valid_setup s ≡ true
-  pub named : style.asks ≡ true → is_name name ≡ true
+  pub named : is_some style.asks ≡ true → is_name name ≡ true
   pub counts : TtlSmall style.ttl
   pub room : 12 + asked_size style name + sizes s os ≤ length out
   pub small : asked_size style name + sizes s os ≤ 16372

@@ -8,6 +8,7 @@ use Rattle.own.specs.declared.records.Setup.{Setup}
 use Rattle.own.specs.records.Records.{own_name, own_rdata}
 use Rattle.writer.specs.Writer.{question_of}
 use Rattle.writer.specs.own_packets.Packets.{packet_of}
+use Rattle.writer.specs.declared.own_packets.Asked.{Asked}
 use Rattle.writer.specs.declared.own_packets.Style.{Style}
 
 -- "Responses have flags 0x8400"; the ID is 0 to all, and "Unicast answers carry the query's ID"
@@ -15,9 +16,7 @@ abbrev pub response_style : ℕ → Style
 response_style id = record {
   id = id;
   flags = 0x8400;
-  asks = false;
-  qtype = 0;
-  qclass = 0;
+  asks = None;
   authority = false;
   ttl = None;
   flush = true;
@@ -30,9 +29,7 @@ abbrev pub probe_style : Style
 probe_style = record {
   id = 0;
   flags = 0;
-  asks = true;
-  qtype = 255;
-  qclass = 0x8001;
+  asks = Some (record { qtype = 255; qclass = 0x8001 });
   authority = true;
   ttl = None;
   flush = false;
@@ -44,9 +41,7 @@ abbrev pub plain_style : ℕ → ℕ → ℕ → Style
 plain_style id qtype qclass = record {
   id = id;
   flags = 0x8400;
-  asks = true;
-  qtype = qtype;
-  qclass = qclass;
+  asks = Some (record { qtype = qtype; qclass = qclass });
   authority = false;
   ttl = Some 10;
   flush = false;
@@ -67,8 +62,12 @@ unfoldable pub own_record : Setup → Style → Own → Record
 own_record s style o = record { owner = own_name s o; rtype = own_type o; class = class_in style o; ttl = ttl_in style.ttl o; rdata = own_rdata s o }
 
 -- the question for a name, where the style asks one
+abbrev pub questions_of : Option Asked → List ℕ → List Question
+questions_of None name = []
+questions_of (Some a) name = question_of name a.qtype a.qclass ∷ []
+
 abbrev pub asked : Style → List ℕ → List Question
-asked style name = cond style.asks (question_of name style.qtype style.qclass ∷ []) []
+asked style name = questions_of style.asks name
 
 -- the message of own records in a style, and its packet
 abbrev pub styled_message : Setup → Style → List ℕ → List Own → Message
