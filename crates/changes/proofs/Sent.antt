@@ -9,6 +9,7 @@ use lib.ListN.{length}
 use lib.Dec.{eqb, leb}
 use borrow.Author.Tests.{eqb-true, leb-true}
 use mathlib.Mathlib.Data.Bool.Basic.{and-eq-true-eq-eq-true-and-eq-true as both}
+use Rattle.std.specs.Prelude.{is_some}
 use Rattle.wire.specs.names.Names.{is_name}
 use Rattle.wire.specs.rdata.Rdata.{strings_fill}
 use Rattle.wire.specs.message.Message.{Record, Message}
@@ -63,7 +64,7 @@ module _ (s : Setup) (ok : valid_setup s ≡ true) where
   own_records style (o ∷ os) = one (record { own = o; owner = refl; rtype = refl; rdata = refl }) (own_records style os)
 
   module _ (style : Style) (ttls : TtlSmall style.ttl) (plain : plain_header style.flags ≡ true) (name : List ℕ)
-      (named : style.asks ≡ true → is_name name ≡ true) where
+      (named : is_some style.asks ≡ true → is_name name ≡ true) where
     in_sections : (os : List Own) → Each (OwnIn s) (records_in (styled_message s style name os))
     in_sections os = go style.authority
       where

@@ -16,16 +16,16 @@ use Rattle.wire.specs.message.Message.{Question, Message}
 use Rattle.wire.specs.message.Layout.{Item, Listing, listing, cut, list_from, question_read, question_at, record_at, Reads, read, refused, and_then, sections_of, wrong_length, wrong_header, message_at}
 use Rattle.wire.specs.message.Readable.{message_in}
 use Rattle.wire.specs.declared.message.QuestionAt.{QuestionAt}
-use Rattle.std.specs.Prelude.{Option, Some, None}
+use Rattle.std.specs.Prelude.{Option, Some, None, Result}
 use Rattle.wire.specs.declared.refusals.Refusal.TheVariants.{Length, Header}
 use Rattle.wire.specs.declared.message.Layout.{Layout}
 use Rattle.wire.proofs.message.Cursor.{Step, step, done, QuestionHere, question-here, question-never_malformed, question-met, Sections, sections}
 use Rattle.wire.proofs.message.Walk.{layout_shows}
 use Rattle.own.specs.declared.records.Setup.{Setup}
 use Rattle.claims.specs.declared.records.Set.{Set}
-use Rattle.writer.specs.own_packets.Own.{plain_packet, length_of, refusal, unless_refused, written_of, laid_over}
+use Rattle.writer.specs.own_packets.Own.{plain_packet, length_of, refusal, unless_refused, answer_to, laid_over}
 use Rattle.writer.specs.Writer.{question_of}
-use Rattle.writer.specs.declared.own_packets.Written.{Written}
+use Rattle.wire.specs.declared.refusals.Refusal.{Refusal}
 use Rattle.responder.specs.Calls.{plain_for}
 use Rattle.responder.proofs.Sending.{Wrote, wrote}
 
@@ -164,8 +164,8 @@ module _ (setup : Setup) (set : Set) where
 
         pub replied :
             refusal setup out ≡ 0
-            → (w : Written) (o : List ℕ) (r : ℕ)
-            → (w ≡ written_of (refusal setup out) (plain_packet setup set l.id (question_of bs f.rtype f.class)))
+            → (w : Result (Option ℕ) Refusal) (o : List ℕ) (r : ℕ)
+            → (w ≡ answer_to setup out (plain_packet setup set l.id (question_of bs f.rtype f.class)))
             × (o ≡ laid_over (unless_refused (refusal setup out) (plain_packet setup set l.id (question_of bs f.rtype f.class))) out)
             → r ≡ length_of w
             → Replies r o

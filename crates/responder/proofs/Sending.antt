@@ -1,6 +1,10 @@
 -- What is written for an output, where nothing is refused. Assumes nothing.
 use Prim.Native.Nat.{ℕ}
-use mathlib.Core.Path.{◌≡◌, refl}
+use mathlib.Core.Path.{◌≡◌, refl, ap, ◌∙◌}
+use Rattle.std.specs.Prelude.{Option, Result, Ok}
+use Rattle.wire.specs.refusals.Numbers.{refused_by}
+use Rattle.wire.specs.declared.refusals.Refusal.{Refusal}
+use Rattle.wire.proofs.refusals.Tests.{none_by}
 use mathlib.Core.List.{List, [], ◌∷◌}
 use lib.ListN.{length}
 use Rattle.own.specs.declared.records.Setup.{Setup}
@@ -8,26 +12,30 @@ use Rattle.claims.specs.declared.records.Claim.{Claim}
 use Rattle.claims.specs.declared.records.Set.{Set}
 use Rattle.claims.specs.declared.steps.Output.{Output}
 use Rattle.claims.specs.declared.steps.Output.TheVariants.{Nothing, Probe, Response}
-use Rattle.writer.specs.own_packets.Own.{response_packet, probe_packet, length_of, refusal, unless_refused, sent_of, written_of, laid_over}
-use Rattle.writer.specs.declared.own_packets.Written.{Written}
+use Rattle.writer.specs.own_packets.Own.{response_packet, probe_packet, length_of, refusal, write_tests, unless_refused, sent_of, written_of, answer_to, laid_over}
 use Rattle.responder.specs.Calls.{packet_for}
 
-length-sent : (packet : List ℕ) → length_of (sent_of packet) ≡ length packet
+length-sent : (packet : List ℕ) → length_of (Ok (sent_of packet)) ≡ length packet
 length-sent [] = refl
 length-sent (b ∷ bs) = refl
+
+-- a call that is not refused has passed its tests
+passes : (setup : Setup) (out : List ℕ) → refusal setup out ≡ 0 → refused_by (write_tests setup (length out)) ≡ Ok tt
+unfolding refusal
+passes setup out fine = none_by (write_tests setup (length out)) fine
 
 -- the length and the buffer of a packet that is sent
 abbrev pub Wrote : List ℕ → List ℕ → ℕ → List ℕ → Type 0
 Wrote packet out n o = (n ≡ length packet) × (o ≡ laid_over packet out)
 
 pub wrote :
-    (setup : Setup) (out packet : List ℕ) (w : Written) (o : List ℕ) (n : ℕ)
+    (setup : Setup) (out packet : List ℕ) (w : Result (Option ℕ) Refusal) (o : List ℕ) (n : ℕ)
     → refusal setup out ≡ 0
-    → (w ≡ written_of (refusal setup out) packet) × (o ≡ laid_over (unless_refused (refusal setup out) packet) out)
+    → (w ≡ answer_to setup out packet) × (o ≡ laid_over (unless_refused (refusal setup out) packet) out)
     → n ≡ length_of w
     → Wrote packet out n o
 wrote setup out packet w o n fine h r =
-    let sent : w ≡ sent_of packet = rw fine at h.0 in
+    let sent : w ≡ Ok (sent_of packet) = h.0 ∙ ap (λ (v : Result (Unit {0}) Refusal). written_of v packet) (passes setup out fine) in
     let laid : o ≡ laid_over packet out = rw fine at h.1 in
     (rw (r, sent) (length-sent packet), laid)
 
@@ -49,10 +57,10 @@ module _ (setup : Setup) (output : Output) where
   sends-nothing out e = (simp e, simp e)
 
   pub sends :
-      (out packet : List ℕ) (w : Written) (o : List ℕ) (n : ℕ)
+      (out packet : List ℕ) (w : Result (Option ℕ) Refusal) (o : List ℕ) (n : ℕ)
       → refusal setup out ≡ 0
       → packet_for setup output ≡ packet
-      → (w ≡ written_of (refusal setup out) packet) × (o ≡ laid_over (unless_refused (refusal setup out) packet) out)
+      → (w ≡ answer_to setup out packet) × (o ≡ laid_over (unless_refused (refusal setup out) packet) out)
       → n ≡ length_of w
       → Sends out n o
   sends out packet w o n fine e h r = rw e (wrote setup out packet w o n fine h r)

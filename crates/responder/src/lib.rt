@@ -27,7 +27,7 @@ use wire::message::{Layout, MDNS_PORT, question_at, read_from};
 use wire::names::expand;
 use wire::rdata::part;
 use wire::refusals::Refusal;
-use writer::own_packets::{self, LEAST_OUT, Written};
+use writer::own_packets::{self, LEAST_OUT};
 
 // A responder: what it was set up with, and all that changes in it.
 #[derive(Clone, Copy)]
@@ -166,12 +166,12 @@ fn answer_with(sent: usize, replied: usize) -> Answer
 }
 
 // The length of what was written.
-fn length_of(w: Written) -> usize
-    ensures { result ≡ length_of w }
+fn length_of(written: Result<Option<usize>, Refusal>) -> usize
+    ensures { result ≡ length_of written }
 {
-    match w {
-        Written::Sent(n) => n,
-        Written::Nothing | Written::Refused(_) => 0,
+    match written {
+        Ok(Some(n)) => n,
+        Ok(None) | Err(_) => 0,
     }
 }
 

@@ -5,6 +5,9 @@ use mathlib.Core.List.{List, [], ◌∷◌, append-nil, map}
 use mathlib.Core.Bool.{Bool, true, false, cond}
 use native.Mathlib.Omega.{arith}
 use lib.ListN.{length}
+use Rattle.std.specs.Prelude.{is_some}
+use Rattle.std.specs.Prelude.{Option, Some, None}
+use Rattle.writer.specs.declared.own_packets.Asked.{Asked}
 use Rattle.wire.specs.names.Names.{is_name}
 use Rattle.wire.specs.message.Message.{Question, Record}
 use Rattle.wire.specs.message.Layout.{plain_header, message_at}
@@ -19,7 +22,7 @@ use Rattle.own.proofs.records.Valid.{Valid, valid, own_is_name}
 use Rattle.writer.specs.Items.{Writing, put_record, put_question}
 use Rattle.writer.specs.declared.own_packets.Style.{Style}
 use Rattle.writer.specs.own_packets.Packets.{header, put_all, packet_of}
-use Rattle.writer.specs.own_packets.Styles.{response_style, probe_style, plain_style, asked, own_record, styled_message, packet_in}
+use Rattle.writer.specs.own_packets.Styles.{response_style, probe_style, plain_style, questions_of, asked, own_record, styled_message, packet_in}
 use Rattle.writer.specs.own_packets.Own.{response_records, probe_records, response_of, probe_of, none_if_empty, response_packet, probe_packet, plain_records, plain_reply_of, plain_packet}
 use Rattle.writer.specs.own_packets.Ready.{sizes, asked_size, TtlSmall, each, fixed}
 use Rattle.writer.proofs.Fitting.{fit_of}
@@ -46,7 +49,7 @@ module _ (s : Setup) (ok : Valid s) (style : Style) where
             (put_record style.whole w (own_record s style o)) os,
       )
 
-  module _ (name : List ℕ) (named : style.asks ≡ true → is_name name ≡ true) (os : List Own) where
+  module _ (name : List ℕ) (named : is_some style.asks ≡ true → is_name name ≡ true) (os : List Own) where
     pub style_long : length (packet_in s style name os) ≤ 12 + asked_size style name + sizes s os
     unfolding packet_of
     style_long =
@@ -67,9 +70,9 @@ module _ (s : Setup) (ok : Valid s) (style : Style) where
       additionals = none;
     }
       where
-        ask : (b : Bool) → style.asks ≡ b → Each IsQuestion (cond b (record { name = name; rtype = style.qtype; class = style.qclass } ∷ []) [])
-        ask true t = one (named t) none
-        ask false t = none
+        ask : (b : Option Asked) → style.asks ≡ b → Each IsQuestion (questions_of b name)
+        ask (Some a) t = one (named (ap is_some t)) none
+        ask None t = none
 
         records : (os : List Own) → Each IsRecord (map (own_record s style) os)
         records [] = none

@@ -1,6 +1,7 @@
 -- What is promised of written packets (specification, 'Writing a packet' and 'Reading a message'), as statements. Each is proved in proofs/ under the name
 -- that its comment gives: Whole, Puts, Composed, OwnPackets. Assumes nothing.
 use Rattle.std.specs.Prelude.{ℕ, ◌≤◌, ◌≡◌, List, [], ◌++◌, Bool, true, false, length, take, Ok}
+use Rattle.std.specs.Prelude.{is_some}
 use Rattle.wire.specs.names.Names.{is_name}
 use Rattle.wire.specs.message.Message.{Question, Record, Message}
 use Rattle.wire.specs.message.Layout.{item, question_at, record_at, read, plain_header, message_at}
@@ -65,7 +66,7 @@ MessageComposed =
 abbrev pub StyleBack : Type 0
 StyleBack =
     (s : Setup) → valid_setup s ≡ true → (style : Style) → TtlSmall style.ttl → plain_header style.flags ≡ true → (name : List ℕ)
-    → (style.asks ≡ true → is_name name ≡ true) → (os : List Own) → length (packet_in s style name os) ≤ 8972
+    → (is_some style.asks ≡ true → is_name name ≡ true) → (os : List Own) → length (packet_in s style name os) ≤ 8972
     → message_at (packet_in s style name os) ≡ read (layout_of style.whole (styled_message s style name os)) (styled_message s style name os)
 
 -- `response-back`: a response with any ID of any records that the set-up has, at least one, is read as that ID and exactly those, "in the order PTR, SRV, TXT,
