@@ -4,7 +4,7 @@
 
 pub mod hearing;
 
-ghost use Rattle.std.specs.Prelude.{◌≡◌, ℕ, ◌+◌, ◌*◌, ◌<◌, ◌≤◌, ◌^◌, List, leb, length, get_or, replicate};
+ghost use Rattle.std.specs.Prelude.{◌≡◌, ℕ, ◌+◌, ◌*◌, ◌<◌, ◌≤◌, ◌^◌, List, leb, length, get_or, set, replicate};
 ghost use Rattle.std.proofs.lemmas.List.Edits.{sets};
 ghost use Rattle.cache.specs.entries.Entries.{blank, is_live, refreshed};
 ghost use Rattle.cache.specs.declared.entries.Entry.{Entry};
@@ -58,6 +58,22 @@ pub fn entry_count(table: &[Entry]) -> usize
     table.len()
 }
 
+// The entry at `i`, by value.
+fn entry_at(table: &[Entry], i: usize) -> Entry
+    requires { i < length table.now }
+    ensures { result ≡ get_or table.now i blank }
+{
+    table[i]
+}
+
+// The entry at `i` is replaced, and the others stay.
+fn put_entry(table: &mut [Entry], i: usize, e: Entry)
+    requires { i < length table.old }
+    ensures { table.new ≡ set table.old i e }
+{
+    table[i] = e;
+}
+
 // An entry of zeros.
 fn blank_entry() -> Entry
     ensures { result ≡ blank }
@@ -77,7 +93,7 @@ pub fn entry_or_blank(table: &[Entry], i: usize) -> Entry
     ensures { result ≡ get_or table.now i blank }
 {
     if i < table.len() {
-        return table[i];
+        return entry_at(table, i);
     }
     blank_entry()
 }
@@ -189,7 +205,7 @@ pub fn kurgashel_cache_look_up(
         return refused_look(refusal);
     }
     for i in from..n {
-        if is_live_of(table[i], i, store, time, name, rtype) {
+        if is_live_of(entry_at(table, i), i, store, time, name, rtype) {
             return found_look(i, name);
         }
     }
@@ -203,7 +219,8 @@ fn flush(table: &mut [Entry], store: &[u8], time: u64, slot: &[u8], h: Heard)
     let n = table.len();
     let first = flush_from(h, n);
     for i in first..n {
-        table[i] = flush_heard(table[i], i, store, time, slot, h);
+        let e = entry_at(table, i);
+        put_entry(table, i, flush_heard(e, i, store, time, slot, h));
     }
 }
 
@@ -230,9 +247,14 @@ fn past_others(table: &[Entry], h: Heard, from: usize) -> usize
     ensures { Passed h.at.rtype table.now from result }
 {
     let n = table.len();
+    // by index: four at a time was measured, and the search goes on from the slot
     let mut i = from;
     while has_four(n, i) {
-        if is_type_among(table[i], table[i + 1], table[i + 2], table[i + 3], h) {
+        let a = entry_at(table, i);
+        let b = entry_at(table, i + 1);
+        let c = entry_at(table, i + 2);
+        let d = entry_at(table, i + 3);
+        if is_type_among(a, b, c, d, h) {
             return i;
         }
         i += 4;
@@ -246,7 +268,7 @@ fn likely_slot(table: &[Entry], time: u64, h: Heard, from: usize) -> usize
 {
     let n = table.len();
     for i in from..n {
-        if may_hold(table[i], time, h) {
+        if may_hold(entry_at(table, i), time, h) {
             return i;
         }
     }
@@ -263,7 +285,7 @@ fn equal_slot(table: &[Entry], store: &[u8], time: u64, slot: &[u8], h: Heard) -
     let near = past_others(table, h, first);
     let mut i = likely_slot(table, time, h, near);
     while i < n {
-        if has_bytes(table[i], i, store, slot, h) {
+        if has_bytes(entry_at(table, i), i, store, slot, h) {
             return i;
         }
         i = likely_slot(table, time, h, i + 1);
@@ -277,7 +299,7 @@ fn free_slot(table: &[Entry], time: u64, from: usize) -> usize
 {
     let n = table.len();
     for i in from..n {
-        if !is_live(table[i], time) {
+        if !is_live(entry_at(table, i), time) {
             return i;
         }
     }
@@ -350,13 +372,15 @@ fn change(table: &mut [Entry], store: &mut [u8], time: u64, slot: &[u8], h: Hear
 {
     match c {
         Choice::Expire(i) => {
-            table[i] = to_expire(table[i], time);
+            let e = entry_at(table, i);
+            put_entry(table, i, to_expire(e, time));
         }
         Choice::Refresh(i) => {
-            table[i] = refresh_entry(table[i], time, h.at.ttl);
+            let e = entry_at(table, i);
+            put_entry(table, i, refresh_entry(e, time, h.at.ttl));
         }
         Choice::Fill(i) => {
-            table[i] = fill_entry(time, h);
+            put_entry(table, i, fill_entry(time, h));
             keep(store, i, slot, h);
         }
         Choice::Leave | Choice::TurnAway | Choice::PassOver => {}

@@ -1,7 +1,8 @@
-use Rattle.std.proofs.Common.{◌≡◌, ℕ, ◌+◌, ◌<◌, true, false, length, get_or, drop, sym, subst, ◌∙◌, arith}
+use Rattle.std.proofs.Common.{◌≡◌, ℕ, ◌+◌, ◌<◌, true, false, length, get_or, drop, sym, ap, subst, ◌∙◌, arith}
 use Rattle.cache.specs.entries.Entries.{blank}
 use Rattle.cache.specs.entries.Tables.{slot_from}
-use Rattle.cache.specs.records.Heard.{may_hold, holds_heard}
+use Rattle.cache.specs.declared.entries.Entry.{Entry}
+use Rattle.cache.specs.records.Heard.{may_hold, has_bytes, holds_heard}
 use Rattle.cache.specs.records.Taking.{equal_in}
 use Rattle.cache.proofs.records.Seeking.{seek_here, seek_on, seek_end}
 use Rattle.capi_cache.specs.Types.{Passed}
@@ -23,7 +24,7 @@ pub returns-then-has_bytes : goal.returns-then-has_bytes
 returns-then-has_bytes c =
     let es = c.args.table.now in
     let less : c.loop-i.i < length es = omega (arith) in
-    let t = sym c.if-has_bytes.ensures in
+    let t = ap (λ (e : Entry). has_bytes c.args.store.now c.args.slot.now c.args.h c.loop-i.i e) (sym c.entry_at.ensures) ∙ sym c.if-has_bytes.ensures in
     seek_here (holds_heard c.args.time c.args.store.now c.args.slot.now c.args.h) es c.loop-i.i less (bytes_test c.args.time c.args.store.now c.args.slot.now c.args.h es c.loop-i.i (c.loop-i.invariant.0 less) true t)
     ∙ c.loop-i.invariant.1
 
@@ -35,7 +36,7 @@ loop-i-preserved c =
     let es = c.args.table.now in
     let h = c.args.h in
     let less : c.loop-i.i < length es = omega (arith) in
-    let t = sym c.if-has_bytes.ensures in
+    let t = ap (λ (e : Entry). has_bytes c.args.store.now c.args.slot.now h c.loop-i.i e) (sym c.entry_at.ensures) ∙ sym c.if-has_bytes.ensures in
     let rest =
     equal_from c.args.time c.args.store.now c.args.slot.now h es (c.loop-i.i + 1)
     ∙ seek_on (holds_heard c.args.time c.args.store.now c.args.slot.now h) es c.loop-i.i less (bytes_test c.args.time c.args.store.now c.args.slot.now h es c.loop-i.i (c.loop-i.invariant.0 less) false t)

@@ -18,15 +18,16 @@ loop-i-init c =
 pub loop-i-preserved : goal.loop-i-preserved
 loop-i-preserved c =
     let es = c.args.table.now in
-    let less : c.loop-i.i < length es = omega arith in
+    let less : c.loop-i.i < length es = omega (arith) in
     let is = c.loop-i.invariant.1 in (
       omega arith,
-      ap₂ (λ (zs : List Entry) (e : Entry). set zs c.loop-i.i e) is
-          (c.flush_heard.ensures ∙ ap (λ (zs : List Entry). flushed_heard c.args.time c.args.store.now c.args.slot.now c.args.h c.loop-i.i (get_or zs c.loop-i.i blank)) is)
+      c.put_entry.ensures
+          ∙ ap₂ (λ (zs : List Entry) (e : Entry). set zs c.loop-i.i e) is
+          (c.flush_heard.ensures ∙ ap (flushed_heard c.args.time c.args.store.now c.args.slot.now c.args.h c.loop-i.i) (c.entry_at-e.ensures ∙ ap (λ (zs : List Entry). get_or zs c.loop-i.i blank) is))
           ∙ flush_on c.args.time c.args.store.now c.args.slot.now c.args.h es c.loop-i.i less,
     )
 
 pub returns : goal.returns
 returns c =
     c.loop-i.invariant.1
-    ∙ flush_end c.args.time c.args.store.now c.args.slot.now c.args.h c.args.table.now c.loop-i.i c.loop-i.invariant.0 (omega arith)
+    ∙ flush_end c.args.time c.args.store.now c.args.slot.now c.args.h c.args.table.now c.loop-i.i c.loop-i.invariant.0 (omega (arith))

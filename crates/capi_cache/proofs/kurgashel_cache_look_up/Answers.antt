@@ -1,5 +1,7 @@
 use Rattle.std.proofs.Common.{◌≡◌, ◌<◌, length, sym, ap, ◌∙◌, arith}
+use Rattle.cache.specs.entries.Entries.{live_of}
 use Rattle.cache.specs.entries.Cache.{entries_refusal}
+use Rattle.cache.specs.declared.entries.Entry.{Entry}
 use Rattle.cache.specs.lookup.Answers.{looked_refusal}
 use Rattle.capi_cache.specs.Numbers.{refused_look}
 use Rattle.capi_cache.proofs.Looking.{is-refused, is_found_lem, is-nothing, search_start, search_here, search_on, search_end}
@@ -18,7 +20,7 @@ pub returns-then-is_live_of : goal.returns-then-is_live_of
 returns-then-is_live_of c =
     let is : c.look_refusal-refusal.result ≡ looked_refusal (entries_refusal c.args.time c.args.table.now) (length c.args.table.now) c.args.store.now c.args.name.now = cc (c.look_refusal-refusal.ensures, c.table_refusal.ensures) in
     let less : c.loop-i.i < length c.args.table.now = omega (arith) in
-    let live = sym c.if-is_live_of.ensures in
+    let live = ap (λ (e : Entry). live_of c.args.time c.args.store.now c.args.name.now c.args.rtype c.loop-i.i e) (sym c.entry_at.ensures) ∙ sym c.if-is_live_of.ensures in
     c.found_look.ensures
     ∙ is_found_lem c.args.time c.args.table.now c.args.store.now c.args.name.now c.args.rtype c.args.from (sym is ∙ c.if-refusal-ne0.false) c.loop-i.i
     (search_here c.args.time c.args.table.now c.args.store.now c.args.name.now c.args.rtype c.args.from c.loop-i.i c.loop-i.invariant less live)
@@ -26,7 +28,7 @@ returns-then-is_live_of c =
 pub loop-i-preserved : goal.loop-i-preserved
 loop-i-preserved c =
     let less : c.loop-i.i < length c.args.table.now = omega (arith) in
-    let live = sym c.if-is_live_of.ensures in
+    let live = ap (λ (e : Entry). live_of c.args.time c.args.store.now c.args.name.now c.args.rtype c.loop-i.i e) (sym c.entry_at.ensures) ∙ sym c.if-is_live_of.ensures in
     search_on c.args.time c.args.table.now c.args.store.now c.args.name.now c.args.rtype c.args.from c.loop-i.i c.loop-i.invariant less live
 
 pub returns : goal.returns
