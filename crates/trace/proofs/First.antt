@@ -142,7 +142,8 @@ module _ (p : List ℕ) where
       go (Err m) ey qy = subst (λ (x : ℕ). Stopped p (owing len) first x) (ap offset_in qy) (pieces_stop (pieces_of len) first len m.at refl h ey)
 
   -- a record that cannot stand
-  halts : (owed : Owed) (at o : ℕ) → at ≤ length p → goes_on p at owed ≡ None → (at ≡ length p → is_owed owed ≡ true) → ◌≡◌ {A = Step} (refused at) (refused o) → Stopped p owed at o
+  halts : (owed : Owed) (at o : ℕ) → at ≤ length p → goes_on p at owed ≡ None → (at ≡ length p → is_owed owed ≡ true)
+      → ◌≡◌ {A = Step} (refused at) (refused o) → Stopped p owed at o
   halts owed at o h e w q =
       subst (λ (x : ℕ). Stopped p owed at x) (ap offset_in q) (record { last = owed; goes = stay; stops = record { cannot = e; inside = h; owes = w } })
 

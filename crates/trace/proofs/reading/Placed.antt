@@ -60,7 +60,8 @@ module _ (p : List ℕ) where
             subst (Placed p at) (same_entry qx) (record { ahead = omega arith; room = known.1; pieces = known.0 })
         go (Err o) ex qx = not-refused qx
 
-    behind-placed : (to : ℕ) → at < to → (from : Address) (hold : ℕ) (r : Option Record) → record_at p to ≡ r → behind_source p to from hold r ≡ Ok (Some e) → Placed p at e
+    behind-placed : (to : ℕ) → at < to → (from : Address) (hold : ℕ) (r : Option Record) → record_at p to ≡ r
+        → behind_source p to from hold r ≡ Ok (Some e) → Placed p at e
     behind-placed to a from hold (Some (is.Packet time port draw len)) er q = data_placed _ (to + 14) len (omega arith) (stand p to _ er).whole q
     behind-placed to a from hold (Some (is.Tick time)) er q = not-refused q
     behind-placed to a from hold (Some is.Piece) er q = not-refused q

@@ -50,7 +50,8 @@ module _ (p : List ℕ) (at : ℕ) where
   kind_of-fields kind.Port r e = ap kind_in (same_Some _ _ e)
   kind_of-fields kind.Txt r e = ap kind_in (same_Some _ _ e)
 
-  of_kind : (k : Kind) → kind_at p at ≡ Some k → (b : Bool) → leb (at + size_of k) (length p) ≡ b → (r : Record) → cond b (fields_at p at k) None ≡ Some r → Stand r
+  of_kind : (k : Kind) → kind_at p at ≡ Some k → (b : Bool) → leb (at + size_of k) (length p) ≡ b → (r : Record)
+      → cond b (fields_at p at k) None ≡ Some r → Stand r
   of_kind k ek true eb r e =
       let known : k ≡ kind_in r = kind_of-fields k r e in
       record {
