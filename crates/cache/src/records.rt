@@ -13,10 +13,11 @@ use wire::expansion::same_bytes;
 use wire::message::RecordAt;
 use wire::rdata::{A, AAAA, NSEC, PTR, SRV, TXT, part};
 
-// A record of a message as it lies, which is whole; how many bytes its rdata has, names expanded, and whether it holds a name, which of an NSEC says that it is
-// of the restricted kind.
+// A record of a message as it lies; whether it is whole, as each is that is read out of a message, and the rules are for no other; how many bytes its rdata has,
+// names expanded, and whether it holds a name, which of an NSEC says that it is of the restricted kind.
 #[derive(Clone, Copy)]
 pub struct Heard {
+    pub whole: bool,
     pub at: RecordAt,
     pub len: usize,
     pub named: bool,
@@ -51,7 +52,7 @@ pub fn is_cached(class: u16, rtype: u16, restricted: bool) -> bool
 pub fn is_taken(h: Heard) -> bool
     ensures { result ≡ is_taken h }
 {
-    is_cached(h.at.class, h.at.rtype, h.named)
+    h.whole && is_cached(h.at.class, h.at.rtype, h.named)
 }
 
 // Whether rule 1 is for a record.

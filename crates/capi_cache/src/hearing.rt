@@ -43,6 +43,7 @@ fn hear_named(slot: &mut [u8], p: &[u8], f: RecordAt, form: Form) -> Option<Hear
         return None;
     }
     Some(Heard {
+        whole: true,
         at: f,
         len: before + span.len + behind,
         named: true,
@@ -63,6 +64,7 @@ fn hear_rdata(slot: &mut [u8], p: &[u8], f: RecordAt) -> Option<Heard>
         return None;
     }
     Some(Heard {
+        whole: true,
         at: f,
         len: f.rdlength,
         named: false,

@@ -124,7 +124,7 @@ impl From<Result<Option<Passed>, Refusal>> for RecordNumbers {
 pub fn kurgashel_proxy_refusal(rich: &[u8], ldh: &[u8]) -> u8
     ensures { result ≡ setup_refusal (domains rich.now ldh.now) }
 {
-    match proxy::domains::check(rich, ldh) {
+    match proxy::domains::setup_refusal(rich, ldh) {
         Ok(()) => 0,
         Err(refusal) => refusal.number(),
     }

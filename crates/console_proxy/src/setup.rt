@@ -45,7 +45,7 @@ fn is_proxy(line: &[u8]) -> bool
 fn set_up(rich: &[u8], ldh: &[u8], held: Domains, rt: &impl Print, text: &mut [u8; 4096]) -> Domains
     ensures { result ≡ domains_of rich.now ldh.now held }
 {
-    if let Err(refusal) = proxy::domains::check(rich, ldh) {
+    if let Err(refusal) = proxy::domains::setup_refusal(rich, ldh) {
         refused(rt, text, refusal.number() as u64);
         return held;
     }

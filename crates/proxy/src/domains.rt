@@ -87,7 +87,7 @@ pub fn are_domains(rich: &[u8], ldh: &[u8]) -> bool
 
 // Whether a set-up is refused.
 #[tactic(auto, unfolding(crate::specs::domains::Domains::setup_refusal))]
-pub fn check(rich: &[u8], ldh: &[u8]) -> Result<(), Refusal>
+pub fn setup_refusal(rich: &[u8], ldh: &[u8]) -> Result<(), Refusal>
     ensures answer { result ≡ refused_by (setup_tests (domains rich.now ldh.now)) }
     ensures number { number_in result ≡ setup_refusal (domains rich.now ldh.now) }
 {

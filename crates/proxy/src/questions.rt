@@ -4,7 +4,7 @@ ghost use Rattle.proxy.specs.domains.Domains.{domains};
 ghost use Rattle.proxy.specs.domains.Under.{moved_of};
 ghost use Rattle.proxy.specs.questions.Questions.{is_below, is_apex_type, is_negative, inward, question_of};
 
-use crate::domains::{Moved, check, is_under, move_name};
+use crate::domains::{Moved, is_under, move_name, setup_refusal};
 use wire::names::is_name;
 use wire::refusals::Refusal;
 
@@ -56,7 +56,7 @@ pub fn ask(rich: &[u8], ldh: &[u8], name: &[u8], rtype: u16) -> Result<Option<Mo
     if !is_name(name) {
         return Err(Refusal::Malformed);
     }
-    check(rich, ldh)?;
+    setup_refusal(rich, ldh)?;
     if is_negative(rich, ldh, name, rtype) {
         return Ok(None);
     }

@@ -10,7 +10,7 @@ ghost use Rattle.proxy.specs.records.Records.{is_address, fits_type, is_whole, o
 ghost use Rattle.proxy.specs.records.Records.{record_out, none_out, item_out};
 ghost use Rattle.proxy.specs.records.Held.{left_of, held_tests, held_out};
 
-use crate::domains::{Moved, check, move_name};
+use crate::domains::{Moved, move_name, setup_refusal};
 use cache::entries::{Entry, is_ahead, is_live, is_too_long};
 use wire::buffer::put;
 use wire::names::is_name;
@@ -152,7 +152,7 @@ pub fn record(
     ensures { result ≡ record_out (domains rich.now ldh.now)
         (record_of owner.now rtype class ttl rdata.now) }
 {
-    check(rich, ldh)?;
+    setup_refusal(rich, ldh)?;
     if !is_whole(owner, rtype, rdata) {
         return Ok(None);
     }
@@ -166,7 +166,7 @@ pub fn record(
 fn none(rich: &[u8], ldh: &[u8]) -> Result<Option<Passed>, Refusal>
     ensures { result ≡ none_out (domains rich.now ldh.now) }
 {
-    check(rich, ldh)?;
+    setup_refusal(rich, ldh)?;
     Ok(None)
 }
 

@@ -151,6 +151,10 @@ left_alone_lem now slot h c none =
     ∙ same_cache now slot h (with_entries (flushed_in now c.store slot h c.entries) c)
     ∙ ap (λ (es : List Entry). with_entries es c) (flushes_none now c.store slot h c.entries (not-flushing h none))
 
+pub not-whole : (h : Heard) → h.whole ≡ false → is_taken h ≡ false
+unfolding is_taken
+not-whole h n = simp n
+
 -- ---- a record that the rules are for
 over : (now : ℕ) (store slot : List ℕ) (h : Heard) (es : List Entry) → is_taken h ≡ true → ltb 768 h.len ≡ true → chosen_in now store slot h es ≡ PassOver
 unfolding chosen_in chosen_of

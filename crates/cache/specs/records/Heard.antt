@@ -1,6 +1,6 @@
 -- One record of a message against the entries (specification, 'The cache'), as the code finds it: its owner and rdata lie in the slot that it would fill. Of a
 -- record that is whole these are the rules of `entries` on what it shows (proofs/records). Assumes nothing: these are definitions.
-use Rattle.std.specs.Prelude.{ℕ, List, Bool, cond, not, ◌&&◌, length, take, drop, ltb, leb, eqb, None, Option, Some}
+use Rattle.std.specs.Prelude.{ℕ, List, Bool, true, cond, not, ◌&&◌, length, take, drop, ltb, leb, eqb, None, Option, Some}
 use Rattle.wire.specs.case_folding.Fold.{same_name}
 use Rattle.wire.specs.rdata.Rdata.{rdata_at, form_at}
 use Rattle.wire.specs.rdata.Answers.{data_of}
@@ -17,7 +17,7 @@ use Rattle.cache.specs.declared.records.Choice.TheVariants.{Leave, Expire, Refre
 
 -- a record as it lies that is whole, and that at an offset
 abbrev pub heard_as : List ℕ → RecordAt → Heard
-heard_as p f = record { at = f; len = length (data_of (rdata_at p f)); named = (form_at p f).named }
+heard_as p f = record { whole = true; at = f; len = length (data_of (rdata_at p f)); named = (form_at p f).named }
 
 abbrev pub heard_of : List ℕ → Option RecordAt → Option Heard
 heard_of p (Some f) = Some (heard_as p f)
@@ -28,7 +28,7 @@ heard_at p at = heard_of p (whole_read p at)
 
 -- the rules are for it; rule 1 is, with the top class bit; rules 2 and 3 are, where its rdata fits a slot
 unfoldable pub is_taken : Heard → Bool
-is_taken h = cached_as h.at.class h.at.rtype h.named
+is_taken h = h.whole && cached_as h.at.class h.at.rtype h.named
 
 unfoldable pub is_flushing : Heard → Bool
 is_flushing h = top_bit h.at.class && is_taken h

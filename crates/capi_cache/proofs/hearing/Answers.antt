@@ -55,9 +55,9 @@ module _ (p : List ℕ) (f : RecordAt) where
   heard-unfit e = sym (by-rdata unfit e)
 
   pub heard-fit : (d : List ℕ) → rdata_at p f ≡ rdata d → (n : ℕ) → n ≡ length d → (named : Bool) → named ≡ (form_at p f).named
-      → ◌≡◌ {A = Option Heard} (Some (record { at = f; len = n; named = named })) (heard_with p f)
+      → ◌≡◌ {A = Option Heard} (Some (record { whole = true; at = f; len = n; named = named })) (heard_with p f)
   heard-fit d e n size named m =
-      ap₂ (λ (k : ℕ) (b : Bool). Some (record { at = f; len = k; named = b })) (size ∙ sym (ap (λ (x : Rdata). length (data_of x)) e)) m ∙ sym (by-rdata (rdata d) e)
+      ap₂ (λ (k : ℕ) (b : Bool). Some (record { whole = true; at = f; len = k; named = b })) (size ∙ sym (ap (λ (x : Rdata). length (data_of x)) e)) m ∙ sym (by-rdata (rdata d) e)
 
   -- rdata that holds no name
   module _ (g : Form) (is : g ≡ form_at p f) (n : g.named ≡ false) where
@@ -75,7 +75,7 @@ module _ (p : List ℕ) (f : RecordAt) where
     plain-not b e k = heard-unfit (is-unfit (rdata_at p f) (sym e ∙ k))
 
     pub plain-heard : f.rdata + f.rdlength ≤ length p → (b : Bool) → b ≡ fits (rdata_at p f) → b ≡ true
-        → ◌≡◌ {A = Option Heard} (Some (record { at = f; len = f.rdlength; named = false })) (heard_with p f)
+        → ◌≡◌ {A = Option Heard} (Some (record { whole = true; at = f; len = f.rdlength; named = false })) (heard_with p f)
     plain-heard room b e k =
         let d = plain-is p f none (sym e ∙ k) in
         heard-fit part d f.rdlength (sym (length-take-le f.rdlength (drop f.rdata p) (omega (arith, length-drop f.rdata p, room)))) false (sym none)
@@ -159,7 +159,7 @@ module _ (p : List ℕ) (f : RecordAt) where
         pub named-elsewhere : (s.end ≡ to → ⊥) → None ≡ heard_with p f
         named-elsewhere z = heard-unfit (ending ∙ ap (ending_name front back to) found.1 ∙ simp (ne_eqb _ _ z))
 
-        pub named-heard : s.end ≡ to → ◌≡◌ {A = Option Heard} (Some (record { at = f; len = g.before + s.len + g.behind; named = true })) (heard_with p f)
+        pub named-heard : s.end ≡ to → ◌≡◌ {A = Option Heard} (Some (record { whole = true; at = f; len = g.before + s.len + g.behind; named = true })) (heard_with p f)
         named-heard z =
             let a : length front ≡ g.before = length-take-le g.before (drop f.rdata p) (omega (arith, length-drop f.rdata p, room, l)) in
             let b : length back ≡ g.behind = length-take-le g.behind (drop to p) (omega (arith, length-drop to p, room, l)) in
