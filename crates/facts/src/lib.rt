@@ -17,7 +17,7 @@ ghost use Rattle.wire.specs.message.Readable.{readable, message_in, question_sho
 ghost use Rattle.claims.specs.records.Own.{own_type, has, each};
 ghost use Rattle.own.specs.records.Records.{has_record};
 ghost use Rattle.facts.specs.Questions.{takes_in, asks_by, is_qm, is_qu};
-ghost use Rattle.facts.specs.Found.{QuestionFound, RecordFound, LongIfKnown};
+ghost use Rattle.facts.specs.Found.{QuestionFound, RecordFound, RecordPassed, LongIfKnown};
 ghost use Rattle.facts.specs.chains.Chains.{Ends, Whole, WholeLayout, Walkable};
 ghost use Rattle.facts.specs.tiebreak.Later.{is_later};
 ghost use Rattle.facts.specs.Types.{can_conflict, some_type, may_conflict, some_of, Passed};
@@ -256,6 +256,25 @@ fn conflicts(p: &[u8], ends: &[u16], f: RecordAt, name: &[u8], rtype: u16, own: 
         && !wire::expansion::rdata_is(p, f, own)
 }
 
+// Whether a record of a section passes a test.
+fn some_record<F: Fn(RecordAt) -> bool>(p: &[u8], ends: &[u16], s: Section, test: F) -> bool
+    requires whole { Whole (record_at p.now) ends.now s.count s.at }
+    requires callable { (f : _) → RecordFound p.now f → F.pre test f }
+    ensures { RecordPassed (F.post test) p.now s result }
+{
+    let mut here = s.at;
+    for _read in 0..s.count {
+        let Some(f) = crate::chains::record_step(p, ends, here) else {
+            return false;
+        };
+        if test(f) {
+            return true;
+        }
+        here = f.next;
+    }
+    false
+}
+
 // Whether a record of a section conflicts with an own one.
 fn some_conflicts(p: &[u8], ends: &[u16], s: Section, name: &[u8], rtype: u16, own: &[u8]) -> bool
     requires ends { Ends p.now ends.now }
@@ -263,17 +282,7 @@ fn some_conflicts(p: &[u8], ends: &[u16], s: Section, name: &[u8], rtype: u16, o
     ensures { (let test : Record → Bool = conflicts name.now rtype own.now in
         result ≡ some test (readable (record_at p.now) s.count s.at)) }
 {
-    let mut here = s.at;
-    for _read in 0..s.count {
-        let Some(f) = crate::chains::record_step(p, ends, here) else {
-            return false;
-        };
-        if conflicts(p, ends, f, name, rtype, own) {
-            return true;
-        }
-        here = f.next;
-    }
-    false
+    some_record(p, ends, s, |f| conflicts(p, ends, f, name, rtype, own))
 }
 
 // Whether a record of any section conflicts with an own one.
