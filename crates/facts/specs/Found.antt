@@ -1,11 +1,14 @@
 -- What the private functions ask of a question and of a record as they lie: that a walk met them in the packet. Assumes nothing: these are definitions.
-use Rattle.std.specs.Prelude.{ℕ, ◌≡◌, List, length, Option, Some, None}
+use Rattle.std.specs.Prelude.{ℕ, ◌≡◌, List, length, Option, Some, None, Bool}
 use Rattle.wire.specs.case_folding.Fold.{same_name}
 use Rattle.wire.specs.names.Names.{name, name_at}
 use Rattle.wire.specs.names.Answers.{name_is}
 use Rattle.wire.specs.rdata.Rdata.{rdata, rdata_at}
 use Rattle.wire.specs.message.Layout.{item, broken, question_at, record_at}
-use Rattle.wire.specs.message.Readable.{question_shown, record_shown}
+use Rattle.wire.specs.Lists.{some}
+use Rattle.wire.specs.message.Message.{Record}
+use Rattle.wire.specs.declared.message.Section.{Section}
+use Rattle.wire.specs.message.Readable.{readable, question_shown, record_shown}
 use Rattle.wire.specs.declared.message.QuestionAt.{QuestionAt}
 use Rattle.wire.specs.declared.message.RecordAt.{RecordAt}
 
@@ -43,3 +46,9 @@ QuestionStep p at None = question_at p at ≡ broken
 abbrev pub RecordStep : List ℕ → ℕ → Option RecordAt → Type 0
 RecordStep p at (Some f) = RecordSeen p at f
 RecordStep p at None = record_at p at ≡ broken
+
+-- what the answer of a test on the records of a section says: it is that of each test of what they show that the one of the code comes to
+abbrev pub RecordPassed : (RecordAt → Bool → Type 0) → List ℕ → Section → Bool → Type 0
+RecordPassed post p s result =
+    (passes : Record → Bool) → ((f : RecordAt) (b : Bool) → RecordFound p f → post f b → b ≡ passes (record_shown p f))
+    → result ≡ some passes (readable (record_at p) s.count s.at)

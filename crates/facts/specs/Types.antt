@@ -1,6 +1,6 @@
 -- The types that can conflict: where no record of a message has one there is no conflict (`quiet-claim` in proofs/Types.antt). Assumes nothing: these are
 -- definitions.
-use Rattle.std.specs.Prelude.{ℕ, Bool, ◌||◌, List, eqb}
+use Rattle.std.specs.Prelude.{ℕ, ◌<◌, ◌≡◌, Bool, false, ◌||◌, List, eqb}
 use Rattle.wire.specs.Lists.{some}
 use Rattle.wire.specs.message.Message.{Record}
 use Rattle.wire.specs.message.Layout.{record_at}
@@ -25,3 +25,9 @@ may_conflict p l = some_type p l.answers || (some_type p l.authorities || some_t
 -- a record of a section has a type
 unfoldable pub some_of : ℕ → List ℕ → Section → Bool
 some_of rtype p s = some (λ r. eqb r.rtype rtype) (readable (record_at p) s.count s.at)
+
+-- what the answer of a test on the types of a section's records says: if it is no, then each test that the one of the code comes to fails on all of them
+abbrev pub Passed : (ℕ → Bool → Type 0) → List ℕ → Section → Bool → Type 0
+Passed post p s result =
+    (passes : ℕ → Bool) → ((rtype : ℕ) (b : Bool) → rtype < 65536 → post rtype b → b ≡ passes rtype) → result ≡ false
+    → some (λ r. passes r.rtype) (readable (record_at p) s.count s.at) ≡ false

@@ -17,10 +17,10 @@ ghost use Rattle.wire.specs.message.Readable.{readable, message_in, question_sho
 ghost use Rattle.claims.specs.records.Own.{own_type, has, each};
 ghost use Rattle.own.specs.records.Records.{has_record};
 ghost use Rattle.facts.specs.Questions.{takes_in, asks_by, is_qm, is_qu};
-ghost use Rattle.facts.specs.Found.{QuestionFound, RecordFound, LongIfKnown};
+ghost use Rattle.facts.specs.Found.{QuestionFound, RecordFound, RecordPassed, LongIfKnown};
 ghost use Rattle.facts.specs.chains.Chains.{Ends, Whole, WholeLayout, Walkable};
 ghost use Rattle.facts.specs.tiebreak.Later.{is_later};
-ghost use Rattle.facts.specs.Types.{can_conflict, some_type, may_conflict, some_of};
+ghost use Rattle.facts.specs.Types.{can_conflict, some_type, may_conflict, some_of, Passed};
 ghost use Rattle.facts.specs.Facts.{type_asks, asks_own, asked_with, is_asked_as, suppresses, is_known, conflicts, conflicted, theirs_later};
 ghost use Rattle.facts.specs.Facts.{response_to, query_to};
 ghost use Rattle.facts.specs.Facts.{is_truncated, facts_of};
@@ -256,6 +256,25 @@ fn conflicts(p: &[u8], ends: &[u16], f: RecordAt, name: &[u8], rtype: u16, own: 
         && !wire::expansion::rdata_is(p, f, own)
 }
 
+// Whether a record of a section passes a test.
+fn some_record<F: Fn(RecordAt) -> bool>(p: &[u8], ends: &[u16], s: Section, test: F) -> bool
+    requires whole { Whole (record_at p.now) ends.now s.count s.at }
+    requires callable { (f : _) → RecordFound p.now f → F.pre test f }
+    ensures { RecordPassed (F.post test) p.now s result }
+{
+    let mut here = s.at;
+    for _read in 0..s.count {
+        let Some(f) = crate::chains::record_step(p, ends, here) else {
+            return false;
+        };
+        if test(f) {
+            return true;
+        }
+        here = f.next;
+    }
+    false
+}
+
 // Whether a record of a section conflicts with an own one.
 fn some_conflicts(p: &[u8], ends: &[u16], s: Section, name: &[u8], rtype: u16, own: &[u8]) -> bool
     requires ends { Ends p.now ends.now }
@@ -263,17 +282,7 @@ fn some_conflicts(p: &[u8], ends: &[u16], s: Section, name: &[u8], rtype: u16, o
     ensures { (let test : Record → Bool = conflicts name.now rtype own.now in
         result ≡ some test (readable (record_at p.now) s.count s.at)) }
 {
-    let mut here = s.at;
-    for _read in 0..s.count {
-        let Some(f) = crate::chains::record_step(p, ends, here) else {
-            return false;
-        };
-        if conflicts(p, ends, f, name, rtype, own) {
-            return true;
-        }
-        here = f.next;
-    }
-    false
+    some_record(p, ends, s, |f| conflicts(p, ends, f, name, rtype, own))
 }
 
 // Whether a record of any section conflicts with an own one.
@@ -335,9 +344,10 @@ fn past_labels(p: &[u8], at: usize) -> usize
     here
 }
 
-// Whether a record of a section may have such a type, by steps from record to record that follow no pointer and leave rdata unread.
-fn some_type(p: &[u8], s: Section) -> bool
-    ensures { result ≡ false → some_type p.now s ≡ false }
+// Whether a record of a section may have a type that passes a test, by steps from record to record that follow no pointer and leave rdata unread.
+fn some_passes<F: Fn(u16) -> bool>(p: &[u8], s: Section, test: F) -> bool
+    requires { F.IsAlwaysCallable test }
+    ensures { Passed (F.post test) p.now s result }
 {
     let mut here = s.at;
     for _seen in 0..s.count {
@@ -345,7 +355,7 @@ fn some_type(p: &[u8], s: Section) -> bool
         if p.len() < end || p.len() - end < 10 {
             return false;
         }
-        if can_conflict(wire::octets::be16(p, end)) {
+        if test(wire::octets::be16(p, end)) {
             return true;
         }
         here = end + 10 + wire::octets::be16(p, end + 8) as usize;
@@ -353,22 +363,18 @@ fn some_type(p: &[u8], s: Section) -> bool
     false
 }
 
-// Whether a record of a section may have a type, by the same steps.
+// Whether a record of a section may have the type of a claimed record.
+fn some_type(p: &[u8], s: Section) -> bool
+    ensures { result ≡ false → some_type p.now s ≡ false }
+{
+    some_passes(p, s, |rtype| can_conflict(rtype))
+}
+
+// Whether a record of a section may have a type.
 fn has_type(p: &[u8], s: Section, rtype: u16) -> bool
     ensures { result ≡ false → some_of rtype p.now s ≡ false }
 {
-    let mut here = s.at;
-    for _seen in 0..s.count {
-        let past = past_labels(p, here);
-        if p.len() < past || p.len() - past < 10 {
-            return false;
-        }
-        if wire::octets::be16(p, past) == rtype {
-            return true;
-        }
-        here = past + 10 + wire::octets::be16(p, past + 8) as usize;
-    }
-    false
+    some_passes(p, s, |other| other == rtype)
 }
 
 // Whether a record of any section may have such a type. Where none has, there is no conflict.

@@ -34,17 +34,12 @@ fn some_under(p: &[u8], ends: &[u16], s: Section, name: &[u8]) -> bool
     requires whole { Whole (record_at p.now) ends.now s.count s.at }
     ensures { result ≡ some (under name.now) (readable (record_at p.now) s.count s.at) }
 {
-    let mut here = s.at;
-    for _read in 0..s.count {
-        let Some(f) = crate::chains::record_step(p, ends, here) else {
-            return false;
-        };
-        if crate::is_named(p, ends, f.owner, f.span.len, name) {
-            return true;
-        }
-        here = f.next;
-    }
-    false
+    crate::some_record(
+        p,
+        ends,
+        s,
+        |f| crate::is_named(p, ends, f.owner, f.span.len, name),
+    )
 }
 
 // Whether the message is a probe for a name: a query with a question for all that the name has, and an Authority record under it.

@@ -33,7 +33,6 @@ fn compare_bytes(a: &[u8], b: &[u8]) -> Ordering
 }
 
 // How two records compare: by class, type, rdata bytes.
-#[tactic(auto, using(crate::proofs::tiebreak::Orders::by_fields), unfolding(crate::specs::tiebreak::Later::compare_records, crate::specs::tiebreak::Later::compare_numbers))]
 fn compare_records(
     class: u16,
     rtype: u16,

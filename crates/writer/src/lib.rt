@@ -95,12 +95,11 @@ fn put_name(
         at count out.old places.old result out.new places.new }
 {
     let cut = crate::compression::cut_of(&out[..known], &places[..tried], name);
-    let kept = cut.kept;
-    let place = cut.place;
-    wire::buffer::put(out, at, &name[..kept]);
-    let noted = note_starts(places, count, at, &name[..kept]);
-    let end = at + kept;
-    match place {
+    let front = &name[..cut.kept];
+    wire::buffer::put(out, at, front);
+    let noted = note_starts(places, count, at, front);
+    let end = at + cut.kept;
+    match cut.place {
         Some(o) => {
             put_u16(out, end, 49152 + o);
             Spot {
@@ -210,14 +209,11 @@ fn write_record(
         out.old places.old result out.new places.new) }
 {
     let a = put_name(out, at, at, places, count, count, owner);
-    let e = a.end;
-    let c = a.count;
-    let body = e + 10;
-    let tried = tried_for(whole, rtype, c);
+    let body = a.end + 10;
+    let tried = tried_for(whole, rtype, a.count);
     let held = form_for(owner, rtype, d);
-    let b = put_data(out, e, body, places, c, tried, held, d);
-    let end = b.end;
-    put_fields(out, e, rtype, class, ttl, end - body);
+    let b = put_data(out, a.end, body, places, a.count, tried, held, d);
+    put_fields(out, a.end, rtype, class, ttl, b.end - body);
     b
 }
 
@@ -236,13 +232,11 @@ fn write_question(
         out.old places.old result out.new places.new }
 {
     let a = put_name(out, at, at, places, count, count, name);
-    let e = a.end;
-    let c = a.count;
-    put_u16(out, e, rtype as usize);
-    put_u16(out, e + 2, class as usize);
+    put_u16(out, a.end, rtype as usize);
+    put_u16(out, a.end + 2, class as usize);
     Spot {
-        end: e + 4,
-        count: c,
+        end: a.end + 4,
+        count: a.count,
     }
 }
 

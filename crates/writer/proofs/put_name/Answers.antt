@@ -13,8 +13,8 @@ pub slice_bounds-cut_of-end-4 : goal.slice_bounds-cut_of-end-4
 slice_bounds-cut_of-end-4 c = sym (length-take-le _ c.args.places.now
     (omega (arith, c.requires.slots, c.requires.tried_noted)))
 
-pub slice_bounds-put-end : goal.slice_bounds-put-end
-slice_bounds-put-end c = kept-long c.args.known
+pub slice_bounds-front-end : goal.slice_bounds-front-end
+slice_bounds-front-end c = kept-long c.args.known
     c.args.at
     c.args.count
     c.args.tried
@@ -22,12 +22,6 @@ slice_bounds-put-end c = kept-long c.args.known
     c.args.out.now
     c.args.places.now
     c.requires c.cut_of-cut.result c.cut_of-cut.ensures
-
-pub slice_bounds-note_starts-end : goal.slice_bounds-note_starts-end
-slice_bounds-note_starts-end c = kept-long c.args.known c.args.at c.args.count
-    c.args.tried c.args.name.now c.args.out.now
-    c.args.places.now c.requires
-    c.cut_of-cut.result c.cut_of-cut.ensures
 
 pub note_starts-noted-requires : goal.note_starts-noted-requires
 note_starts-noted-requires c = (

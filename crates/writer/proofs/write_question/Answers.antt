@@ -18,8 +18,8 @@ put_u16-requires c = let a = c.args in
       omega arith,
     )
 
-pub overflow_add-e : goal.overflow_add-e
-overflow_add-e c = let a = c.args in
+pub overflow_add-a : goal.overflow_add-a
+overflow_add-a c = let a = c.args in
     let room = question-front a.at a.count a.name.now a.out.now a.places.now c.requires in
     omega (
       arith,

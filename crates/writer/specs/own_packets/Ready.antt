@@ -1,5 +1,6 @@
 -- What the private functions that write own records ask for and leave: room for each record with its names whole.
-use Rattle.std.specs.Prelude.{ℕ, ◌+◌, ◌≤◌, ◌<◌, ◌≡◌, List, [], ◌∷◌, map, true, cond, length, take, Result, Ok, Err, Option, Some, None, is_some}
+use Rattle.std.specs.Prelude.{ℕ, ◌+◌, ◌≤◌, ◌<◌, ◌≡◌, List, [], ◌∷◌, map, true, cond, length, take}
+use Rattle.std.specs.Prelude.{Result, Ok, Err, Option, Some, None, is_some}
 use Rattle.wire.specs.names.Names.{is_name}
 use Rattle.wire.specs.labels.Counted.{labels_in}
 use Rattle.claims.specs.records.Own.{records, record_at, own_type}
