@@ -35,7 +35,7 @@ impl From<Answer> for Pair {
     fn from(answer: Answer) -> Pair {
         match answer {
             Answer::Refused(refusal) => Pair {
-                refusal: refusal.number(),
+                refusal,
                 ..Pair::default()
             },
             Answer::Absent => Pair::default(),

@@ -10,7 +10,6 @@ use Rattle.txt.specs.Lookup.{bad_key, refusal_of, given_by, in_txt, lookup_of}
 use Rattle.txt.specs.declared.Buffer.{Buffer}
 use Rattle.txt.specs.declared.Buffer.TheVariants.{Received, Factory}
 use Rattle.txt.specs.declared.Answer.{Answer}
-use Rattle.wire.specs.declared.refusals.Refusal.TheVariants.{Key, Malformed}
 use Rattle.txt.specs.declared.Answer.TheVariants.{Refused, Absent, Present, Empty, Value}
 
 -- "PassReq", "PASSREQ=1"
@@ -57,10 +56,10 @@ Cases =
     -- a value may hold an "="
     × (lookup_of (97 ∷ []) (5 ∷ two_equals) [] ≡ at 3 3 Received)
     -- refusal 9, for an empty key and for one with an "=", also where the TXT is malformed
-    × (lookup_of [] (5 ∷ []) [] ≡ Refused Key)
-    × (lookup_of (97 ∷ 61 ∷ []) (5 ∷ two_equals) [] ≡ Refused Key)
+    × (lookup_of [] (5 ∷ []) [] ≡ Refused 9)
+    × (lookup_of (97 ∷ 61 ∷ []) (5 ∷ two_equals) [] ≡ Refused 9)
     -- refusal 6 for the factory TXT, although the received one has the value
-    × (lookup_of (97 ∷ []) (5 ∷ two_equals) (1 ∷ []) ≡ Refused Malformed)
+    × (lookup_of (97 ∷ []) (5 ∷ two_equals) (1 ∷ []) ≡ Refused 6)
 
 pub evaluated : Cases
 unfolding lookup_of refusal_of bad_key some_of strings_fill in_txt first_with strings_from has_key key_of value_of given_by same_name

@@ -2,7 +2,7 @@
 use mathlib.Core.Path.{◌≡◌, refl, sym, ap, ◌∙◌}
 use mathlib.Core.List.{List}
 use Prim.Native.Nat.{ℕ}
-use Rattle.wire.specs.refusals.Numbers.{refused_by}
+use Rattle.wire.specs.refusals.Numbers.{number_of, refused_by}
 use Rattle.wire.specs.declared.refusals.Refusal.{Refusal}
 use Rattle.std.specs.Prelude.{Ok, Err}
 use Rattle.txt.specs.Lookup.{in_txt, when_absent, unless_refused, lookup_tests, lookup_of}
@@ -19,9 +19,9 @@ stands Empty other h = refl
 stands (Value v) other h = refl
 
 module _ (key received factory : List ℕ) where
-  pub is-refused : (refusal : Refusal) → Err refusal ≡ refused_by (lookup_tests key received factory) → Refused refusal ≡ lookup_of key received factory
+  pub is-refused : (refusal : Refusal) (n : ℕ) → n ≡ number_of refusal → Err refusal ≡ refused_by (lookup_tests key received factory) → Refused n ≡ lookup_of key received factory
   unfolding lookup_of
-  is-refused refusal e = ap (λ t. unless_refused t (when_absent (in_txt Received key received) (in_txt Factory key factory))) e
+  is-refused refusal n k e = ap Refused k ∙ ap (λ t. unless_refused t (when_absent (in_txt Received key received) (in_txt Factory key factory))) e
 
   module _ (u : Unit {0}) (ok : Ok u ≡ refused_by (lookup_tests key received factory)) (a : Answer) (ea : a ≡ in_txt Received key received) where
     asked : when_absent a (in_txt Factory key factory) ≡ lookup_of key received factory

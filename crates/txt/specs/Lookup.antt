@@ -53,14 +53,14 @@ in_txt b key txt = answer_of b (first_with key (strings txt))
 -- "The mask asks the received TXT and then its factory TXT when absent"
 abbrev pub when_absent : Answer → Answer → Answer
 when_absent Absent other = other
-when_absent (Refused refusal) other = Refused refusal
+when_absent (Refused n) other = Refused n
 when_absent Present other = Present
 when_absent Empty other = Empty
 when_absent (Value h) other = Value h
 
 abbrev pub unless_refused : Result (Unit {0}) Refusal → Answer → Answer
 unless_refused (Ok u) answer = answer
-unless_refused (Err refusal) answer = Refused refusal
+unless_refused (Err refusal) answer = Refused (refusal_number refusal)
 
 -- The answer of the lookup.
 unfoldable pub lookup_of : List ℕ → List ℕ → List ℕ → Answer
@@ -69,7 +69,7 @@ lookup_of key received factory =
 
 -- The number that each answer is, 0 where it is no refusal.
 abbrev pub number_of : Answer → ℕ
-number_of (Refused refusal) = refusal_number refusal
+number_of (Refused n) = n
 number_of Absent = 0
 number_of Present = 0
 number_of Empty = 0
@@ -81,7 +81,7 @@ abbrev pub empty_part : Held
 empty_part = record { buffer = Received; at = 0; len = 0 }
 
 abbrev pub part_of : Answer → Held
-part_of (Refused refusal) = empty_part
+part_of (Refused n) = empty_part
 part_of Absent = empty_part
 part_of Present = empty_part
 part_of Empty = empty_part

@@ -27,10 +27,11 @@ pub struct Held {
     pub len: usize,
 }
 
-// What a lookup answers: refused, absent, present without value, empty value, or the value itself.
+// What a lookup answers: refused with its number, absent, present without value, empty value, or the value itself. The number and no `Refusal`: `part_of` takes an
+// answer with any.
 #[derive(Clone, Copy)]
 pub enum Answer {
-    Refused(Refusal),
+    Refused(u8),
     Absent,
     Present,
     Empty,
@@ -128,7 +129,7 @@ pub fn answer_for<'k, 'a>(key: &'k [u8], received: &'a [u8], factory: &'a [u8]) 
     ensures number { number_of result ≡ refusal_of key.now received.now factory.now }
 {
     if let Err(refusal) = check(key, received, factory) {
-        return Answer::Refused(refusal);
+        return Answer::Refused(refusal.number());
     }
     let answer = find(key, received, Buffer::Received);
     match answer {

@@ -26,7 +26,7 @@ fn held(h: Held, part: &[u8], rt: &impl Print, text: &mut [u8; 4096]) {
 fn shown(key: &[u8], received: &[u8], factory: &[u8], rt: &impl Print, text: &mut [u8; 4096]) {
     let answer = answer_for(key, received, factory);
     match answer {
-        Answer::Refused(refusal) => refused(rt, text, refusal.number() as u64),
+        Answer::Refused(number) => refused(rt, text, number as u64),
         Answer::Absent => only(rt, text, b"absent"),
         Answer::Present => only(rt, text, b"present"),
         Answer::Empty => only(rt, text, b"empty"),

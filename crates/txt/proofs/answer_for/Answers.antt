@@ -3,7 +3,7 @@ use Rattle.txt.proofs.Whole.{is-refused, is-factory, is-received}
 use Rattle.txt.proofs.answer_for.Goals as goal
 
 pub returns-in-Err : goal.returns-in-Err
-returns-in-Err c = let all = numbered _ _ _ _ (is-refused _ _ _ _ c.in-Err.ensures) in record { answer = all.0; number = all.1 }
+returns-in-Err c = let all = numbered _ _ _ _ (is-refused _ _ _ _ _ c.number.ensures c.in-Err.ensures) in record { answer = all.0; number = all.1 }
 
 pub returns-in-Absent : goal.returns-in-Absent
 returns-in-Absent c =
