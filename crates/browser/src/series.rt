@@ -9,6 +9,7 @@ use crate::Browser;
 pub const LONGEST_GAP: u64 = 3600000;
 
 // The gap behind the k-th query, in milliseconds.
+// By a list, as the definition has it: an arm for 0 and 1 together was tried, and left the proof no fact.
 pub(crate) fn gap_after(k: u64) -> u64
     ensures { result ≡ gap_after k }
 {

@@ -15,6 +15,7 @@ use wire::rdata::{A, AAAA, NSEC, PTR, SRV, TXT, part};
 
 // A record of a message as it lies; whether it is whole, as each is that is read out of a message, and the rules are for no other; how many bytes its rdata has,
 // names expanded, and whether it holds a name, which of an NSEC says that it is of the restricted kind.
+// `whole` stays beside the Option that hearing gives: the lemma not-whole speaks of a record that is not, and is_taken tests it.
 #[derive(Clone, Copy)]
 pub struct Heard {
     pub whole: bool,

@@ -283,6 +283,7 @@ fn equal_slot(table: &[Entry], store: &[u8], time: u64, slot: &[u8], h: Heard) -
     let n = table.len();
     let first = seek_from(h, n);
     let near = past_others(table, h, first);
+    // from likely slot to likely slot: the step is the next search's answer, so that no `for` fits
     let mut i = likely_slot(table, time, h, near);
     while i < n {
         if has_bytes(entry_at(table, i), i, store, slot, h) {

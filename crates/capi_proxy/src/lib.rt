@@ -74,6 +74,7 @@ impl From<Result<Option<Moved>, Refusal>> for QuestionNumbers {
     }
 }
 
+// By a number: it goes into a struct that C reads.
 fn refused_numbers(refusal: u8) -> RecordNumbers
     ensures { result ≡ refused_numbers refusal }
 {

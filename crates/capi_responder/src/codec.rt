@@ -111,6 +111,7 @@ fn setup_at(b: &[u8]) -> Setup
 // ---- what changes
 
 // A claim by its case, and when its next step is due.
+// By a number: the bytes of a state, which C keeps.
 fn claim_of(tag: u8, due: u64) -> ClaimState
     ensures { result ≡ claim_of tag due }
 {
@@ -172,6 +173,7 @@ fn set_flag(b: &[u8], at: usize, o: Own) -> bool
     flag(b, at + index_of(o))
 }
 
+// By an array of flags: Set::of, which calls a closure, has a `requires`, and so is no public function.
 fn set_at(b: &[u8], at: usize) -> Set
     requires { at < state_size }
     ensures { result ≡ set_at b.now at }

@@ -31,6 +31,7 @@ fn put_number(out: &mut [u8], at: usize, n: u64)
 }
 
 // A case byte and its number.
+// Two lines, as put_headed of trace: their clauses differ.
 fn put_case(out: &mut [u8], at: usize, tag: u8, n: u64)
     requires { at + layout.case_size ≤ length out.old }
     ensures { Laid out.old at (case_bytes tag n) out.new × Fits64 n }
@@ -39,6 +40,7 @@ fn put_case(out: &mut [u8], at: usize, tag: u8, n: u64)
     put_number(out, at + 1, n);
 }
 
+// By a number: the bytes of a state, which C keeps.
 fn claim_tag(c: ClaimState) -> u8
     ensures { result ≡ claim_tag c }
 {

@@ -41,6 +41,7 @@ pub struct TraceAnswer {
 }
 
 // An event of no kind: the trace's end, or its refusal.
+// By a number: it goes into a struct that C reads.
 fn no_event(refusal: u8, at: usize) -> TraceEvent
     ensures { result ≡ no_event refusal at }
 {
@@ -155,6 +156,7 @@ pub fn kurgashel_trace_check(trace: &[u8]) -> TraceAnswer
 }
 
 // The event of a kind with its numbers, none for a kind that there is not.
+// By numbers: they are what C hands in.
 fn told_by(
     kind: u8,
     time: u64,

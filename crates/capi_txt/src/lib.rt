@@ -20,6 +20,7 @@ pub struct Pair {
     pub length: usize,
 }
 
+// By a number: it goes into a struct that C reads.
 fn buffer_number(buffer: Buffer) -> u8
     ensures { result ≡ buffer_number buffer }
 {

@@ -32,6 +32,7 @@ pub struct Heard {
 // What a message says to the responder: it is a response; more known answers follow it (the TC bit); a question asks for the record, and one without the
 // unicast bit does (a QM question); an Answer record is the record, with at least half its TTL; and what it says to each claim. Of a query the conflicts do not
 // count, and of a response only they do.
+// Flags, and no enum of two kinds: the sets and both claims are read of either.
 #[derive(Clone, Copy)]
 pub struct Facts {
     pub response: bool,
@@ -164,6 +165,7 @@ fn is_to_asker(progress: Progress, f: Facts, now: u64, o: Own) -> bool
 }
 
 // Of the records that a message asks for those that go by unicast, if they go at all, or those that go by multicast.
+// By a flag, as the definition asked_by has it.
 fn asked_by(unicast: bool, progress: Progress, f: Facts, now: u64) -> Set
     ensures { result ≡ asked_by unicast progress f now }
 {

@@ -33,6 +33,7 @@ pub enum Place {
 }
 
 // The held queries, by their places.
+// Four fields, and no array: the definitions Holds, hold_at and queued are over them (R-HOLD-2).
 #[derive(Clone, Copy)]
 pub struct Holds {
     pub first: Hold,

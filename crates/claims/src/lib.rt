@@ -90,6 +90,7 @@ pub fn is_within(kept: Option<u64>, most: u64) -> bool
 }
 
 // The number of a claim's state: 0 waiting, 1 probing, 2 deferred, 3 held, 4 lost.
+// A function of this name, and no From in its place: docs/TRACEABILITY.md names it.
 pub fn state_number(c: ClaimState) -> u8
     ensures { result ≡ state_number c }
 {

@@ -38,6 +38,7 @@ const SHARED: u16 = 1;
 const UNIQUE: u16 = 0x8001;
 
 // A set of own records: whether it has each of them.
+// Seven fields, and no array: the definitions has and each are over them.
 #[derive(Clone, Copy)]
 pub struct Set {
     pub ptr: bool,

@@ -31,6 +31,7 @@ pub enum Step {
 pub const STEPS: usize = 7;
 
 // What a call sends: at most one packet.
+// No Option round the two: each case is told apart once, by one match.
 #[derive(Clone, Copy)]
 pub enum Output {
     Nothing,
@@ -39,6 +40,7 @@ pub enum Output {
 }
 
 // What a claim's step does, with the claim after it: nothing, a probe, the first announcement, the second.
+// No Option round the three: each case is told apart once, by one match.
 #[derive(Clone, Copy)]
 pub enum Action {
     Idle,
@@ -292,6 +294,7 @@ fn hold_turn(place: Place, aaaa: bool, now: u64, progress: Progress) -> Turn
 }
 
 // A step, if it is due.
+// A match, and no closures: the definitions step_turn and walked go by the three kinds.
 fn step_turn(s: Step, aaaa: bool, now: u64, progress: Progress) -> Turn
     ensures { result ≡ step_turn s aaaa now progress }
 {

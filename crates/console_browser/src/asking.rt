@@ -20,6 +20,7 @@ fn sent(packet: &[u8], more: bool, rt: &impl Print, text: &mut [u8; 4096]) {
 }
 
 // The answer of a tick that may send what stands at the start of the out buffer.
+// The refusal is a number: the console goes by the exported browser.
 fn shown(
     refusal: u8,
     length: usize,

@@ -36,6 +36,7 @@ pub fn at_first() -> BrowserNumbers
 }
 
 // Whether a word is one of these calls.
+// by same_bytes: of a pattern of bytes the proof knows their number alone
 #[tactic(auto, unfolding(crate::specs::Forms::is_browser_call))]
 pub fn is_call(word: &[u8]) -> bool
     ensures { result ≡ is_browser_call word.now }
@@ -44,6 +45,7 @@ pub fn is_call(word: &[u8]) -> bool
 }
 
 // Answers one of these calls, and tells the browser after it. Any other line is a bad one.
+// by same_bytes: of a pattern of bytes the proof knows their number alone
 #[tactic(auto, unfolding(crate::specs::Lines::browser_after))]
 pub fn call(
     line: &[u8],

@@ -41,6 +41,7 @@ pub fn at_first() -> Domains
 }
 
 // Whether a word is one of these calls.
+// by same_bytes: of a pattern of bytes the proof knows their number alone
 #[tactic(auto, unfolding(crate::specs::Lines::is_proxy_call))]
 pub fn is_call(word: &[u8]) -> bool
     ensures { result ≡ is_proxy_call word.now }

@@ -16,6 +16,7 @@ use responder::changes::{self, Updated};
 use wire::expansion::same_bytes;
 
 // `stop NOW`, with OUT or without: of the form of `tick`
+// Beside update and tick: the forms, the field of the room and the types of the answers differ.
 #[tactic(auto, unfolding(crate::specs::Lines::after_stop))]
 pub fn stop(
     line: &[u8],

@@ -16,6 +16,7 @@ use capi_cache::{LookedNumbers, TakenNumbers};
 pub const MOST_ENTRIES: usize = 513;
 
 // A table: its first entries, as many as it is said to have, and how many bytes its store has.
+// count and room may be more than there is, as a line says: the definitions lent_entries and lent_bytes cut by them.
 #[derive(Clone, Copy)]
 pub struct Table {
     pub entries: [Entry; 513],
@@ -45,6 +46,7 @@ pub fn least(a: usize, b: usize) -> usize
 }
 
 // Takes a message into the first `n` entries and all bytes of a store.
+// The thin form stays: the definition first_taken is its answer.
 fn take_first(
     es: [Entry; 513],
     n: usize,

@@ -18,6 +18,7 @@ pub fn is_number(line: &[u8], index: usize) -> bool
 }
 
 // A field of a line as a number, 0 where it is none.
+// No Option: the console's definitions rest on number_at, which has a number for every field.
 pub fn number(line: &[u8], index: usize) -> u64
     ensures { result ≡ number_at line.now index }
 {

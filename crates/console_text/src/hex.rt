@@ -42,6 +42,7 @@ fn digit(d: u8) -> u8
 }
 
 // Writes bytes as hex digits, or `-` for none, to the start of a buffer, and tells how many characters that is; nothing where they do not fit.
+// By digits of our own: text_in says what is spelled, which fmt's methods do not.
 pub fn spell(s: &[u8], out: &mut [u8]) -> usize
     ensures value { result ≡ length (text_in (length out.old) s.now) }
     ensures out_after { out.new ≡ sets out.old 0 (text_in (length out.old) s.now) }

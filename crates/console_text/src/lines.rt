@@ -12,6 +12,7 @@ pub fn arguments(line: &[u8]) -> usize
 }
 
 // The field with an index, 0 for the first; no bytes where there is none.
+// No Option: the console's definitions rest on fields_of with the empty field past the last.
 pub fn field(line: &[u8], index: usize) -> &[u8]
     ensures { result.now ≡ get_or (fields_of line.now) index [] }
 {

@@ -13,6 +13,7 @@ use console_calls::output::bad_line;
 use wire::expansion::same_bytes;
 
 // Whether a word is one of these calls.
+// by same_bytes: of a pattern of bytes the proof knows their number alone
 pub fn is_call(word: &[u8]) -> bool
     ensures { result ≡ is_trace_call word.now }
 {

@@ -15,6 +15,7 @@ const FIRST: usize = 2;
 const MOST_TRACE: usize = 131072;
 
 // Whether the fields of a line behind its size are events.
+// A walk each for the test, the size and the writing: what they keep and how they end differ.
 fn are_events(line: &[u8]) -> bool {
     let last = arguments(line);
     let mut at = FIRST;

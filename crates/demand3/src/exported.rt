@@ -18,6 +18,7 @@ pub fn start(state: &mut [u8], setup: &[u8], time: u64, draw: u64) -> Called
     capi_responder::kurgashel_start(state, setup, time, draw)
 }
 
+// Beside the one in the root: docs/DEMAND-3.md rests on the clause of each.
 pub fn receive(
     state: &mut [u8],
     time: u64,

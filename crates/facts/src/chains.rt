@@ -23,6 +23,7 @@ fn end_of(ends: &[u16], target: usize) -> usize
 }
 
 // What is to be noted of an offset: where the chain that goes on at its pointer's target ends, and 0 where no pointer stands.
+// A number, and no Option: an Option in each entry would double the table, and memory is fixed.
 fn end_from(p: &[u8], ends: &[u16], at: usize) -> u16
     requires p_len_bound { (length p.now ≤ 8972) × (at < length p.now) }
     requires ends { Ends p.now ends.now }
@@ -56,6 +57,7 @@ pub(crate) fn name_by(p: &[u8], ends: &[u16], at: usize, other: &[u8]) -> bool
     let mut start = at;
     let mut here = at;
     let mut used = 0;
+    // piece by piece: a pointer leads elsewhere, so that no `for` fits
     loop {
         match wire::name_pieces::piece_at(p, start, here, used) {
             Piece::Root => {

@@ -111,6 +111,7 @@ fn is_asked(p: &[u8], ends: &[u16], q: QuestionAt, setup: Setup, asked: Set, o: 
 }
 
 // The own records asked for before, and those that a question asks for.
+// By an array of flags: Set::of, which calls a closure, has a `requires`, and so is no public function.
 fn asked_with(p: &[u8], ends: &[u16], q: QuestionAt, setup: Setup, asked: Set) -> Set
     requires ends { Ends p.now ends.now }
     requires question_found { QuestionFound p.now q }
@@ -244,6 +245,7 @@ fn known_of(p: &[u8], ends: &[u16], l: Layout, setup: Setup) -> Set
 }
 
 // Whether a record conflicts with an own one: equal name, class 1 and type, a TTL that is not 0, and other rdata.
+// Not one with suppresses: the tests that cost least come first, and of these the TTL's differs.
 fn conflicts(p: &[u8], ends: &[u16], f: RecordAt, name: &[u8], rtype: u16, own: &[u8]) -> bool
     requires ends { Ends p.now ends.now }
     requires record_found { RecordFound p.now f }
@@ -330,6 +332,7 @@ fn can_conflict(rtype: u16) -> bool
 fn past_labels(p: &[u8], at: usize) -> usize
     ensures { (bs : List ℕ) (e : ℕ) → name_at p.now at ≡ name bs e → result ≡ e }
 {
+    // by strides of a label each, so that no `for` fits
     let mut here = at;
     while here < p.len() {
         let n = p[here] as usize;

@@ -110,6 +110,7 @@ pub fn is_shown(s: &[u8]) -> bool
     if all_plain(s) {
         return true;
     }
+    // by strides of a character each, so that no `for` fits
     let mut i = 0;
     while i < s.len() {
         let len = character(s, i);

@@ -83,6 +83,7 @@ fn claim(rt: &impl Print, text: &mut [u8; 4096], used: usize, k: u64) -> usize {
 }
 
 // Adds the state by its number.
+// By the number, which a line has: a Display of the state would need the enum back.
 fn state(rt: &impl Print, text: &mut [u8; 4096], used: usize, number: u64) -> usize {
     let name: &[u8] = match number {
         0 => b"waiting",

@@ -21,6 +21,7 @@ const ROOM: usize = writer::own_packets::LEAST_OUT;
 
 // What was recorded of a claim: the last time, the claim by its number, 0 for the instance's and 1 for the host's, its state by its number, and whether the
 // responder agrees.
+// Numbers, and no enums: a C struct shows them, and a recorded claim is compared by them.
 #[derive(Clone, Copy)]
 pub struct Line {
     pub last: u64,
@@ -31,6 +32,7 @@ pub struct Line {
 
 // What playing from an offset came to: the trace's end, its refusal with the offset, a call that was made, or a line; the latter two with the offset behind
 // them.
+// Four cases, and no Result of an Option: its callers tell them apart in one match each.
 #[derive(Clone, Copy)]
 pub enum Turn {
     End,
@@ -100,6 +102,7 @@ fn made_with(answer: Answer, state: State) -> Made
     }
 }
 
+// A function for each call: every call answers a struct of its own.
 fn tick(state: State, time: u64) -> Made
     ensures { result ≡ made_by state (ticked (tick_of time)) }
 {

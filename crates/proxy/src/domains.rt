@@ -25,6 +25,7 @@ fn starts_at(name: &[u8], at: usize) -> bool
     requires { at ≤ length name.now }
     ensures { result ≡ starts_at 0 at name.now }
 {
+    // by strides of a label each, so that no `for` fits
     let mut i = 0;
     while i < at {
         i = i + 1 + name[i] as usize;

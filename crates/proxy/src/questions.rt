@@ -9,6 +9,7 @@ use wire::names::is_name;
 use wire::refusals::Refusal;
 
 // The types that are a zone's own, found at an apex alone (RFC 1035, RFC 4034).
+// Numbers, and no enum: a question may have any of 65,536 types, and each is handed on.
 pub const NS: u16 = 2;
 
 pub const SOA: u16 = 6;

@@ -9,6 +9,7 @@ use wire::octets::be32;
 const MAPPED: u64 = 281470681743360;
 
 // An address of 16 bytes, or of the 4 of IPv4; bytes of another number are those of no address, `::`.
+// No Option: the definition has an address for every number of bytes. By if: a match on the number gave the proof no fact in its last arm.
 pub fn address_of(bytes: &[u8]) -> Address
     ensures { result ≡ address_of bytes.now }
 {

@@ -114,6 +114,7 @@ fn be64(trace: &[u8], at: usize) -> u64
 }
 
 // The record of a claim's state, where both are in range.
+// Numbers, and no enums: writing answers 12 for a claim above 1 and a state above 4 (claim_size).
 fn claim_of(last: u64, claim: u8, state: u8) -> Option<Record>
     ensures { result ≡ claim_of last claim state }
 {

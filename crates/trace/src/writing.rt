@@ -69,6 +69,7 @@ fn packet_size(source: usize, port: u64, draw: u64, len: usize) -> Result<usize,
 }
 
 // The size of a claim's record.
+// Numbers, and no enums: one that no claim or state has is handed in, and refused as 12.
 fn claim_size(claim: u64, state: u64) -> Result<usize, Unfit>
     ensures { result ≡ claim_size claim state }
 {

@@ -27,8 +27,8 @@ pub struct Held {
     pub len: usize,
 }
 
-// What a lookup answers: refused with its number, absent, present without value, empty value, or the value itself. The number and no `Refusal`: `part_of` takes an
-// answer with any.
+// What a lookup answers: refused with its number, absent, present without value, empty value, or the value itself. All five in one enum (R-FORM-8), and the
+// number, no `Refusal`: `part_of` takes an answer with any.
 #[derive(Clone, Copy)]
 pub enum Answer {
     Refused(u8),
@@ -111,6 +111,7 @@ fn find(key: &[u8], txt: &[u8], buffer: Buffer) -> Answer
     requires { strings_fill 0 txt.now ≡ true }
     ensures { result ≡ in_txt buffer key.now txt.now }
 {
+    // by strides of a string each, so that no `for` fits
     let mut at = 0;
     while at < txt.len() {
         let start = at + 1;

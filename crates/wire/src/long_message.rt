@@ -17,6 +17,7 @@ use crate::refusals::Refusal;
 
 // Notes how long each name is to which a pointer of the name at `at` leads, up to that at `last`, as far as it is not noted yet; `len` is the length of the
 // name at `at` itself.
+// A byte for each offset, and no Option: memory is fixed, and the table is cleared for each long message.
 fn note(p: &[u8], at: usize, len: usize, last: usize, noted: &mut [u8; 8972])
     requires p_len_bound { length p.now ≤ 8972 }
     requires len_nonzero { 0 < len }
@@ -27,6 +28,7 @@ fn note(p: &[u8], at: usize, len: usize, last: usize, noted: &mut [u8; 8972])
     let mut start = at;
     let mut here = at;
     let mut used = 0;
+    // piece by piece: a pointer leads elsewhere, so that no `for` fits
     loop {
         match piece_at(p, start, here, used) {
             Piece::Root => {
@@ -66,6 +68,7 @@ fn past_name(p: &[u8], at: usize, noted: &mut [u8; 8972]) -> Option<usize>
     let mut used = 0;
     // past the first pointer, and 0 until one has been followed
     let mut end = 0;
+    // piece by piece: a pointer leads elsewhere, so that no `for` fits
     loop {
         match piece_at(p, start, here, used) {
             Piece::Root => {
@@ -219,6 +222,7 @@ fn past_record(p: &[u8], at: usize, noted: &mut [u8; 8972]) -> Option<usize>
 }
 
 // Past so many questions.
+// A loop for each list: one with a closure would need a type parameter and a law of the closure.
 fn questions_end(p: &[u8], at: usize, count: u16, noted: &mut [u8; 8972]) -> Option<usize>
     requires p_len_bound { length p.now ≤ 8972 }
     requires noted { Noted p.now noted.old }
@@ -247,6 +251,7 @@ fn records_end(p: &[u8], at: usize, count: u16, noted: &mut [u8; 8972]) -> Optio
 }
 
 // The sections of a packet that is long enough for a header.
+// Not one with message::read_sections: each step here hands the notes on.
 fn read_sections(p: &[u8]) -> Result<Layout, Refusal>
     requires { length p.now ≤ 8972 }
     ensures { result ≡ read_of (sections_of p.now) }

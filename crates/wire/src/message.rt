@@ -153,6 +153,7 @@ fn past_record(p: &[u8], at: usize) -> Option<usize>
 }
 
 // Past so many questions.
+// A loop for each list: one with a closure would need a type parameter and a law of the closure.
 fn questions_end(p: &[u8], at: usize, count: u16) -> Option<usize>
     ensures { result ≡ past_list (list_from (question_at p.now) count at) }
 {
@@ -228,6 +229,7 @@ fn read_sections(p: &[u8]) -> Result<Layout, Refusal>
 }
 
 // The whole message: refused as 4, 5 or 6, in this order, or where its sections lie.
+// Beside read_from and read_long: the order of the refusals differs.
 pub fn read_message(p: &[u8]) -> Result<Layout, Refusal>
     ensures answer { result ≡ read_of (message_at p.now) }
     ensures number { refusal_of result ≡ packet_refusal p.now }

@@ -194,6 +194,7 @@ pub fn name_at(p: &[u8], at: usize) -> Option<Span>
     let mut labels = 0;
     // the length of the first label, and 0 until one has been read
     let mut first = 0;
+    // piece by piece: a pointer leads elsewhere, so that no `for` fits
     loop {
         match piece_at(p, start, here, used) {
             Piece::Root => {
@@ -232,6 +233,7 @@ pub fn name_is(p: &[u8], at: usize, other: &[u8]) -> bool
     let mut start = at;
     let mut here = at;
     let mut used = 0;
+    // piece by piece: a pointer leads elsewhere, so that no `for` fits
     loop {
         match piece_at(p, start, here, used) {
             Piece::Root => {

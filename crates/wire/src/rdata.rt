@@ -60,6 +60,7 @@ pub struct SrvAt {
 }
 
 // How many bytes the address of a type has: 4 of an A, 16 of an AAAA, and 0 where it has none.
+// A number, and no Option: the definition has one for every type, and a length is compared with it.
 fn address_bytes(rtype: u16) -> usize
     ensures { result ≡ address_bytes rtype }
 {

@@ -13,6 +13,7 @@ use crate::rdata::part;
 
 // A name that was read: its span, and two runs of labels in the message. The first that is not empty has `front` bytes from `from` on, the last one has
 // `rest` bytes from `start` on, the zero byte with them. Whether the two are the whole name is told: whether no other is between them.
+// A flag, and no Option: no value stands or falls with it.
 #[derive(Clone, Copy)]
 struct Runs {
     span: Span,
@@ -47,6 +48,7 @@ fn runs_at(p: &[u8], at: usize) -> Option<Runs>
     let mut labels = 0;
     // the length of the first label, and 0 until one has been read
     let mut first = 0;
+    // piece by piece: a pointer leads elsewhere, so that no `for` fits
     loop {
         match piece_at(p, start, here, used) {
             Piece::Root => {

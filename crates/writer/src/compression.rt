@@ -38,6 +38,7 @@ pub fn place_of(p: &[u8], s: &[u8], places: &[usize]) -> Option<usize>
 pub fn cut_of(p: &[u8], places: &[usize], name: &[u8]) -> Cut
     ensures { result ≡ cut_of p.now places.now name.now }
 {
+    // by strides of a label each, so that no `for` fits
     let mut i = 0;
     while i < name.len() {
         let n = name[i] as usize;

@@ -66,6 +66,7 @@ fn note_starts(places: &mut [usize], count: usize, at: usize, s: &[u8]) -> usize
     ensures places_after { places.new ≡ sets places.old count (starts at 0 s.now) }
 {
     let mut next = count;
+    // by strides of a label each, so that no `for` fits
     let mut i = 0;
     while i < s.len() {
         let n = s[i] as usize;

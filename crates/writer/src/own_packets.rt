@@ -46,6 +46,7 @@ pub struct Asked {
 // How a packet of own records is written: its header, the type and the class of the question in front, if there is one, the section of the records
 // (Authority, else Answers), the TTL of all of them (none: each has its own), whether those that are not shared have the class's top bit, and whether the
 // target of the SRV is written whole.
+// The flags choose what is written: no value stands or falls with them.
 #[derive(Clone, Copy)]
 pub struct Style {
     pub id: u16,

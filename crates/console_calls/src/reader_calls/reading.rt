@@ -72,6 +72,7 @@ fn record(
 }
 
 // Adds the questions of a message.
+// A loop each for questions and records: one with a closure would be no shorter.
 fn questions(p: &[u8], s: Section, rt: &impl Print, text: &mut [u8; 4096], used: usize) -> usize {
     let mut taken = used;
     let mut at = s.at;
