@@ -11,7 +11,8 @@ pub mod service;
 
 ghost use Rattle.std.specs.Prelude.{◌≡◌, ◌||◌, ◌≤◌, length};
 ghost use Rattle.browser.specs.service.Sound.{Sound};
-ghost use Rattle.browser.specs.Calls.{refusal_of, is_owed, blank, wrong_draws, wrong_browser, wrong_time, start_refusal, start_of, Ticks, resumed, asked, due_of};
+ghost use Rattle.browser.specs.Calls.{refusal_of, is_owed, blank, wrong_draws, wrong_browser, wrong_time, start_refusal, start_of};
+ghost use Rattle.browser.specs.Calls.{Ticks, resumed, asked, due_of};
 ghost use Rattle.browser.specs.Steps.{tick_refusal_with, look_refusal_with, owed_start, asked_start, Ends, refused_tick, refused_due, due_with};
 
 use crate::known_answers::Plan;

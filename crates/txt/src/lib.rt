@@ -7,7 +7,8 @@ ghost use Rattle.wire.specs.refusals.Numbers.{refused_by};
 ghost use Rattle.wire.specs.rdata.Rdata.{strings_fill};
 ghost use Rattle.wire.specs.rdata.Answers.{start_in};
 ghost use Rattle.txt.specs.Txt.{key_of, has_key};
-ghost use Rattle.txt.specs.Lookup.{bad_byte, bad_key, lookup_tests, refusal_of, given_by, in_txt, lookup_of, number_of, part_of, shown_of, holder, bytes_of, stands_from};
+ghost use Rattle.txt.specs.Lookup.{bad_byte, bad_key, lookup_tests, refusal_of, given_by, in_txt, lookup_of, number_of, part_of, shown_of};
+ghost use Rattle.txt.specs.Lookup.{holder, bytes_of, stands_from};
 
 use wire::rdata::{part, strings_fill};
 use wire::refusals::Refusal;
