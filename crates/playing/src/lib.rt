@@ -83,7 +83,7 @@ fn refusal_of(answer: Answer) -> u8
     ensures { result ≡ refusal_of answer }
 {
     match answer {
-        Answer::Refused(number) => number,
+        Answer::Refused(refusal) => refusal.number(),
         Answer::Quiet => 0,
         Answer::Sent(_) => 0,
         Answer::Unicast(_) => 0,
