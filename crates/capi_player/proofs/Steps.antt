@@ -11,13 +11,14 @@ use Rattle.trace.specs.reading.Reading.{Step, step_at}
 use Rattle.trace.specs.reading.Events.{Occurrence, occurrence, data_in}
 use Rattle.trace.specs.declared.reading.Event.{Event}
 use Rattle.trace.specs.declared.reading.Event.TheVariants as event
+use Rattle.trace.specs.declared.reading.Entry.{Entry}
 use Rattle.trace.proofs.Numbers.{Bytes}
 use Rattle.trace.proofs.EventsWritten.{wrote}
 use Rattle.responder.specs.declared.State.{State}
 use Rattle.responder.specs.Runs.{received, ticked, stopped, updated}
-use Rattle.playing.specs.Playing.{room, arrival_of, tick_of, update_of, call_of, state_behind, refusal_behind, turn_of, port_fits, played_by, played_at}
+use Rattle.playing.specs.Playing.{room, arrival_of, tick_of, update_of, call_of, state_behind, refusal_behind, number_for, turn_of, port_fits, played_by, played_at}
 use Rattle.playing.specs.declared.Played.{Played}
-use Rattle.playing.proofs.Laws.{fits-port}
+use Rattle.playing.proofs.Laws.{fits-port, number_behind}
 use Rattle.capi_responder.specs.codec.Codec.{decode}
 use Rattle.capi_responder.proofs.States.{same_received, same_ticked, same_stopped}
 use Rattle.capi_player.specs.Laid.{Lays}
@@ -78,18 +79,25 @@ module _ (b : List ℕ) (l : is_state b ≡ true) (bytes : Bytes b) where
 -- ---- what stands at an offset
 
 module _ (b p : List ℕ) where
-  step_kept : (x : Step) → is_taken (played_by p (decode b) x).turn (played_by p (decode b) x).refusal ≡ false → Stepped b p x b
+  -- a call is taken by the number of its refusal
+  of_number : (e : Entry)
+      → is_taken (turn_of (decode b) e.event e.next) (refusal_behind (decode b) (occurrence e.event (data_in p e)))
+      ≡ is_taken (played_by p (decode b) (Ok (Some e))).turn (number_for (played_by p (decode b) (Ok (Some e))).refusal)
+  of_number e = ap (is_taken (turn_of (decode b) e.event e.next)) (sym (number_behind (decode b) (occurrence e.event (data_in p e))))
+
+  step_kept : (x : Step) → is_taken (played_by p (decode b) x).turn (number_for (played_by p (decode b) x).refusal) ≡ false → Stepped b p x b
   step_kept (Ok None) h = record { bytes = refl; says = refl }
-  step_kept (Ok (Some e)) h = let k = event_kept b e.event (data_in p e) e.next h in record { bytes = k.bytes; says = k.says }
+  step_kept (Ok (Some e)) h =
+      let k = event_kept b e.event (data_in p e) e.next (of_number e ∙ h) in record { bytes = k.bytes; says = k.says }
   step_kept (Err r) h = record { bytes = refl; says = refl }
 
   module _ (l : is_state b ≡ true) (bytes : Bytes b) (trace : Bytes p) (at : ℕ) {b' : List ℕ} where
-    step-taken : (x : Step) → step_at p at ≡ x → is_taken (played_by p (decode b) x).turn (played_by p (decode b) x).refusal ≡ true
+    step-taken : (x : Step) → step_at p at ≡ x → is_taken (played_by p (decode b) x).turn (number_for (played_by p (decode b) x).refusal) ≡ true
         → Lays b (played_by p (decode b) x).state b' → Stepped b p x b'
     step-taken (Ok None) e h w = clash h
     step-taken (Ok (Some v)) e h w =
         let f = fits-port v.event (data_in p v) (wrote p trace at v e).fits in
-        let k = event_taken b l bytes v.event (data_in p v) v.next f h w in
+        let k = event_taken b l bytes v.event (data_in p v) v.next f (of_number v ∙ h) w in
         record { bytes = k.bytes; says = k.says }
     step-taken (Err r) e h w = clash h
 
@@ -100,16 +108,16 @@ module _ (b p : List ℕ) (at : ℕ) {r : PlayedTurn} where
   unfolding answer_of bytes_played state_played
   no_state_lem f e = record { answers = simp f e; bytes = simp f; says = simp f }
 
-  module _ (l : is_state b ≡ true) {s : State} {x : Played} {t : Bool} (is_state_lem : s ≡ decode b) (is-played : x ≡ played_at p at s)
-      (is-test : t ≡ is_taken x.turn x.refusal) (is-told : r ≡ turn_numbers x.turn x.refusal at) where
+  module _ (l : is_state b ≡ true) {s : State} {x : Played} {n : ℕ} {t : Bool} (is_state_lem : s ≡ decode b) (is-played : x ≡ played_at p at s)
+      (is-number : n ≡ number_for x.refusal) (is-test : t ≡ is_taken x.turn n) (is-told : r ≡ turn_numbers x.turn n at) where
     played : x ≡ played_at p at (decode b)
     played = is-played ∙ ap (played_at p at) is_state_lem
 
-    test : t ≡ is_taken (played_at p at (decode b)).turn (played_at p at (decode b)).refusal
-    test = is-test ∙ ap (λ (y : Played). is_taken y.turn y.refusal) played
+    test : t ≡ is_taken (played_at p at (decode b)).turn (number_for (played_at p at (decode b)).refusal)
+    test = is-test ∙ ap (is_taken x.turn) is-number ∙ ap (λ (y : Played). is_taken y.turn (number_for y.refusal)) played
 
-    told : r ≡ turn_numbers (played_at p at (decode b)).turn (played_at p at (decode b)).refusal at
-    told = is-told ∙ ap (λ (y : Played). turn_numbers y.turn y.refusal at) played
+    told : r ≡ turn_numbers (played_at p at (decode b)).turn (number_for (played_at p at (decode b)).refusal) at
+    told = is-told ∙ ap (λ (k : ℕ). turn_numbers x.turn k at) is-number ∙ ap (λ (y : Played). turn_numbers y.turn (number_for y.refusal) at) played
 
     plays : {b' : List ℕ} → Stepped b p (step_at p at) b' → Plays b p at r b'
     unfolding answer_of bytes_played state_played played_at

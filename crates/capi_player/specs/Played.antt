@@ -5,7 +5,7 @@ use Rattle.responder.specs.Runs.{Call}
 use Rattle.responder.specs.declared.State.{State}
 use Rattle.trace.specs.reading.Reading.{Step, step_at}
 use Rattle.trace.specs.reading.Events.{occurrence, data_in}
-use Rattle.playing.specs.Playing.{call_of, played_at}
+use Rattle.playing.specs.Playing.{call_of, number_for, played_at}
 use Rattle.playing.specs.declared.Turn.{Turn}
 use Rattle.playing.specs.declared.Turn.TheVariants as turn
 use Rattle.capi_responder.specs.codec.Layout.{state_size}
@@ -42,7 +42,7 @@ abbrev pub is_state : List ℕ → Bool
 is_state b = eqb (length b) state_size
 
 unfoldable pub answer_of : List ℕ → List ℕ → ℕ → PlayedTurn
-answer_of b p at = cond (is_state b) (turn_numbers (played_at p at (decode b)).turn (played_at p at (decode b)).refusal at) (no_state at)
+answer_of b p at = cond (is_state b) (turn_numbers (played_at p at (decode b)).turn (number_for (played_at p at (decode b)).refusal) at) (no_state at)
 
 -- ---- the state
 

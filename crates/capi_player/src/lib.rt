@@ -8,7 +8,7 @@ ghost use Rattle.capi_player.specs.Played.{is_taken, no_state, turn_numbers, Pla
 
 use capi_responder::layout;
 use own::records::{MOST_TXT, Setup};
-use playing::Turn;
+use playing::{Turn, refusal_number};
 use responder::State;
 use wire::buffer::put;
 use wire::refusals::Refusal;
@@ -124,8 +124,9 @@ pub fn kurgashel_play(state: &mut [u8], trace: &[u8], at: usize) -> PlayedTurn
         return no_state(at);
     }
     let played = playing::play(trace, at, capi_responder::codec::read_state(state));
-    if is_taken(played.turn, played.refusal) {
+    let call = refusal_number(played.refusal);
+    if is_taken(played.turn, call) {
         put_state(state, played.state);
     }
-    turn_numbers(played.turn, played.refusal, at)
+    turn_numbers(played.turn, call, at)
 }

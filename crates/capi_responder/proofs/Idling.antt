@@ -8,6 +8,9 @@ use borrow.Author.Tests.{leb-true, le-ltb, eqb-true, not-true}
 use lib.Dec.{leb, ltb, eqb}
 use lib.ListN.{length, take}
 use lib.Seq.{take-add}
+use Rattle.std.specs.Prelude.{Ok}
+use Rattle.wire.specs.refusals.Numbers.{refused_by}
+use Rattle.wire.proofs.refusals.Tests.{none_by}
 use Rattle.own.specs.records.Setups.{valid_setup}
 use Rattle.claims.specs.Time.{last_time}
 use Rattle.claims.specs.Refusals.{wrong_time}
@@ -19,7 +22,7 @@ use Rattle.claims.proofs.due.Waiting.{idle_tick}
 use Rattle.responder.specs.declared.State.{State}
 use Rattle.responder.specs.declared.Answer.TheVariants.{Quiet}
 use Rattle.responder.specs.Handed.{Tick}
-use Rattle.responder.specs.Refusals.{small_buffer, wrong_state, tick_refusal}
+use Rattle.responder.specs.Refusals.{small_buffer, wrong_state, tick_tests, tick_refusal}
 use Rattle.responder.specs.Calls.{packet_for, walked_of, ticked_packet, tick_of}
 use Rattle.responder.specs.Runs.{ticked}
 use Rattle.capi_responder.specs.codec.Numbers.{bytes64}
@@ -96,6 +99,10 @@ module _ (b : List ℕ) (bytes : Bytes b) (time room : ℕ) (idle : is_idle b ti
   unfolding tick_refusal
   accepted = let w : _ = right_time in let s : _ = right_state in let o : _ = i.roomy in rw is_state_lem (simp (w, o, s))
 
+  passed : refused_by (tick_tests (decode b) t) ≡ Ok tt
+  unfolding tick_refusal
+  passed = none_by (tick_tests (decode b) t) accepted
+
   walks : ◌≡◌ {A = walked.Ticked} (walked_of (decode b) time) (record { progress = with_last time (decode b).progress; output = Nothing; more = false })
   walks = rw is_state_lem (idle_tick (progress_at b) time (setup_at b).hasaaaa r.quiet)
 
@@ -104,7 +111,8 @@ module _ (b : List ℕ) (bytes : Bytes b) (time room : ℕ) (idle : is_idle b ti
   gives out =
       let z : _ = accepted in
       let w : _ = walks in
-      record { is-answer = simp (z, w); is-more = simp (z, w); is-after = simp (z, w); is-out = simp (z, w) }
+      let p : _ = passed in
+      record { is-answer = simp (p, z, w); is-more = simp (z, w); is-after = simp (z, w); is-out = simp (z, w) }
 
   -- the bytes up to the time of the last call are those that would be written
   front : progress_bytes after ≡ take 263 (progress_bytes (progress_at b)) ++ bytes64 time

@@ -40,7 +40,7 @@ fn refusal_of(answer: Answer) -> u8
     ensures { result ≡ refusal_of answer }
 {
     match answer {
-        Answer::Refused(number) => number,
+        Answer::Refused(refusal) => refusal.number(),
         Answer::Quiet | Answer::Sent(_) | Answer::Unicast(_) | Answer::Both(_, _) => 0,
     }
 }

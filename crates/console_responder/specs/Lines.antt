@@ -30,7 +30,7 @@ unstarted = (start_of (setup_told []) 0 0).state
 
 -- an accepted start replaces the responder, a refused one changes nothing
 abbrev pub started_or : State → Answer → State → State
-started_or s (Refused n) begun = s
+started_or s (Refused refusal) begun = s
 started_or s Quiet begun = begun
 started_or s (Sent n) begun = begun
 started_or s (Unicast n) begun = begun

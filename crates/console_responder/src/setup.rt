@@ -141,8 +141,8 @@ pub fn start(line: &[u8], held: State, rt: &impl Print, text: &mut [u8; 4096]) -
         return held;
     }
     let started = responder::start(told(line), number(line, 1), number(line, 2));
-    if let Answer::Refused(n) = started.answer {
-        refused(rt, text, n as u64);
+    if let Answer::Refused(refusal) = started.answer {
+        refused(rt, text, refusal.number() as u64);
         return held;
     }
     only(rt, text, b"started");

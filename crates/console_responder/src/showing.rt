@@ -46,7 +46,7 @@ pub fn shown(
     text: &mut [u8; 4096],
 ) {
     match answer {
-        Answer::Refused(n) => refused(rt, text, n as u64),
+        Answer::Refused(refusal) => refused(rt, text, refusal.number() as u64),
         Answer::Quiet => only(rt, text, b"quiet"),
         Answer::Sent(n) => sent(front(out, n), more, rt, text),
         Answer::Unicast(m) => replied(front(unicast, m), rt, text),

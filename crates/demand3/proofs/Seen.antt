@@ -8,23 +8,26 @@ use native.Mathlib.Omega.{arith}
 use lib.ListN.{length, take, drop}
 use lib.Dec.{eqb}
 use lib.Seq.{take_at, drop_at}
-use borrow.Author.Tests.{ne_eqb}
+use Rattle.std.specs.Prelude.{Result, Ok, Err}
+use Rattle.wire.specs.refusals.Numbers.{number_in, refused_by}
+use Rattle.wire.specs.declared.refusals.Refusal.{Refusal}
 use Rattle.own.specs.declared.records.Setup.{Setup}
+use Rattle.own.specs.changes.Changes.{revised}
 use Rattle.writer.specs.own_packets.Own.{laid_over}
 use Rattle.responder.specs.Handed.{Arrival, Tick}
-use Rattle.responder.specs.Refusals.{start_refusal, receive_refusal, tick_refusal}
+use Rattle.responder.specs.Refusals.{start_tests, start_refusal, receive_tests, receive_refusal, tick_tests, tick_refusal}
 use Rattle.responder.specs.Calls as calls
 use Rattle.responder.specs.Calls.{refusal_of, length_of, unicast_length_of, answer_of, start_state, start_of, received_packet, unicast_packet, receive_of, ticked_packet, tick_of}
 use Rattle.responder.specs.Runs.{Call, received, ticked, stopped, updated, answer_to, state_after, packet_of}
 use Rattle.responder.specs.changes.Changes as changes
-use Rattle.responder.specs.changes.Changes.{stopped_packet, stop_of, Update, refusal_to, packet_to, update_to, update_refusal, updated_packet, update_of}
+use Rattle.responder.specs.changes.Changes.{stopped_packet, stop_of, Update, update_tests, refusal_to, packet_to, update_to, update_refusal, updated_packet, update_of}
 use Rattle.responder.specs.declared.changes.Stopped.{Stopped}
 use Rattle.responder.specs.declared.changes.Updated.{Updated}
 use Rattle.responder.specs.declared.State.{State}
 use Rattle.responder.specs.declared.Started.{Started}
 use Rattle.responder.specs.declared.Received.{Received}
 use Rattle.responder.specs.declared.Ticked.{Ticked}
-use Rattle.responder.proofs.Refusals.{call-number, call_length, call-reply, refused_keeps}
+use Rattle.responder.proofs.Refusals.{not_0, call-number, call_length, call-reply, refused_keeps, receive-by, tick-by, update-by}
 use Rattle.capi_responder.specs.codec.Codec.{decode}
 use Rattle.capi_responder.specs.declared.Called.{Called}
 use Rattle.capi_responder.specs.Exported as exported
@@ -36,18 +39,15 @@ use Rattle.uniqueness.specs.Responder.{sends, back_to, sent_for, begun_by, answe
 use Rattle.uniqueness.proofs.Calls.{accepted_with}
 use Rattle.demand3.specs.Seen.{begun_as, Answers, Calls, Receives}
 
-positive : (n : ℕ) → eqb (suc n) 0 ≡ false
-positive n = ne_eqb (suc n) 0 (λ e. absurd (omega arith))
-
 -- ---- a start
 
-begun-as : (n : ℕ) (x : State) → begun_by (answer_of n [] []) x ≡ begun_as (refusal_of (answer_of n [] [])) x
-begun-as zero x = refl
-begun-as (suc n) x = rw (positive n) (rw (positive n) refl)
+begun-as : (r : Result (Unit {0}) Refusal) (x : State) → begun_by (answer_of r [] []) x ≡ begun_as (refusal_of (answer_of r [] [])) x
+begun-as (Ok u) x = refl
+begun-as (Err refusal) x = rw (not_0 refusal refl) refl
 
 start-as : (s : Setup) (time draw : ℕ) → start s time draw ≡ begun_as (refusal_of (start_of s time draw).answer) (start_of s time draw).state
 unfolding start start_of
-start-as s time draw = begun-as (start_refusal s time draw) (start_state (start_refusal s time draw) s time draw)
+start-as s time draw = begun-as (refused_by (start_tests s time draw)) (start_state (start_refusal s time draw) s time draw)
 
 pub start_seen : (s : Setup) (time draw : ℕ) (r : Started) → r ≡ start_of s time draw → start s time draw ≡ begun_as (refusal_of r.answer) r.state
 start_seen s time draw r e = start-as s time draw ∙ ap (λ (v : Started). begun_as (refusal_of v.answer) v.state) (sym e)
@@ -55,14 +55,14 @@ start_seen s time draw r e = start-as s time draw ∙ ap (λ (v : Started). begu
 -- ---- a call that may send, by its refusal n, its packets p and q, what it sends and the state y that it leaves
 
 shown :
-    (x : State) (n : ℕ) (p q : List ℕ) (y : State) (ps : List Parcel) → (eqb n 0 ≡ false → y ≡ x) → Answers (answered_by (answer_of n p q) y ps) x n y ps
+    (x : State) (r : Result (Unit {0}) Refusal) (n : ℕ) → number_in r ≡ n → (p q : List ℕ) (y : State) (ps : List Parcel) → (eqb n 0 ≡ false → y ≡ x)
+    → Answers (answered_by (answer_of r p q) y ps) x n y ps
 unfolding returned
-shown x zero p q y ps keeps =
-    let e : answered_by (answer_of zero p q) y ps ≡ link.accepted y ps = accepted_with (length p) (length q) y ps in
+shown x (Ok u) zero i p q y ps keeps =
+    let e : answered_by (answer_of (Ok u) p q) y ps ≡ link.accepted y ps = accepted_with (length p) (length q) y ps in
     record { seen = e; next = ap (returned responder x) e }
-shown x (suc n) p q y ps keeps =
-    let e : answered_by (answer_of (suc n) p q) y ps ≡ link.refused = rw (positive n) refl in
-    record { seen = e ∙ rw (positive n) refl; next = ap (returned responder x) e ∙ sym (keeps (positive n)) }
+shown x (Ok u) (suc n) i p q y ps keeps = absurd (omega (arith, i))
+shown x (Err refusal) n i p q y ps keeps = record { seen = rw (not_0 refusal i) refl; next = sym (keeps (not_0 refusal i)) }
 
 -- the record's answer to a call, and what it sends
 abbrev pub answered : State → Call → link.Answer State
@@ -81,16 +81,20 @@ call-as : (x : State) (c : Call) → Answers (answered x c) x (refusal_of (answe
 unfolding receive receive_of tick tick_of stop stop_of update update_of update_to update_refusal updated_packet
 call-as x (received a) =
     subst (λ (n : ℕ). Answers (receive x a) x n (receive_of x a).state (sent_for x a)) (sym (call-number x (received a)))
-    (shown x (receive_refusal x a) (received_packet x a) (unicast_packet x a) (receive_of x a).state (sent_for x a) (λ h. (refused_keeps x (received a) h).0))
+    (shown x (refused_by (receive_tests x a)) (receive_refusal x a) (receive-by x a) (received_packet x a) (unicast_packet x a)
+    (receive_of x a).state (sent_for x a) (λ h. (refused_keeps x (received a) h).0))
 call-as x (ticked t) =
     subst (λ (n : ℕ). Answers (tick x t) x n (tick_of x t).state (sends everyone (ticked_packet x t))) (sym (call-number x (ticked t)))
-    (shown x (tick_refusal x t) (ticked_packet x t) [] (tick_of x t).state (sends everyone (ticked_packet x t)) (λ h. (refused_keeps x (ticked t) h).0))
+    (shown x (refused_by (tick_tests x t)) (tick_refusal x t) (tick-by x t) (ticked_packet x t) [] (tick_of x t).state (sends everyone (ticked_packet x t))
+    (λ h. (refused_keeps x (ticked t) h).0))
 call-as x (stopped t) =
     subst (λ (n : ℕ). Answers (stop x t) x n (stop_of x t).state (sends everyone (stopped_packet x t))) (sym (call-number x (stopped t)))
-    (shown x (tick_refusal x t) (stopped_packet x t) [] (stop_of x t).state (sends everyone (stopped_packet x t)) (λ h. (refused_keeps x (stopped t) h).0))
+    (shown x (refused_by (tick_tests x t)) (tick_refusal x t) (tick-by x t) (stopped_packet x t) [] (stop_of x t).state (sends everyone (stopped_packet x t))
+    (λ h. (refused_keeps x (stopped t) h).0))
 call-as x (updated u) =
     subst (λ (n : ℕ). Answers (update x u) x n (update_of x u).state (sends everyone (updated_packet x u))) (sym (call-number x (updated u)))
-    (shown x (update_refusal x u) (updated_packet x u) [] (update_of x u).state (sends everyone (updated_packet x u)) (λ h. (refused_keeps x (updated u) h).0))
+    (shown x (refused_by (update_tests x u.time u.room (revised x.setup u.new))) (update_refusal x u) (update-by x u.time u.room (revised x.setup u.new))
+    (updated_packet x u) [] (update_of x u).state (sends everyone (updated_packet x u)) (λ h. (refused_keeps x (updated u) h).0))
 
 -- ---- a packet in a buffer
 

@@ -145,7 +145,7 @@ fn run(line: &[u8], trace: &[u8], rt: &(impl Print + Eprint), text: &mut [u8; 40
     }
     let started = responder::start(told(line), number(line, 1), number(line, 2));
     match started.answer {
-        Answer::Refused(n) => refused(rt, n),
+        Answer::Refused(refusal) => refused(rt, refusal.number()),
         _ => checked(trace, started.state, rt, text),
     }
 }

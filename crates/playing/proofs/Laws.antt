@@ -7,10 +7,14 @@ use borrow.Author.Tests.{le-leb}
 use lib.ListN.{length, take, drop, replicate}
 use lib.Seq.{sets, take_at}
 use Rattle.wire.proofs.octets.Sets.{filled}
-use Rattle.std.specs.Prelude.{Some, Ok}
+use Rattle.std.specs.Prelude.{Option, Some, None, Ok}
+use Rattle.responder.specs.Calls.{refusal_of}
+use Rattle.responder.specs.Runs.{Call, answer_to}
 use Rattle.responder.specs.declared.State.{State}
+use Rattle.responder.specs.declared.Answer.{Answer}
+use Rattle.responder.specs.declared.Answer.TheVariants.{Refused, Quiet, Sent, Unicast, Both}
 use Rattle.trace.specs.reading.Reading.{Step, step_at}
-use Rattle.trace.specs.reading.Events.{packet, port, txt, occurrence, data_in, data_of, data_at}
+use Rattle.trace.specs.reading.Events.{Occurrence, packet, port, txt, occurrence, data_in, data_of, data_at}
 use Rattle.trace.specs.writing.Sizes.{is_wide, size_for, source_size, packet_size, can_be_written}
 use Rattle.trace.specs.declared.reading.Event.{Event}
 use Rattle.trace.specs.declared.reading.Event.TheVariants as event
@@ -19,7 +23,22 @@ use Rattle.trace.proofs.writing.Fitting.{number_fits, packet_fits}
 use Rattle.trace.proofs.Numbers.{Bytes}
 use Rattle.trace.proofs.ReadBack.{both, sized}
 use Rattle.trace.proofs.EventsWritten.{wrote}
-use Rattle.playing.specs.Playing.{port_fits, played_by, played_at}
+use Rattle.playing.specs.Playing.{call_of, refusal_by, refusal_behind, refusal_in, number_for, cause_by, cause_behind, port_fits, played_by, played_at}
+
+-- the number of a refusal is that of the answer, and of what a trace has at an offset
+number_in_answer : (answer : Answer) → number_for (refusal_in answer) ≡ refusal_of answer
+number_in_answer (Refused refusal) = refl
+number_in_answer Quiet = refl
+number_in_answer (Sent n) = refl
+number_in_answer (Unicast n) = refl
+number_in_answer (Both n u) = refl
+
+pub number_behind : (s : State) (o : Occurrence) → number_for (cause_behind s o) ≡ refusal_behind s o
+number_behind s o = go (call_of o)
+  where
+    go : (c : Option Call) → number_for (cause_by s c) ≡ refusal_by s c
+    go None = refl
+    go (Some c) = number_in_answer (answer_to s c)
 
 -- an event that can be written
 pub fits-port : (v : Event) (bytes : List ℕ) → can_be_written (occurrence v bytes) ≡ true → port_fits v ≡ true

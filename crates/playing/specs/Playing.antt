@@ -1,6 +1,8 @@
 -- Playing a trace (specification, 'Traces': "a player that is handed the setup, start time and start draw apart, runs the trace, on past refused calls, and checks
 -- each kind 4 against the responder"). Assumes nothing: these are definitions.
 use Rattle.std.specs.Prelude.{ℕ, List, Bool, true, cond, ◌&&◌, eqb, leb, Option, Some, None, Ok, Err}
+use Rattle.wire.specs.refusals.Numbers.{number_of}
+use Rattle.wire.specs.declared.refusals.Refusal.{Refusal}
 use Rattle.own.specs.changes.Changes.{NewData, new_port, new_txt}
 use Rattle.claims.specs.Claims.{state_number}
 use Rattle.claims.specs.declared.holds.Address.{Address}
@@ -9,6 +11,7 @@ use Rattle.responder.specs.changes.Changes.{Update}
 use Rattle.responder.specs.Calls.{refusal_of}
 use Rattle.responder.specs.Runs.{Call, received, ticked, stopped, updated, answer_to, state_after}
 use Rattle.responder.specs.declared.Answer.{Answer}
+use Rattle.responder.specs.declared.Answer.TheVariants.{Refused, Quiet, Sent, Unicast, Both}
 use Rattle.responder.specs.declared.State.{State}
 use Rattle.trace.specs.reading.Reading.{Step, step_at}
 use Rattle.trace.specs.reading.Events.{Occurrence, tick, packet, claim, stop, port, txt, occurrence, data_in}
@@ -68,15 +71,35 @@ refusal_by s (Some c) = refusal_of (answer_to s c)
 abbrev pub refusal_behind : State → Occurrence → ℕ
 refusal_behind s o = refusal_by s (call_of o)
 
+-- the refusal that an answer is, if it is one, and its number, 0 for none
+abbrev pub refusal_in : Answer → Option Refusal
+refusal_in (Refused refusal) = Some refusal
+refusal_in Quiet = None
+refusal_in (Sent n) = None
+refusal_in (Unicast n) = None
+refusal_in (Both n u) = None
+
+abbrev pub number_for : Option Refusal → ℕ
+number_for None = 0
+number_for (Some refusal) = number_of refusal
+
+-- the refusal of its call, none where it is taken or none is made
+abbrev pub cause_by : State → Option Call → Option Refusal
+cause_by s None = None
+cause_by s (Some c) = refusal_in (answer_to s c)
+
+abbrev pub cause_behind : State → Occurrence → Option Refusal
+cause_behind s o = cause_by s (call_of o)
+
 -- both of a call, and of an event
 abbrev pub made_with : Answer → State → Made
-made_with answer s = record { refusal = refusal_of answer; state = s }
+made_with answer s = record { refusal = refusal_in answer; state = s }
 
 abbrev pub made_by : State → Call → Made
 made_by s c = made_with (answer_to s c) (state_after s c)
 
 abbrev pub made_behind : State → Occurrence → Made
-made_behind s o = record { refusal = refusal_behind s o; state = state_behind s o }
+made_behind s o = record { refusal = cause_behind s o; state = state_behind s o }
 
 -- ---- what is compared
 
@@ -99,13 +122,13 @@ turn_of s (event.Port time p) next = turn.Called next
 turn_of s (event.Txt time) next = turn.Called next
 
 abbrev pub played_by : List ℕ → State → Step → Played
-played_by p s (Ok None) = record { turn = turn.End; refusal = 0; state = s }
+played_by p s (Ok None) = record { turn = turn.End; refusal = None; state = s }
 played_by p s (Ok (Some e)) = record {
   turn = turn_of s e.event e.next;
-  refusal = refusal_behind s (occurrence e.event (data_in p e));
+  refusal = cause_behind s (occurrence e.event (data_in p e));
   state = state_behind s (occurrence e.event (data_in p e));
 }
-played_by p s (Err r) = record { turn = turn.Refused r.at; refusal = 0; state = s }
+played_by p s (Err r) = record { turn = turn.Refused r.at; refusal = None; state = s }
 
 -- the event at an offset, played to a responder
 unfoldable pub played_at : List ℕ → ℕ → State → Played

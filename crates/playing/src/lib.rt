@@ -7,14 +7,14 @@ ghost use Rattle.own.specs.changes.Changes.{new_port, new_txt};
 ghost use Rattle.trace.specs.reading.Events.{data_at, occurrence};
 ghost use Rattle.trace.specs.writing.Sizes.{can_be_written};
 ghost use Rattle.claims.specs.Claims.{state_number};
-ghost use Rattle.responder.specs.Calls.{refusal_of};
 ghost use Rattle.responder.specs.Runs.{received, ticked, stopped, updated};
-ghost use Rattle.playing.specs.Playing.{arrival_of, tick_of, update_of, made_with, made_by, made_behind, number_in, agrees_with, turn_of, played_at, port_fits};
+ghost use Rattle.playing.specs.Playing.{arrival_of, tick_of, update_of, refusal_in, number_for, made_with, made_by, made_behind, number_in, agrees_with, turn_of, played_at, port_fits};
 
 use claims::ClaimState;
 use claims::holds::Address;
 use responder::{Answer, State};
 use trace::reading::Event;
+use wire::refusals::Refusal;
 
 // The length of the out buffers.
 const ROOM: usize = writer::own_packets::LEAST_OUT;
@@ -41,18 +41,18 @@ pub enum Turn {
     Shown(Line, usize),
 }
 
-// It; the refusal number of the call, 0 where it was taken or none was made; and the responder's state after it.
+// It; the refusal of the call, none where it was taken or none was made; and the responder's state after it.
 #[derive(Clone, Copy)]
 pub struct Played {
     pub turn: Turn,
-    pub refusal: u8,
+    pub refusal: Option<Refusal>,
     pub state: State,
 }
 
-// What a call gave: its refusal number, or 0, and the responder's state after it.
+// What a call gave: its refusal, if it was refused, and the responder's state after it.
 #[derive(Clone, Copy)]
 pub struct Made {
-    pub refusal: u8,
+    pub refusal: Option<Refusal>,
     pub state: State,
 }
 
@@ -81,15 +81,22 @@ pub fn agrees(state: State, last: u64, claim: u64, number: u64) -> bool
     state.progress.last == last && number_in(state, claim) == number
 }
 
-fn refusal_of(answer: Answer) -> u8
-    ensures { result ≡ refusal_of answer }
+// The number of a call's refusal, or 0.
+pub fn refusal_number(refusal: Option<Refusal>) -> u8
+    ensures { result ≡ number_for refusal }
+{
+    match refusal {
+        Some(refusal) => refusal.number(),
+        None => 0,
+    }
+}
+
+fn refusal_of(answer: Answer) -> Option<Refusal>
+    ensures { result ≡ refusal_in answer }
 {
     match answer {
-        Answer::Refused(number) => number,
-        Answer::Quiet => 0,
-        Answer::Sent(_) => 0,
-        Answer::Unicast(_) => 0,
-        Answer::Both(_, _) => 0,
+        Answer::Refused(refusal) => Some(refusal),
+        Answer::Quiet | Answer::Sent(_) | Answer::Unicast(_) | Answer::Both(_, _) => None,
     }
 }
 
@@ -182,7 +189,10 @@ fn behind(state: State, event: Event, bytes: &[u8]) -> Made
             last: _,
             claim: _,
             state: _,
-        } => Made { refusal: 0, state },
+        } => Made {
+            refusal: None,
+            state,
+        },
         Event::Stop(time) => stop(state, time),
         Event::Port { time, port } => update_port(state, time, port),
         Event::Txt(time) => update_txt(state, time, bytes),
@@ -236,12 +246,12 @@ pub fn play(trace: &[u8], at: usize, state: State) -> Played
         }
         Ok(None) => Played {
             turn: Turn::End,
-            refusal: 0,
+            refusal: None,
             state,
         },
         Err(refused) => Played {
             turn: Turn::Refused(refused.at),
-            refusal: 0,
+            refusal: None,
             state,
         },
     }

@@ -9,6 +9,10 @@ use native.Mathlib.Omega.{arith}
 use lib.Dec.{eqb}
 use borrow.Author.Tests.{ne_eqb, eqb-true}
 use lib.ListN.{length}
+use Rattle.std.specs.Prelude.{Result, Ok, Err}
+use Rattle.wire.specs.refusals.Numbers.{number_of, number_in, refused_by}
+use Rattle.wire.specs.declared.refusals.Refusal.{Refusal}
+use Rattle.wire.proofs.refusals.Tests.{numbers_from-1, number_by}
 use Rattle.wire.specs.message.Layout.{wrong_length, wrong_header}
 use Rattle.wire.specs.message.Refusals.{wrong_port, is_malformed, message_refusal}
 use Rattle.own.specs.declared.records.Setup.{Setup}
@@ -17,10 +21,10 @@ use Rattle.own.specs.changes.Changes.{revised, change_of}
 use Rattle.claims.specs.Refusals.{late_start, wrong_time, wrong_start_draw, wrong_draws}
 use Rattle.writer.specs.own_packets.Own.{unless_refused}
 use Rattle.responder.specs.Handed.{Arrival, Tick}
-use Rattle.responder.specs.Refusals.{small_buffer, small_buffers, wrong_state, start_refusal, receive_refusal, tick_refusal}
+use Rattle.responder.specs.Refusals.{small_buffer, small_buffers, wrong_state, start_tests, start_refusal, receive_tests, receive_refusal, tick_tests, tick_refusal}
 use Rattle.responder.specs.Calls.{refusal_of, length_of, unicast_length_of, Destination, multicast, unicast, answer_with, answer_of, parcels, blank, start_of}
 use Rattle.responder.specs.Calls.{received_packet, unicast_packet, receive_of, ticked_packet, tick_of}
-use Rattle.responder.specs.changes.Changes.{stopped_packet, stop_of, refusal_to, packet_to, update_to, update_refusal, updated_packet, update_of}
+use Rattle.responder.specs.changes.Changes.{stopped_packet, stop_of, update_tests, refusal_to, packet_to, update_to, update_refusal, updated_packet, update_of}
 use Rattle.responder.specs.Runs.{Call, received, ticked, stopped, updated, refusal_of_call, answer_to, state_after, packet_of, unicast_of, sent_by}
 use Rattle.responder.specs.declared.State.{State}
 use Rattle.responder.proofs.changes.Accepted.{update-accepted}
@@ -141,51 +145,79 @@ module _ (n u : ℕ) where
       go false true e = zero_is u true e refl
       go false false e = refl
 
-number_of : (n : ℕ) (packet reply : List ℕ) → refusal_of (answer_of n packet reply) ≡ n
-number_of zero packet reply = with_number (length packet) (length reply)
-number_of (suc n) packet reply = simp (positive n)
+-- a refusal's number is not 0
+pub not_0 : (refusal : Refusal) {n : ℕ} → number_of refusal ≡ n → eqb n 0 ≡ false
+not_0 refusal {n = n} e = ne_eqb n 0 (λ z. let h = numbers_from-1 refusal in absurd (omega arith))
 
-length-of : (n : ℕ) (packet reply : List ℕ) → length_of (answer_of n (unless_refused n packet) (unless_refused n reply)) ≡ length (unless_refused n packet)
-length-of zero packet reply = with-length (length packet) (length reply)
-length-of (suc n) packet reply = simp (positive n)
+number-of : (r : Result (Unit {0}) Refusal) (packet reply : List ℕ) → refusal_of (answer_of r packet reply) ≡ number_in r
+number-of (Ok u) packet reply = with_number (length packet) (length reply)
+number-of (Err refusal) packet reply = refl
 
-reply-of : (n : ℕ) (packet reply : List ℕ) → unicast_length_of (answer_of n (unless_refused n packet) (unless_refused n reply)) ≡ length (unless_refused n reply)
-reply-of zero packet reply = with-reply (length packet) (length reply)
-reply-of (suc n) packet reply = simp (positive n)
+length-of : (r : Result (Unit {0}) Refusal) (n : ℕ) (packet reply : List ℕ) → number_in r ≡ n
+    → length_of (answer_of r (unless_refused n packet) (unless_refused n reply)) ≡ length (unless_refused n packet)
+length-of (Ok u) n packet reply e = with-length (length (unless_refused n packet)) (length (unless_refused n reply))
+length-of (Err refusal) n packet reply e = simp (not_0 refusal e)
+
+reply-of : (r : Result (Unit {0}) Refusal) (n : ℕ) (packet reply : List ℕ) → number_in r ≡ n
+    → unicast_length_of (answer_of r (unless_refused n packet) (unless_refused n reply)) ≡ length (unless_refused n reply)
+reply-of (Ok u) n packet reply e = with-reply (length (unless_refused n packet)) (length (unless_refused n reply))
+reply-of (Err refusal) n packet reply e = simp (not_0 refusal e)
 
 -- a call that has nobody to reply to
-alone-length : (n : ℕ) (packet : List ℕ) → length_of (answer_of n (unless_refused n packet) []) ≡ length (unless_refused n packet)
-alone-length zero packet = with-length (length packet) 0
-alone-length (suc n) packet = simp (positive n)
+alone-length : (r : Result (Unit {0}) Refusal) (n : ℕ) (packet : List ℕ) → number_in r ≡ n
+    → length_of (answer_of r (unless_refused n packet) []) ≡ length (unless_refused n packet)
+alone-length (Ok u) n packet e = with-length (length (unless_refused n packet)) 0
+alone-length (Err refusal) n packet e = simp (not_0 refusal e)
 
-alone-reply : (n : ℕ) (packet : List ℕ) → unicast_length_of (answer_of n packet []) ≡ 0
-alone-reply zero packet = with-reply (length packet) 0
-alone-reply (suc n) packet = simp (positive n)
+alone-reply : (r : Result (Unit {0}) Refusal) (packet : List ℕ) → unicast_length_of (answer_of r packet []) ≡ 0
+alone-reply (Ok u) packet = with-reply (length packet) 0
+alone-reply (Err refusal) packet = refl
+
+-- the number of each call's refusal
+pub start-by : (setup : Setup) (time draw : ℕ) → number_in (refused_by (start_tests setup time draw)) ≡ start_refusal setup time draw
+unfolding start_refusal
+start-by setup time draw = number_by (start_tests setup time draw)
+
+pub receive-by : (s : State) (a : Arrival) → number_in (refused_by (receive_tests s a)) ≡ receive_refusal s a
+unfolding receive_refusal
+receive-by s a = number_by (receive_tests s a)
+
+pub tick-by : (s : State) (t : Tick) → number_in (refused_by (tick_tests s t)) ≡ tick_refusal s t
+unfolding tick_refusal
+tick-by s t = number_by (tick_tests s t)
+
+pub update-by : (s : State) (time room : ℕ) (new : Setup) → number_in (refused_by (update_tests s time room new)) ≡ refusal_to s time room new
+unfolding refusal_to
+update-by s time room new = number_by (update_tests s time room new)
 
 pub start-number : (setup : Setup) (time draw : ℕ) → refusal_of (start_of setup time draw).answer ≡ start_refusal setup time draw
 unfolding start_of
-start-number setup time draw = number_of (start_refusal setup time draw) [] []
+start-number setup time draw = number-of (refused_by (start_tests setup time draw)) [] [] ∙ start-by setup time draw
 
 pub call-number : (s : State) (c : Call) → refusal_of (answer_to s c) ≡ refusal_of_call s c
 unfolding receive_of tick_of stop_of update_of update_to update_refusal
-call-number s (received a) = number_of (receive_refusal s a) (received_packet s a) (unicast_packet s a)
-call-number s (ticked t) = number_of (tick_refusal s t) (ticked_packet s t) []
-call-number s (stopped t) = number_of (tick_refusal s t) (stopped_packet s t) []
-call-number s (updated u) = number_of (refusal_to s u.time u.room (revised s.setup u.new)) (packet_to s u.time u.room (change_of u.new) (revised s.setup u.new)) []
+call-number s (received a) = number-of (refused_by (receive_tests s a)) (received_packet s a) (unicast_packet s a) ∙ receive-by s a
+call-number s (ticked t) = number-of (refused_by (tick_tests s t)) (ticked_packet s t) [] ∙ tick-by s t
+call-number s (stopped t) = number-of (refused_by (tick_tests s t)) (stopped_packet s t) [] ∙ tick-by s t
+call-number s (updated u) =
+    number-of (refused_by (update_tests s u.time u.room (revised s.setup u.new))) (packet_to s u.time u.room (change_of u.new) (revised s.setup u.new)) []
+    ∙ update-by s u.time u.room (revised s.setup u.new)
 
 pub call_length : (s : State) (c : Call) → length_of (answer_to s c) ≡ length (packet_of s c)
 unfolding receive_of received_packet unicast_packet tick_of ticked_packet stop_of stopped_packet update_of updated_packet update_to packet_to
-call_length s (received a) = length-of (receive_refusal s a) _ _
-call_length s (ticked t) = alone-length (tick_refusal s t) _
-call_length s (stopped t) = alone-length (tick_refusal s t) _
-call_length s (updated u) = alone-length (refusal_to s u.time u.room (revised s.setup u.new)) _
+call_length s (received a) = length-of (refused_by (receive_tests s a)) (receive_refusal s a) _ _ (receive-by s a)
+call_length s (ticked t) = alone-length (refused_by (tick_tests s t)) (tick_refusal s t) _ (tick-by s t)
+call_length s (stopped t) = alone-length (refused_by (tick_tests s t)) (tick_refusal s t) _ (tick-by s t)
+call_length s (updated u) = let new = revised s.setup u.new in
+    alone-length (refused_by (update_tests s u.time u.room new)) (refusal_to s u.time u.room new) _ (update-by s u.time u.room new)
 
 pub call-reply : (s : State) (c : Call) → unicast_length_of (answer_to s c) ≡ length (unicast_of s c)
 unfolding receive_of received_packet unicast_packet tick_of ticked_packet stop_of update_of update_to
-call-reply s (received a) = reply-of (receive_refusal s a) _ _
-call-reply s (ticked t) = alone-reply (tick_refusal s t) (ticked_packet s t)
-call-reply s (stopped t) = alone-reply (tick_refusal s t) (stopped_packet s t)
-call-reply s (updated u) = alone-reply (refusal_to s u.time u.room (revised s.setup u.new)) (packet_to s u.time u.room (change_of u.new) (revised s.setup u.new))
+call-reply s (received a) = reply-of (refused_by (receive_tests s a)) (receive_refusal s a) _ _ (receive-by s a)
+call-reply s (ticked t) = alone-reply (refused_by (tick_tests s t)) (ticked_packet s t)
+call-reply s (stopped t) = alone-reply (refused_by (tick_tests s t)) (stopped_packet s t)
+call-reply s (updated u) =
+    alone-reply (refused_by (update_tests s u.time u.room (revised s.setup u.new))) (packet_to s u.time u.room (change_of u.new) (revised s.setup u.new))
 
 -- ---- "state, table, store and out buffer keep every byte": an empty packet is laid over nothing
 

@@ -6,14 +6,15 @@ use mathlib.Core.Bool.{Bool, true, false, cond, not, ◌||◌}
 use mathlib.Core.List.{List, [], ◌∷◌, ◌++◌}
 use native.Mathlib.Omega.{arith}
 use lib.ListN.{length}
+use lib.Dec.{eqb}
 use Rattle.wire.specs.message.Message.{Message}
 use Rattle.wire.specs.message.Layout.{read, wrong_length, wrong_header, message_at, read_of}
 use Rattle.wire.specs.message.Refusals.{wrong_port, is_malformed, message_tests, message_refusal, message_from}
 use Rattle.wire.specs.declared.message.Layout.{Layout}
-use Rattle.wire.specs.refusals.Numbers.{number_of, number_in, refused_by, first_refusal}
+use Rattle.wire.specs.refusals.Numbers.{number_in, refused_by, first_refusal}
 use Rattle.wire.specs.declared.refusals.Refusal.{Refusal}
 use Rattle.wire.specs.declared.refusals.Refusal.TheVariants as cause
-use Rattle.wire.proofs.refusals.Tests.{numbers_from-1, number_by}
+use Rattle.wire.proofs.refusals.Tests.{number_by, none_by}
 use Rattle.wire.proofs.message.Refused.{accepted_from, refusing, reading, was_read, was_refused}
 use Rattle.own.specs.declared.records.Setup.{Setup}
 use Rattle.own.specs.records.Setups.{valid_setup}
@@ -23,7 +24,7 @@ use Rattle.responder.specs.Handed.{Arrival, Tick}
 use Rattle.responder.specs.Refusals.{small_buffer, small_buffers, wrong_state, start_tests, start_refusal, receive_tests, receive_refusal, tick_tests, tick_refusal, admitted}
 use Rattle.responder.specs.changes.Changes.{update_tests, refusal_to}
 use Rattle.responder.specs.declared.State.{State}
-use Rattle.responder.proofs.Refusals.{receive-accepted, TickAccepted, tick-accepted}
+use Rattle.responder.proofs.Refusals.{not_0, receive-accepted, TickAccepted, tick-accepted}
 use Rattle.responder.proofs.changes.Accepted.{UpdateAccepted, update-accepted}
 
 -- what a result is by its contract and by a test of it
@@ -64,11 +65,9 @@ both-large room unicastroom h = go (small_buffer room) (small_buffer unicastroom
 -- ---- the number that a call answers: that of its refusal, or 0
 
 module _ (tests : List (Refusal × Bool)) {k : ℕ} (named : k ≡ first_refusal tests) {r : Result (Unit {0}) Refusal} (is : r ≡ refused_by tests) where
-  pub number-refused : {refusal : Refusal} {n : ℕ} → r ≡ Err refusal → n ≡ number_of refusal → (n ≡ k) × (n ≡ 0 → ⊥)
-  number-refused {refusal = refusal} e m = (
-    m ∙ sym (ap number_in e) ∙ ap number_in is ∙ number_by tests ∙ sym named,
-    λ z. let h = numbers_from-1 refusal in absurd (omega arith),
-  )
+  pub number-refused : {refusal : Refusal} → r ≡ Err refusal → (refused_by tests ≡ Err refusal) × (eqb k 0 ≡ false)
+  number-refused {refusal = refusal} e =
+      (sym is ∙ e, not_0 refusal (sym (ap number_in e) ∙ ap number_in is ∙ number_by tests ∙ sym named))
 
   pub number-accepted : r ≡ Ok tt → 0 ≡ k
   number-accepted e = sym (ap number_in e) ∙ ap number_in is ∙ number_by tests ∙ sym named
@@ -155,6 +154,10 @@ module _ (s : State) (a : Arrival) where
           unfolding admitted
           receive-read w = reading (refused_by (receive_tests s a)) (message_at a.packet) (Ok l) (passed ∙ simp w) (sym (ap read_of taken.2))
 
+  pub none_refuses : receive_refusal s a ≡ 0 → refused_by (receive_tests s a) ≡ Ok tt
+  unfolding receive_refusal
+  none_refuses h = none_by (receive_tests s a) h
+
   -- what the answer says of the call
   module _ (m : Result Layout Refusal) (is : m ≡ read_of (admitted s a)) where
     pub is-admitted : (l : Layout) → m ≡ Ok l → (receive_refusal s a ≡ 0) × (says : Message) × (message_at a.packet ≡ read l says)
@@ -163,11 +166,11 @@ module _ (s : State) (a : Arrival) where
         let t = was_read (refused_by (receive_tests s a)) (message_at a.packet) m is l e in
         (sym (number_by (receive_tests s a)) ∙ ap number_in t.0, t.1, t.2)
 
-    pub is-refused : (refusal : Refusal) {n : ℕ} → m ≡ Err refusal → n ≡ number_of refusal → (receive_refusal s a ≡ n) × (n ≡ 0 → ⊥)
+    pub is-refused : (refusal : Refusal) → m ≡ Err refusal → (refused_by (receive_tests s a) ≡ Err refusal) × (eqb (receive_refusal s a) 0 ≡ false)
     unfolding admitted receive_refusal
-    is-refused refusal e f =
+    is-refused refusal e =
         let tests = receive_tests s a in
         let refused : refused_by tests ≡ Err refusal =
         was_refused (refused_by tests) (message_at a.packet) m is refusal e
         (λ k. let t = accepted_from a.packet a.port (receive-accepted s a (sym (number_by tests) ∙ ap number_in k)).message in (t.1, t.2, t.3)) in
-        (sym (number_by tests) ∙ ap number_in refused ∙ sym f, λ z. let h = numbers_from-1 refusal in absurd (omega arith))
+        (refused, not_0 refusal (sym (ap number_in refused) ∙ number_by tests))

@@ -3,10 +3,10 @@ use Prim.Native.Nat.{ℕ}
 use mathlib.Core.Path.{◌≡◌, ap, ◌∙◌}
 use mathlib.Core.Bool.{false}
 use mathlib.Core.List.{List}
-use borrow.Author.Tests.{eq-eqb, ne_eqb}
+use borrow.Author.Tests.{eq-eqb}
 use lib.Dec.{eqb}
 use Rattle.std.specs.Prelude.{Result, Ok, Err}
-use Rattle.wire.specs.refusals.Numbers.{number_of, refused_by}
+use Rattle.wire.specs.refusals.Numbers.{refused_by}
 use Rattle.wire.specs.declared.refusals.Refusal.{Refusal}
 use Rattle.wire.specs.message.Message.{Message}
 use Rattle.wire.specs.message.Layout.{read, message_at}
@@ -24,7 +24,7 @@ use Rattle.claims.specs.declared.answers.Received as heard
 use Rattle.facts.specs.Facts.{facts_of}
 use Rattle.writer.specs.own_packets.Own.{response_packet, laid_over}
 use Rattle.responder.specs.Handed.{Arrival, coming_of, Tick}
-use Rattle.responder.specs.Refusals.{start_tests, start_refusal, receive_refusal, tick_tests}
+use Rattle.responder.specs.Refusals.{start_tests, start_refusal, receive_tests, receive_refusal, tick_tests}
 use Rattle.responder.specs.Calls.{refusal_of, length_of, unicast_length_of, answer_with, blank, start_of, heard_by, heard_of, reply_to, brought_back}
 use Rattle.responder.specs.Calls.{received_packet, unicast_packet, receive_of, Receives}
 use Rattle.responder.specs.Calls.{walked_of, ticked_packet, tick_of, Ticks}
@@ -36,7 +36,7 @@ use Rattle.responder.specs.declared.Started.{Started}
 use Rattle.responder.specs.declared.Received.{Received}
 use Rattle.responder.specs.declared.Ticked.{Ticked}
 use Rattle.responder.proofs.Refusals.{start-number, call-number, call_length, call-reply}
-use Rattle.responder.proofs.Refusing.{number-refused, number-accepted, start-is, tick-is}
+use Rattle.responder.proofs.Refusing.{number-refused, number-accepted, start-is, tick-is, none_refuses}
 use Rattle.responder.proofs.Sending.{Wrote, Sends}
 
 -- ---- a start
@@ -49,16 +49,14 @@ module _ (setup : Setup) (time draw : ℕ) {u : Result (Unit {0}) Refusal} (is :
   numbered : (r : Started) → r ≡ start_of setup time draw → Starts r
   numbered r e = (e, ap (λ (x : Started). refusal_of x.answer) e ∙ start-number setup time draw)
 
-  pub start-refused : {refusal : Refusal} {n : ℕ} → u ≡ Err refusal → n ≡ number_of refusal → (s : State) → s ≡ blank → Starts (record { answer = Refused n; state = s })
+  pub start-refused : {refusal : Refusal} → u ≡ Err refusal → (s : State) → s ≡ blank → Starts (record { answer = Refused refusal; state = s })
   unfolding start_of
-  start-refused {n = n} e m s b =
-      let z = number-refused (start_tests setup time draw) (start-is setup time draw) is e m in
-      numbered _ (simp (← z.0, ne_eqb n 0 z.1, b))
+  start-refused e s b = let z = number-refused (start_tests setup time draw) (start-is setup time draw) is e in numbered _ (simp (z.0, z.1, b))
 
   pub starts : u ≡ Ok tt → (progress : Progress) → progress ≡ claims.begun_at time draw
       → Starts (record { answer = Quiet; state = record { setup = setup; progress = progress } })
   unfolding start_of
-  starts z progress e = let n = number-accepted (start_tests setup time draw) (start-is setup time draw) is z in numbered _ (simp (← n, e))
+  starts z progress e = let n = number-accepted (start_tests setup time draw) (start-is setup time draw) is z in numbered _ (simp (← is, z, ← n, e))
 
 -- ---- a packet received
 
@@ -79,9 +77,10 @@ module _ (s : State) (a : Arrival) (out back : List ℕ) where
     replied = ap (λ (x : Received). unicast_length_of x.answer) e ∙ call-reply s (received a);
   }
 
-  pub receive-refused : (n : ℕ) → (receive_refusal s a ≡ n) × (n ≡ 0 → ⊥) → Receives s a out back (record { answer = Refused n; state = s }) out back
+  pub receive-refused : (refusal : Refusal) → (refused_by (receive_tests s a) ≡ Err refusal) × (eqb (receive_refusal s a) 0 ≡ false)
+      → Receives s a out back (record { answer = Refused refusal; state = s }) out back
   unfolding receive_of received_packet unicast_packet
-  receive-refused n h = let z : eqb n 0 ≡ false = ne_eqb n 0 h.1 in received-numbered _ _ _ (simp (h.0, z)) (simp (h.0, z)) (simp (h.0, z))
+  receive-refused refusal h = received-numbered _ _ _ (simp (h.0, h.1)) (simp h.1) (simp h.1)
 
   -- what the message says is what was read of it
   pub receives :
@@ -99,7 +98,7 @@ module _ (s : State) (a : Arrival) (out back : List ℕ) where
       let d : heard_of s a (message_at a.packet) ≡ h = simp (was, e, is) in
       let back_is : brought_back s a h.unicast (message_at a.packet) ≡ reply_to s.setup a.port h.unicast (message_in a.packet l) =
       rw (layout_shows a.packet l m was) (simp was) in
-      received-numbered _ _ _ (simp (z, d, back_is, x, w.0, v.0)) (simp (z, d, w.1)) (simp (z, d, back_is, v.1))
+      received-numbered _ _ _ (simp (none_refuses s a z, z, d, back_is, x, w.0, v.0)) (simp (z, d, w.1)) (simp (z, d, back_is, v.1))
 
 -- ---- a tick
 
@@ -112,12 +111,9 @@ module _ (s : State) (t : Tick) (out : List ℕ) {u : Result (Unit {0}) Refusal}
     sent = ap (λ (x : Ticked). length_of x.answer) e ∙ call_length s (ticked t);
   }
 
-  pub tick-refused : {refusal : Refusal} {n : ℕ} → u ≡ Err refusal → n ≡ number_of refusal → Ticks s t out (record { answer = Refused n; more = false; state = s }) out
+  pub tick-refused : {refusal : Refusal} → u ≡ Err refusal → Ticks s t out (record { answer = Refused refusal; more = false; state = s }) out
   unfolding tick_of ticked_packet
-  tick-refused {n = n} e m =
-      let h = number-refused (tick_tests s t) (tick-is s t) is e m in
-      let z : eqb n 0 ≡ false = ne_eqb n 0 h.1 in
-      ticked-numbered _ _ (simp (← h.0, z)) (simp (← h.0, z))
+  tick-refused e = let h = number-refused (tick_tests s t) (tick-is s t) is e in ticked-numbered _ _ (simp (h.0, h.1)) (simp h.1)
 
   pub ticks :
       (w : walked.Ticked) (k : ℕ) (o : List ℕ) (a : Answer)
@@ -129,4 +125,4 @@ module _ (s : State) (t : Tick) (out : List ℕ) {u : Result (Unit {0}) Refusal}
   unfolding tick_of ticked_packet
   ticks w k o a z d h x =
       let n = number-accepted (tick_tests s t) (tick-is s t) is z in
-      ticked-numbered _ _ (simp (← n, ← d, x, h.0)) (simp (← n, ← d, h.1))
+      ticked-numbered _ _ (simp (← is, z, ← n, ← d, x, h.0)) (simp (← n, ← d, h.1))

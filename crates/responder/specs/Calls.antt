@@ -1,6 +1,8 @@
 -- A start, a packet received and a tick (specification, 'Refusal numbers', 'A claim's life', 'Which answers go out'): the answer, the state after the call and
 -- the packet that it sends, put together from what the parts below say. Assumes nothing: these are definitions.
-use Rattle.std.specs.Prelude.{ℕ, Bool, false, cond, List, [], ◌∷◌, length, replicate, eqb, ◌≡◌, None}
+use Rattle.std.specs.Prelude.{ℕ, Bool, false, cond, List, [], ◌∷◌, length, replicate, eqb, ◌≡◌, None, Result, Ok, Err}
+use Rattle.wire.specs.refusals.Numbers.{number_of, refused_by}
+use Rattle.wire.specs.declared.refusals.Refusal.{Refusal}
 use Rattle.wire.specs.message.Message.{Question, Message}
 use Rattle.wire.specs.message.Layout.{Reads, read, refused, message_at}
 use Rattle.own.specs.declared.records.Setup.{Setup}
@@ -23,7 +25,7 @@ use Rattle.claims.specs.declared.answers.Facts.{Facts}
 use Rattle.facts.specs.Facts.{facts_of}
 use Rattle.writer.specs.own_packets.Own.{response_packet, probe_packet, plain_packet, unless_refused, laid_over}
 use Rattle.responder.specs.Handed.{Arrival, coming_of, Tick}
-use Rattle.responder.specs.Refusals.{start_refusal, receive_refusal, tick_refusal}
+use Rattle.responder.specs.Refusals.{start_tests, start_refusal, receive_tests, receive_refusal, tick_tests, tick_refusal}
 use Rattle.responder.specs.declared.State.{State}
 use Rattle.responder.specs.declared.Answer.{Answer}
 use Rattle.responder.specs.declared.Answer.TheVariants.{Refused, Quiet, Sent, Unicast, Both}
@@ -34,21 +36,21 @@ use Rattle.responder.specs.declared.Ticked.{Ticked}
 -- The specification's values for each answer: the number of the refusal, 0 for none, and the lengths of the packet that goes to all and of the one that goes to
 -- the asker
 abbrev pub refusal_of : Answer → ℕ
-refusal_of (Refused n) = n
+refusal_of (Refused refusal) = number_of refusal
 refusal_of Quiet = 0
 refusal_of (Sent n) = 0
 refusal_of (Unicast n) = 0
 refusal_of (Both n u) = 0
 
 abbrev pub length_of : Answer → ℕ
-length_of (Refused n) = 0
+length_of (Refused refusal) = 0
 length_of Quiet = 0
 length_of (Sent n) = n
 length_of (Unicast n) = 0
 length_of (Both n u) = n
 
 abbrev pub unicast_length_of : Answer → ℕ
-unicast_length_of (Refused n) = 0
+unicast_length_of (Refused refusal) = 0
 unicast_length_of Quiet = 0
 unicast_length_of (Sent n) = 0
 unicast_length_of (Unicast n) = n
@@ -64,8 +66,9 @@ abbrev pub answer_with : ℕ → ℕ → Answer
 answer_with n u = cond (eqb n 0) (cond (eqb u 0) Quiet (Unicast u)) (cond (eqb u 0) (Sent n) (Both n u))
 
 -- "A refusal returns the number alone"
-abbrev pub answer_of : ℕ → List ℕ → List ℕ → Answer
-answer_of refusal packet reply = cond (eqb refusal 0) (answer_with (length packet) (length reply)) (Refused refusal)
+abbrev pub answer_of : Result (Unit {0}) Refusal → List ℕ → List ℕ → Answer
+answer_of (Ok u) packet reply = answer_with (length packet) (length reply)
+answer_of (Err refusal) packet reply = Refused refusal
 
 -- ".. state .. keep every byte"
 abbrev pub state_of : ℕ → State → Progress → State
@@ -106,7 +109,7 @@ start_state refusal setup time draw = cond (eqb refusal 0) (record { setup = set
 
 unfoldable pub start_of : Setup → ℕ → ℕ → Started
 start_of setup time draw = record {
-  answer = answer_of (start_refusal setup time draw) [] [];
+  answer = answer_of (refused_by (start_tests setup time draw)) [] [];
   state = start_state (start_refusal setup time draw) setup time draw;
 }
 
@@ -165,7 +168,7 @@ unicast_packet s a =
 
 unfoldable pub receive_of : State → Arrival → Received
 receive_of s a = record {
-  answer = answer_of (receive_refusal s a) (received_packet s a) (unicast_packet s a);
+  answer = answer_of (refused_by (receive_tests s a)) (received_packet s a) (unicast_packet s a);
   state = state_of (receive_refusal s a) s (heard_of s a (message_at a.packet)).progress;
 }
 
@@ -191,7 +194,7 @@ ticked_packet s t = unless_refused (tick_refusal s t) (packet_for s.setup (walke
 -- "It says whether more is due."
 unfoldable pub tick_of : State → Tick → Ticked
 tick_of s t = record {
-  answer = answer_of (tick_refusal s t) (ticked_packet s t) [];
+  answer = answer_of (refused_by (tick_tests s t)) (ticked_packet s t) [];
   more = cond (eqb (tick_refusal s t) 0) (walked_of s t.time).more false;
   state = state_of (tick_refusal s t) s (walked_of s t.time).progress;
 }

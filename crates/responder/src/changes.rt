@@ -34,7 +34,7 @@ pub fn stop(state: State, time: u64, out: &mut [u8]) -> Stopped
 {
     if let Err(refusal) = admit_tick(state, time, out.len()) {
         return Stopped {
-            answer: Answer::Refused(refusal.number()),
+            answer: Answer::Refused(refusal),
             state,
         };
     }
@@ -79,7 +79,7 @@ fn update(state: State, time: u64, change: Change, new: Setup, out: &mut [u8]) -
 {
     if let Err(refusal) = admit_update(state, time, new, out.len()) {
         return Updated {
-            answer: Answer::Refused(refusal.number()),
+            answer: Answer::Refused(refusal),
             state,
         };
     }

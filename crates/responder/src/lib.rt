@@ -36,11 +36,11 @@ pub struct State {
     pub progress: Progress,
 }
 
-// What a call answers: the number of its refusal, that it sends nothing, or the lengths of the packets that it wrote: of the one to all on the link, of the
+// What a call answers: its refusal, that it sends nothing, or the lengths of the packets that it wrote: of the one to all on the link, of the
 // one to where the message came from that it answers, or of both.
 #[derive(Clone, Copy)]
 pub enum Answer {
-    Refused(u8),
+    Refused(Refusal),
     Quiet,
     Sent(usize),
     Unicast(usize),
@@ -139,7 +139,7 @@ pub fn start(setup: Setup, time: u64, draw: u64) -> Started
             },
         },
         Err(refusal) => Started {
-            answer: Answer::Refused(refusal.number()),
+            answer: Answer::Refused(refusal),
             state: blank_state(),
         },
     }
@@ -339,7 +339,7 @@ pub fn receive(
             }
         }
         Err(refusal) => Received {
-            answer: Answer::Refused(refusal.number()),
+            answer: Answer::Refused(refusal),
             state,
         },
     }
@@ -368,7 +368,7 @@ pub fn tick(state: State, time: u64, out: &mut [u8]) -> Ticked
 {
     if let Err(refusal) = admit_tick(state, time, out.len()) {
         return Ticked {
-            answer: Answer::Refused(refusal.number()),
+            answer: Answer::Refused(refusal),
             more: false,
             state,
         };

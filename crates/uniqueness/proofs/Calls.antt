@@ -10,12 +10,16 @@ use lib.Dec.{eqb, ltb}
 use lib.ListN.{length}
 use borrow.Author.Tests.{eqb-true, eqb-false, ne_eqb, ltb-false}
 use mathlib.Mathlib.Data.Bool.Basic.{or-eq-false-eq-eq-false-and-eq-false as neither}
+use Rattle.std.specs.Prelude.{Result, Ok, Err}
+use Rattle.wire.specs.refusals.Numbers.{number_in, refused_by}
+use Rattle.wire.specs.declared.refusals.Refusal.{Refusal}
 use Rattle.wire.specs.message.Message.{Message}
 use Rattle.wire.specs.message.Layout.{read, message_at}
 use Rattle.wire.specs.declared.message.Layout.{Layout}
 use Rattle.wire.proofs.message.Refused.{accepted_from}
 use Rattle.own.specs.declared.records.Setup.{Setup}
 use Rattle.own.specs.records.Setups.{valid_setup}
+use Rattle.own.specs.changes.Changes.{revised}
 use Rattle.claims.specs.Time.{last_time, last_kept, after_ms}
 use Rattle.claims.specs.Claims as claims
 use Rattle.claims.specs.Refusals.{late_start, wrong_time, wrong_start_draw, kept}
@@ -28,15 +32,15 @@ use Rattle.claims.specs.declared.answers.Received as heard
 use Rattle.claims.specs.answers.Answers.{plain_of}
 use Rattle.claims.specs.records.Sets as sets
 use Rattle.claims.specs.records.Sets.{no_record}
-use Rattle.responder.specs.Refusals.{wrong_state, start_refusal, receive_refusal, tick_refusal}
+use Rattle.responder.specs.Refusals.{wrong_state, start_tests, start_refusal, receive_tests, receive_refusal, tick_tests, tick_refusal}
 use Rattle.responder.specs.Calls.{answer_with, answer_of, packet_for, plain_for, reply_to, brought_back, from_mdns, start_state, start_of, heard_of, received_packet, unicast_packet, receive_of, walked_of, ticked_packet, tick_of}
-use Rattle.responder.specs.changes.Changes.{Update, update_to, update_refusal, updated_packet, update_of}
+use Rattle.responder.specs.changes.Changes.{Update, update_tests, update_to, update_refusal, updated_packet, update_of}
 use Rattle.responder.specs.declared.State.{State}
 use Rattle.writer.specs.own_packets.Own.{response_records, response_packet}
-use Rattle.responder.specs.declared.Answer.TheVariants.{Refused, Quiet, Sent, Unicast, Both}
+use Rattle.responder.specs.declared.Answer.TheVariants.{Quiet, Sent, Unicast, Both}
 use Rattle.responder.proofs.Replying.{first-named}
 use Rattle.responder.proofs.changes.Updates as changed
-use Rattle.responder.proofs.Refusals.{StartAccepted, ReceiveAccepted, TickAccepted, start-accepted, receive-accepted, tick-accepted}
+use Rattle.responder.proofs.Refusals.{StartAccepted, ReceiveAccepted, TickAccepted, start-accepted, receive-accepted, tick-accepted, start-by, receive-by, tick-by, update-by}
 use Rattle.link.specs.Responder as link
 use Rattle.link.specs.Responder.{Claim, instance, host, Parcel, everyone}
 use Rattle.link.specs.Laws as law
@@ -83,26 +87,25 @@ accepted_with n u x ps = go (eqb n 0) (eqb u 0)
     go false true = refl
     go false false = refl
 
-accepted_by : (n : ℕ) (x : State) (p q : List ℕ) (qs : List Parcel) (y : State) (ps : List Parcel) → answered_by (answer_of n p q) x qs ≡ link.accepted y ps
-    → Accepted n x qs y ps
-accepted_by zero x p q qs y ps e =
+accepted_by :
+    (r : Result (Unit {0}) Refusal) {n : ℕ} → number_in r ≡ n → (x : State) (p q : List ℕ) (qs : List Parcel) (y : State) (ps : List Parcel)
+    → answered_by (answer_of r p q) x qs ≡ link.accepted y ps → Accepted n x qs y ps
+accepted_by (Ok u) i x p q qs y ps e =
     let z : link.accepted x qs ≡ link.accepted y ps = sym (accepted_with (length p) (length q) x qs) ∙ e in
-    record { none-refused = refl; state = cc; sent = cc }
-accepted_by (suc n) x p q qs y ps e =
-    let z : link.refused ≡ link.accepted y ps =
-    sym (ap (λ (b : Bool). answered_by (cond b (answer_with (length p) (length q)) (Refused (suc n))) x qs) (positive n)) ∙ e in
-    clash (cc)
+    record { none-refused = sym i; state = cc; sent = cc }
+accepted_by (Err refusal) i x p q qs y ps e = let z : link.refused ≡ link.accepted y ps = e in clash (cc)
 
 -- ---- a start
 
 abbrev begun_state : Setup → ℕ → ℕ → State
 begun_state s now draw = record { setup = s; progress = claims.begun_at now draw }
 
-begun-by : (n : ℕ) (s : Setup) (now draw : ℕ) (x : State) → begun_by (answer_of n [] []) (start_state n s now draw) ≡ some x → (n ≡ 0) × (x ≡ begun_state s now draw)
-begun-by zero s now draw x e = (refl, cc)
-begun-by (suc n) s now draw x e =
-    let z : none ≡ some x = sym (ap (λ (b : Bool). begun_by (cond b Quiet (Refused (suc n))) (start_state (suc n) s now draw)) (positive n)) ∙ e in
-    clash (cc)
+begun-by :
+    (r : Result (Unit {0}) Refusal) (n : ℕ) → number_in r ≡ n → (s : Setup) (now draw : ℕ) (x : State)
+    → begun_by (answer_of r [] []) (start_state n s now draw) ≡ some x → (n ≡ 0) × (x ≡ begun_state s now draw)
+begun-by (Ok u) zero i s now draw x e = (refl, cc)
+begun-by (Ok u) (suc n) i s now draw x e = absurd (omega (arith, i))
+begun-by (Err refusal) n i s now draw x e = let z : none ≡ some x = e in clash (cc)
 
 waiting_at : (s : Setup) (now draw : ℕ) (k : Claim) → stage_of (claims.claim_of (own_claim k) (begun_state s now draw).progress) ≡ law.waiting (after_ms now draw)
 unfolding claims.begun_at
@@ -112,7 +115,7 @@ waiting_at s now draw host = refl
 pub begun : (s : Setup) (now draw : ℕ) (x : State) → start s now draw ≡ some x → law.Begun responder rules s now x
 unfolding start start_of
 begun s now draw x e =
-    let b = begun-by (start_refusal s now draw) s now draw x e in
+    let b = begun-by (refused_by (start_tests s now draw)) (start_refusal s now draw) (start-by s now draw) s now draw x e in
     let a : StartAccepted s now draw = start-accepted s now draw b.0 in
     let n : now ≤ last_time = ltb-false last_time now a.time in
     let d : draw ≤ 250 = ltb-false 250 draw a.drawn in
@@ -138,7 +141,8 @@ module _ (x : State) (t : Tick) where
   pub tick_is :
       (y : State) (ps : List Parcel) → tick x t ≡ link.accepted y ps → Accepted (tick_refusal x t) (tick_of x t).state (sends everyone (ticked_packet x t)) y ps
   unfolding tick tick_of
-  tick_is y ps e = accepted_by (tick_refusal x t) (tick_of x t).state (ticked_packet x t) [] (sends everyone (ticked_packet x t)) y ps e
+  tick_is y ps e =
+      accepted_by (refused_by (tick_tests x t)) (tick-by x t) (tick_of x t).state (ticked_packet x t) [] (sends everyone (ticked_packet x t)) y ps e
 
 pub ticked :
     (s : Setup) (x : State) (t : Tick) (y : State) (ps : List Parcel) → Of x s → tick x t ≡ link.accepted y ps
@@ -176,7 +180,8 @@ module _ (x : State) (a : Arrival) where
   pub receive-is :
       (y : State) (ps : List Parcel) → receive x a ≡ link.accepted y ps → Accepted (receive_refusal x a) (receive_of x a).state (sent_for x a) y ps
   unfolding receive receive_of
-  receive-is y ps e = accepted_by (receive_refusal x a) (receive_of x a).state (received_packet x a) (unicast_packet x a) (sent_for x a) y ps e
+  receive-is y ps e =
+      accepted_by (refused_by (receive_tests x a)) (receive-by x a) (receive_of x a).state (received_packet x a) (unicast_packet x a) (sent_for x a) y ps e
 
   -- with the message that was read, and what it does
   module _ (l : Layout) (m : Message) (was : message_at a.packet ≡ read l m) (none : receive_refusal x a ≡ 0) (r : heard.Received) (is : heard_by ≡ r) where
@@ -284,8 +289,9 @@ pub update-is :
     (x : State) (u : Update) (y : State) (ps : List Parcel) → update x u ≡ link.accepted y ps
     → Accepted (update_refusal x u) (update_of x u).state (sends everyone (updated_packet x u)) y ps
 unfolding update update_of update_to update_refusal updated_packet
-update-is x u y ps e =
-    accepted_by (update_refusal x u) (update_of x u).state (updated_packet x u) [] (sends everyone (updated_packet x u)) y ps e
+update-is x u y ps e = let new = revised x.setup u.new in
+    accepted_by (refused_by (update_tests x u.time u.room new)) (update-by x u.time u.room new) (update_of x u).state (updated_packet x u) []
+    (sends everyone (updated_packet x u)) y ps e
 
 pub updated :
     (s : Setup) (x : State) (u : Update) (y : State) (ps : List Parcel) → Of x s → update x u ≡ link.accepted y ps

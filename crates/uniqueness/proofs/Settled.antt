@@ -1,6 +1,6 @@
 -- The premise about due steps can be met: a sound state (any that an accepted call returns) is ticked at any time from its last one to 2^62, and after
 -- as many ticks in one millisecond as a tick walks steps, seven, nothing is due then. Assumes nothing.
-use Rattle.std.specs.Prelude.{Option, Some, None}
+use Rattle.std.specs.Prelude.{Option, Some, None, Result, Ok, Err}
 use mathlib.Core.Path.{◌≡◌, refl, ap, subst, ◌∙◌}
 use mathlib.Core.Logic.{◌⊎◌, inl, inr}
 use mathlib.Core.Bool.{false}
@@ -10,6 +10,9 @@ use native.Mathlib.Omega.{arith}
 use lib.ListN.{length}
 use borrow.Author.Tests.{le-ltb, leb-false}
 use mathlib.Mathlib.Data.Bool.Basic.{or-eq-false-eq-eq-false-and-eq-false as neither}
+use Rattle.wire.specs.refusals.Numbers.{number_in, refused_by}
+use Rattle.wire.specs.declared.refusals.Refusal.{Refusal}
+use Rattle.wire.proofs.refusals.Tests.{numbers_from-1}
 use Rattle.claims.specs.Time.{last_time, due_by}
 use Rattle.claims.specs.records.Sets.{some_of}
 use Rattle.claims.specs.declared.Progress.{Progress}
@@ -18,10 +21,11 @@ use Rattle.claims.specs.steps.Steps.{steps, step_due, more_due}
 use Rattle.claims.specs.declared.steps.Step.{Step}
 use Rattle.claims.proofs.steps.Ticks.{tick-last}
 use Rattle.claims.proofs.steps.Settles.{ticks, all-ticks}
-use Rattle.responder.specs.Refusals.{tick_refusal}
+use Rattle.responder.specs.Refusals.{tick_tests, tick_refusal}
 use Rattle.responder.specs.Calls.{answer_of, walked_of, ticked_packet, tick_of}
 use Rattle.responder.specs.Runs.{ticked}
 use Rattle.responder.specs.declared.State.{State}
+use Rattle.responder.proofs.Refusals.{tick-by}
 use Rattle.responder.proofs.Closure.{Sound, sound_time, accepted_sound}
 use Rattle.link.specs.Responder as link
 use Rattle.link.specs.Responder.{everyone, Parcel}
@@ -54,15 +58,17 @@ module _ (t : Tick) (time : t.time ≤ last_time) (long : 1452 ≤ t.room) where
       let e : wrong_time x.progress now ≡ false = sound_time x now s ∙ rw (le-ltb last_time now time, le-ltb now x.progress.last l) refl in
       rw (e, le-ltb t.room 1452 long, s.right) refl
 
-  answered : (n : ℕ) (p : List ℕ) (y : State) → n ≡ 0 → answered_by (answer_of n p []) y (sends everyone p) ≡ link.accepted y (sends everyone p)
-  answered n p y e = rw e (accepted_with (length p) 0 y (sends everyone p))
+  answered : (r : Result (Unit {0}) Refusal) (p : List ℕ) (y : State) → number_in r ≡ 0
+      → answered_by (answer_of r p []) y (sends everyone p) ≡ link.accepted y (sends everyone p)
+  answered (Ok u) p y e = accepted_with (length p) 0 y (sends everyone p)
+  answered (Err refusal) p y e = absurd (omega (arith, numbers_from-1 refusal))
 
   accepts : (x : State) → Sound x → x.progress.last ≤ now → Ticks x t (next x)
   unfolding tick tick_of
   accepts x s l =
       let n = not-refused x s l in (
         sends everyone (ticked_packet x t),
-        answered (tick_refusal x t) (ticked_packet x t) (tick_of x t).state n
+        answered (refused_by (tick_tests x t)) (ticked_packet x t) (tick_of x t).state (tick-by x t ∙ n)
             ∙ ap (λ (y : State). link.accepted y (sends everyone (ticked_packet x t))) (ticked-state x t n),
       )
 

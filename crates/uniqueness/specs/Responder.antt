@@ -38,7 +38,7 @@ own_claim host = Host
 
 -- "Each start not refused begins a dock"
 abbrev pub begun_by : Answer → State → Option State
-begun_by (Refused n) x = none
+begun_by (Refused refusal) x = none
 begun_by Quiet x = some x
 begun_by (Sent n) x = some x  -- never: a start sends nothing
 begun_by (Unicast n) x = some x  -- nor this
@@ -59,7 +59,7 @@ back_to a = link.unicast (halves a.from) a.port
 
 -- what a call that may send answers: `ps` is what it sends
 abbrev pub answered_by : Answer → State → List Parcel → link.Answer State
-answered_by (Refused n) x ps = link.refused
+answered_by (Refused refusal) x ps = link.refused
 answered_by Quiet x ps = link.accepted x ps
 answered_by (Sent n) x ps = link.accepted x ps
 answered_by (Unicast n) x ps = link.accepted x ps

@@ -14,9 +14,9 @@ returns c = let a = c.args in
     elim c.if-is_taken.branch [
       | then-is_taken w ↦
           rw w.state-is
-          (play_taken a.state.now a.trace.now a.at size c.read_state.ensures c.play-played.ensures c.is_taken.ensures c.turn_numbers.ensures
+          (play_taken a.state.now a.trace.now a.at size c.read_state.ensures c.play-played.ensures c.refusal_number-call.ensures c.is_taken.ensures c.turn_numbers.ensures
           (λ i. (c.slice_known-1.given i).fits) (λ i. (c.shared_slice_known-1.given i).fits) w.if-is_taken.true w.put_state.ensures)
       | else-is_taken w ↦
           rw w.state-is
-          (play_kept a.state.now a.trace.now a.at size c.read_state.ensures c.play-played.ensures c.is_taken.ensures c.turn_numbers.ensures w.if-is_taken.false)
+          (play_kept a.state.now a.trace.now a.at size c.read_state.ensures c.play-played.ensures c.refusal_number-call.ensures c.is_taken.ensures c.turn_numbers.ensures w.if-is_taken.false)
     ]

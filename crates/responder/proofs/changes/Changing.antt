@@ -4,10 +4,8 @@ use mathlib.Core.Path.{◌≡◌, ap, subst, ◌∙◌}
 use mathlib.Core.Bool.{false, true}
 use mathlib.Core.List.{List}
 use lib.ListN.{length}
-use lib.Dec.{eqb}
-use borrow.Author.Tests.{ne_eqb}
 use Rattle.std.specs.Prelude.{Result, Ok, Err}
-use Rattle.wire.specs.refusals.Numbers.{number_of, refused_by}
+use Rattle.wire.specs.refusals.Numbers.{refused_by}
 use Rattle.wire.specs.declared.refusals.Refusal.{Refusal}
 use Rattle.own.specs.declared.records.Setup.{Setup}
 use Rattle.own.specs.records.Setups.{valid_setup}
@@ -44,12 +42,9 @@ module _ (s : State) (t : Tick) (out : List ℕ) {u : Result (Unit {0}) Refusal}
     sent = ap (λ (x : Stopped). length_of x.answer) e ∙ call_length s (stopped t);
   }
 
-  pub stop-refused : {refusal : Refusal} {n : ℕ} → u ≡ Err refusal → n ≡ number_of refusal → Stops s t out (record { answer = Refused n; state = s }) out
+  pub stop-refused : {refusal : Refusal} → u ≡ Err refusal → Stops s t out (record { answer = Refused refusal; state = s }) out
   unfolding stop_of stopped_packet
-  stop-refused {n = n} e m =
-      let h = number-refused (tick_tests s t) (tick-is s t) is e m in
-      let z : eqb n 0 ≡ false = ne_eqb n 0 h.1 in
-      stopped-numbered _ _ (simp (← h.0, z)) (simp (← h.0, z))
+  stop-refused e = let h = number-refused (tick_tests s t) (tick-is s t) is e in stopped-numbered _ _ (simp (h.0, h.1)) (simp h.1)
 
   pub stops :
       (w : goodbyes.Stopped) (k : ℕ) (o : List ℕ) (a : Answer)
@@ -61,18 +56,17 @@ module _ (s : State) (t : Tick) (out : List ℕ) {u : Result (Unit {0}) Refusal}
   unfolding stop_of stopped_packet
   stops w k o a z d h x =
       let n = number-accepted (tick_tests s t) (tick-is s t) is z in
-      stopped-numbered _ _ (simp (← n, ← d, x, h.0)) (simp (← n, ← d, h.1))
+      stopped-numbered _ _ (simp (← is, z, ← n, ← d, x, h.0)) (simp (← n, ← d, h.1))
 
 -- ---- an update to a set-up
 
 module _ (s : State) (time : ℕ) (change : Change) (new : Setup) (out : List ℕ) {u : Result (Unit {0}) Refusal}
     (is : u ≡ refused_by (update_tests s time (length out) new)) where
-  pub update-refused : {refusal : Refusal} {n : ℕ} → u ≡ Err refusal → n ≡ number_of refusal → UpdatesTo s time change new out (record { answer = Refused n; state = s }) out
+  pub update-refused : {refusal : Refusal} → u ≡ Err refusal → UpdatesTo s time change new out (record { answer = Refused refusal; state = s }) out
   unfolding update_to packet_to
-  update-refused {n = n} e m =
-      let h = number-refused (update_tests s time (length out) new) (update-is s time (length out) new) is e m in
-      let z : eqb n 0 ≡ false = ne_eqb n 0 h.1 in
-      record { answers = simp (← h.0, z); writes = simp (← h.0, z) }
+  update-refused e =
+      let h = number-refused (update_tests s time (length out) new) (update-is s time (length out) new) is e in
+      record { answers = simp (h.0, h.1); writes = simp h.1 }
 
   pub updates :
       (w : announcements.Updated) (k : ℕ) (o : List ℕ) (a : Answer)
@@ -84,7 +78,7 @@ module _ (s : State) (time : ℕ) (change : Change) (new : Setup) (out : List �
   unfolding update_to packet_to
   updates w k o a z d h x =
       let n = number-accepted (update_tests s time (length out) new) (update-is s time (length out) new) is z in
-      record { answers = simp (← n, ← d, x, h.0); writes = simp (← n, ← d, h.1) }
+      record { answers = simp (← is, z, ← n, ← d, x, h.0); writes = simp (← n, ← d, h.1) }
 
 -- what is announced can be written
 pub can_announce : (new : Setup) (out : List ℕ) → small_buffer (length out) ≡ false → valid_setup new ≡ true → refusal new out ≡ 0

@@ -25,4 +25,4 @@ returns-in-Ok c = let admitted = is-admitted _ _ _ c.admit.ensures _ c.in-Ok.is 
     c.hear-heard.ensures (c.send-sent.ensures.value, c.send-sent.ensures.out_after) (c.reply-replied.ensures.value, c.reply-replied.ensures.out_after) c.answer_with.ensures
 
 pub returns-in-Err : goal.returns-in-Err
-returns-in-Err c = receive-refused _ _ _ _ _ (is-refused _ _ _ c.admit.ensures _ c.in-Err.is c.number.ensures)
+returns-in-Err c = receive-refused _ _ _ _ _ (is-refused _ _ _ c.admit.ensures _ c.in-Err.is)

@@ -4,7 +4,7 @@ use Rattle.responder.proofs.Settling.{tick-refused, ticks}
 use Rattle.responder.proofs.tick.Goals as goal
 
 pub returns-in-Err : goal.returns-in-Err
-returns-in-Err c = tick-refused _ _ _ c.admit_tick.ensures c.in-Err.is c.number.ensures
+returns-in-Err c = tick-refused _ _ _ c.admit_tick.ensures c.in-Err.is
 
 pub send-sent-requires : goal.send-sent-requires
 send-sent-requires c = let a = c.args in

@@ -1,7 +1,7 @@
 -- A stop and an update (specification, 'Stops and updates'): refusals, the answer, the state after the call and the packet that it sends. Assumes nothing: these
 -- are definitions.
 use Rattle.std.specs.Prelude.{ℕ, Bool, cond, not, ◌||◌, List, [], ◌∷◌, ◌≡◌, length, eqb}
-use Rattle.wire.specs.refusals.Numbers.{first_refusal}
+use Rattle.wire.specs.refusals.Numbers.{first_refusal, refused_by}
 use Rattle.wire.specs.declared.refusals.Refusal.{Refusal}
 use Rattle.wire.specs.declared.refusals.Refusal.TheVariants as cause
 use Rattle.own.specs.declared.records.Setup.{Setup}
@@ -16,7 +16,7 @@ use Rattle.claims.specs.declared.steps.Output.TheVariants.{Response}
 use Rattle.writer.specs.own_packets.Own.{unless_refused, laid_over}
 use Rattle.writer.specs.own_packets.Goodbye.{goodbye_packet}
 use Rattle.responder.specs.Handed.{Tick}
-use Rattle.responder.specs.Refusals.{small_buffer, wrong_state, tick_refusal}
+use Rattle.responder.specs.Refusals.{small_buffer, wrong_state, tick_tests, tick_refusal}
 use Rattle.responder.specs.Calls.{refusal_of, length_of, answer_of, state_of, packet_for}
 use Rattle.responder.specs.declared.State.{State}
 use Rattle.responder.specs.declared.changes.Stopped.{Stopped}
@@ -34,7 +34,7 @@ stopped_packet s t = unless_refused (tick_refusal s t) (goodbye_packet s.setup (
 
 unfoldable pub stop_of : State → Tick → Stopped
 stop_of s t = record {
-  answer = answer_of (tick_refusal s t) (stopped_packet s t) [];
+  answer = answer_of (refused_by (tick_tests s t)) (stopped_packet s t) [];
   state = state_of (tick_refusal s t) s (ended_of s t.time).progress;
 }
 
@@ -72,7 +72,7 @@ packet_to s time room change new = unless_refused (refusal_to s time room new) (
 -- "a refused one changes nothing"
 unfoldable pub update_to : State → ℕ → ℕ → Change → Setup → Updated
 update_to s time room change new = record {
-  answer = answer_of (refusal_to s time room new) (packet_to s time room change new) [];
+  answer = answer_of (refused_by (update_tests s time room new)) (packet_to s time room change new) [];
   state = cond (eqb (refusal_to s time room new) 0) (record { setup = new; progress = (renewed_of s time change).progress }) s;
 }
 

@@ -5,7 +5,7 @@ use Rattle.responder.proofs.changes.Changing.{stop-refused, stops}
 use Rattle.responder.proofs.changes.stop.Goals as goal
 
 pub returns-in-Err : goal.returns-in-Err
-returns-in-Err c = stop-refused _ _ _ c.admit_tick.ensures c.in-Err.is c.number.ensures
+returns-in-Err c = stop-refused _ _ _ c.admit_tick.ensures c.in-Err.is
 
 pub returns : goal.returns
 returns c = let a = c.args in

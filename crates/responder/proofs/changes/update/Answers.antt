@@ -4,7 +4,7 @@ use Rattle.responder.proofs.changes.Changing.{update-refused, updates, can_annou
 use Rattle.responder.proofs.changes.update.Goals as goal
 
 pub returns-in-Err : goal.returns-in-Err
-returns-in-Err c = update-refused _ _ _ _ _ c.admit_update.ensures c.in-Err.is c.number.ensures
+returns-in-Err c = update-refused _ _ _ _ _ c.admit_update.ensures c.in-Err.is
 
 pub send-sent-requires : goal.send-sent-requires
 send-sent-requires c = let a = c.args in
