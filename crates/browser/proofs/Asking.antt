@@ -1,29 +1,49 @@
 -- What a start gives, and the browser after a query. Assumes nothing.
 use Rattle.std.proofs.Common.{None, Option}
-use mathlib.Core.Path.{◌≡◌, sym, ap, ◌∙◌}
-use mathlib.Core.Bool.{Bool, true, cond}
-use mathlib.Core.List.{List}
+use Rattle.std.specs.Prelude.{Result, Ok, Err}
+use mathlib.Core.Path.{◌≡◌, sym, ap, ap₂, ◌∙◌}
+use mathlib.Core.Bool.{Bool, true, false, cond}
+use mathlib.Core.List.{List, []}
 use Prim.Native.Nat.{ℕ, ◌≤◌, ◌<◌}
-use lib.Dec.{leb}
+use native.Mathlib.Omega.{arith}
+use lib.Dec.{leb, eqb}
 use borrow.Author.Tests.{le-leb, lt-leb, ne_eqb}
+use Rattle.wire.specs.refusals.Numbers.{number_of, number_in, refused_by}
+use Rattle.wire.specs.declared.refusals.Refusal.{Refusal}
+use Rattle.wire.proofs.refusals.Tests.{numbers_from-1, number_by}
 use Rattle.own.specs.declared.records.Service.{Service}
 use Rattle.browser.specs.declared.Browser.{Browser}
 use Rattle.browser.specs.declared.Started.{Started}
 use Rattle.browser.specs.declared.Answer.TheVariants.{Refused, Quiet}
 use Rattle.browser.specs.series.Series.{series_at, counted}
-use Rattle.browser.specs.Calls.{refusal_of, blank, begun, start_refusal, start_of, asked}
+use Rattle.browser.specs.Calls.{refusal_of, answer_for, blank, begun, start_tests, start_refusal, start_of, asked}
 
-module _ (service : Service) (protocol domain : List ℕ) (time draw refresh n : ℕ) (is : n ≡ start_refusal service protocol domain time draw refresh) where
-  pub start-refused : (n ≡ 0 → ⊥) → (s : Browser) → s ≡ blank → let r : Started = record { answer = Refused n; browser = s } in
-      (r ≡ start_of service protocol domain time draw refresh) × (refusal_of r.answer ≡ start_refusal service protocol domain time draw refresh)
+module _ (service : Service) (protocol domain : List ℕ) (time draw refresh : ℕ) {u : Result (Unit {0}) Refusal}
+    (is : u ≡ refused_by (start_tests service protocol domain time draw refresh)) where
+  abbrev Starts : Started → Type 0
+  Starts r = (r ≡ start_of service protocol domain time draw refresh) × (refusal_of r.answer ≡ start_refusal service protocol domain time draw refresh)
+
+  number : number_in u ≡ start_refusal service protocol domain time draw refresh
+  unfolding start_refusal
+  number = ap number_in is ∙ number_by (start_tests service protocol domain time draw refresh)
+
+  -- the answer from the refusal, and the browser from its number
+  abbrev shape : Result (Unit {0}) Refusal → ℕ → Started
+  shape r n = record { answer = answer_for r []; browser = cond (eqb n 0) (begun service protocol domain time draw refresh) blank }
+
+  started : (k : ℕ) → number_in u ≡ k → shape u k ≡ start_of service protocol domain time draw refresh
   unfolding start_of
-  start-refused differs s empty = (
-    (λ i. record { answer = Refused (is i); browser = empty i }) ∙ sym (simp (ne_eqb (start_refusal service protocol domain time draw refresh) 0
-        (λ e. differs (is ∙ e)))),
-    is,
-  )
+  started k e = ap₂ shape is (sym e ∙ number)
 
-  pub starts : n ≡ 0 → let r : Started = record {
+  pub start-refused : {refusal : Refusal} → u ≡ Err refusal → (s : Browser) → s ≡ blank → Starts (record { answer = Refused refusal; browser = s })
+  start-refused {refusal = refusal} e s empty =
+      let none : eqb (number_of refusal) 0 ≡ false = ne_eqb (number_of refusal) 0 (λ z. let h = numbers_from-1 refusal in absurd (omega arith)) in (
+        (λ i. record { answer = Refused refusal; browser = (empty ∙ sym (ap (λ (c : Bool). cond c (begun service protocol domain time draw refresh) blank) none)) i })
+            ∙ ap (λ (r : Result (Unit {0}) Refusal). shape r (number_of refusal)) (sym e) ∙ started (number_of refusal) (ap number_in e),
+        sym (ap number_in e) ∙ number,
+      )
+
+  pub starts : {x : Unit {0}} → u ≡ Ok x → Starts (record {
     answer = Quiet;
     browser = record {
       service = service;
@@ -37,10 +57,9 @@ module _ (service : Service) (protocol domain : List ℕ) (time draw refresh n :
       owed = None;
       last = time;
     };
-  } in
-      (r ≡ start_of service protocol domain time draw refresh) × (refusal_of r.answer ≡ start_refusal service protocol domain time draw refresh)
-  unfolding start_of begun
-  starts none = (sym (simp (sym is ∙ none)), sym (sym is ∙ none))
+  })
+  unfolding begun
+  starts e = (ap (λ (r : Result (Unit {0}) Refusal). shape r 0) (sym e) ∙ started 0 (ap number_in e), sym (ap number_in e) ∙ number)
 
 module _ (b : Browser) (now : ℕ) (owed : Option ℕ) (at : ℕ) (is : at ≡ series_at b) where
   pub asked-refresh : now < at → record {

@@ -1,5 +1,6 @@
 -- The refusals of a tick, of a list and of the next due time, from that of the table's entries; and what is known where there is none. Assumes nothing.
-use Rattle.std.proofs.Common.{None, Option, Some}
+use Rattle.std.proofs.Common.{Option}
+use Rattle.std.specs.Prelude.{Result, Ok, Err}
 use mathlib.Core.Path.{◌≡◌, refl, sym, ap, ◌∙◌}
 use mathlib.Core.Bool.{Bool, true, false, cond, not, ◌||◌}
 use mathlib.Core.List.{List}
@@ -7,8 +8,12 @@ use Prim.Native.Nat.{ℕ, ◌*◌, ◌≤◌}
 use native.Mathlib.Omega.{arith}
 use lib.ListN.{length}
 use lib.Dec.{ltb, eqb}
-use borrow.Author.Tests.{ltb-false, eqb-true, ne_eqb}
+use borrow.Author.Tests.{ltb-false, eqb-true}
 use mathlib.Mathlib.Data.Bool.Basic.{or-eq-false-eq-eq-false-and-eq-false as neither, and-eq-true-eq-eq-true-and-eq-true as both}
+use Rattle.wire.specs.refusals.Numbers.{number_in, refused_by}
+use Rattle.wire.specs.declared.refusals.Refusal.{Refusal}
+use Rattle.wire.specs.declared.refusals.Refusal.TheVariants as cause
+use Rattle.wire.proofs.refusals.Tests.{number_by}
 use Rattle.claims.specs.Time.{last_time, last_kept}
 use Rattle.cache.specs.declared.entries.Entry.{Entry}
 use Rattle.cache.specs.entries.Cache.{is_size, is_store_of, bad_time, bad_table, bad_store, entries_refusal}
@@ -16,11 +21,10 @@ use Rattle.cache.proofs.lookup.Refusing.{size_most}
 use Rattle.browser.specs.declared.Browser.{Browser}
 use Rattle.browser.specs.service.Service.{right_labels}
 use Rattle.browser.specs.service.Sound.{Sound}
-use Rattle.browser.specs.declared.list.Listed.{Listed}
 use Rattle.browser.specs.list.Listing.{listed_from}
 use Rattle.browser.specs.refresh.Refresh.{next_query}
-use Rattle.browser.specs.Calls.{wrong_time, wrong_draws, wrong_browser, tick_refusal, look_refusal, is_owed, next_due, due_of, list_of, refused_list, found_list}
-use Rattle.browser.specs.Steps.{tick_refusal_with, look_refusal_with, refused_due, due_with}
+use Rattle.browser.specs.Calls.{wrong_time, wrong_draws, wrong_browser, tick_tests, tick_refusal, look_tests, or_refused, next_due, due_of, list_of}
+use Rattle.browser.specs.Steps.{tick_tests_with, look_tests_with, tick_refusal_with, due_with}
 
 -- four tests in order
 abbrev chain : Bool → Bool → Bool → Bool → ℕ
@@ -34,19 +38,25 @@ passed false false false true e = absurd (omega arith)
 passed false false false false e = (refl, (refl, (refl, refl)))
 
 module _ (b : Browser) (now : ℕ) (es : List Entry) (store : List ℕ) (room : ℕ) where
-  pub tick-number : tick_refusal_with (entries_refusal now es) (length es) (length store) b now room ≡ tick_refusal b now es store room
-  unfolding tick_refusal_with tick_refusal entries_refusal
-  tick-number = go (wrong_time b now) (bad_time now es) (bad_table es)
+  pub tick-result : refused_by (tick_tests_with (entries_refusal now es) (length es) (length store) b now room) ≡ refused_by (tick_tests b now es store room)
+  unfolding tick_tests_with entries_refusal
+  tick-result = go (wrong_time b now) (bad_time now es) (bad_table es)
     where
-      rest : Bool → ℕ
-      rest t = cond (ltb room 1452) 3 (cond t 8 (cond (wrong_browser b) 7 0))
+      rest : Bool → Result (Unit {0}) Refusal
+      rest t = cond (ltb room 1452) (Err cause.Buffer) (cond t (Err cause.Table) (cond (wrong_browser b) (Err cause.Setup) (Ok tt)))
 
       go : (w x y : Bool) → let e : ℕ = cond x 1 (cond y 8 0) in
-          cond (w || eqb e 1) 1 (rest (not (eqb e 0) || bad_store es store)) ≡ cond (w || x) 1 (rest (y || bad_store es store))
+          cond (w || eqb e 1) (Err cause.Time) (rest (not (eqb e 0) || bad_store es store)) ≡ cond (w || x) (Err cause.Time) (rest (y || bad_store es store))
       go true x y = refl
       go false true y = refl
       go false false true = refl
       go false false false = refl
+
+  pub tick-number : tick_refusal_with (entries_refusal now es) (length es) (length store) b now room ≡ tick_refusal b now es store room
+  unfolding tick_refusal_with tick_refusal
+  tick-number =
+      sym (number_by (tick_tests_with (entries_refusal now es) (length es) (length store) b now room))
+      ∙ ap number_in tick-result ∙ number_by (tick_tests b now es store room)
 
 -- what a call that is not refused has passed
 pub record Passed (b : Browser) (now : ℕ) (es : List Entry) (store : List ℕ) (room : ℕ) : Type 0 where
@@ -66,7 +76,7 @@ module _ (b : Browser) (now : ℕ) (es : List Entry) (store : List ℕ) (room : 
     (ok : tick_refusal_with (entries_refusal now es) (length es) (length store) b now room ≡ 0) where
   tests : ((wrong_time b now || eqb (entries_refusal now es) 1) ≡ false) × ((ltb room 1452 ≡ false)
       × (((not (eqb (entries_refusal now es) 0) || not (is_store_of (length es) (length store))) ≡ false) × (wrong_browser b ≡ false)))
-  unfolding tick_refusal_with
+  unfolding tick_refusal_with tick_tests_with
   tests =
       passed (wrong_time b now || eqb (entries_refusal now es) 1) (ltb room 1452)
       (not (eqb (entries_refusal now es) 0) || not (is_store_of (length es) (length store))) (wrong_browser b) ok
@@ -115,58 +125,43 @@ module _ (b : Browser) (now : ℕ) (es : List Entry) (store : List ℕ) (room : 
         after = ltb-false now b.last u.0;
       }
 
--- with no buffer: as with one that is large enough
-pub look-number : (b : Browser) (now : ℕ) (es : List Entry) (store : List ℕ)
-    → look_refusal_with (entries_refusal now es) (length es) (length store) b now ≡ look_refusal b now es store
-unfolding look_refusal_with look_refusal tick_refusal
-look-number b now es store = tick-number b now es store 1452
+-- the number of tests of which none refuses
+module _ (b : Browser) (now : ℕ) (es : List Entry) (store : List ℕ) (room : ℕ) {u : Result (Unit {0}) Refusal}
+    (is : u ≡ refused_by (tick_tests_with (entries_refusal now es) (length es) (length store) b now room)) {x : Unit {0}} (ok : u ≡ Ok x) where
+  pub tick-none : tick_refusal_with (entries_refusal now es) (length es) (length store) b now room ≡ 0
+  unfolding tick_refusal_with
+  tick-none = sym (number_by (tick_tests_with (entries_refusal now es) (length es) (length store) b now room)) ∙ ap number_in (sym is ∙ ok)
+
+  pub tick-taken : Passed b now es store room
+  tick-taken = tick-passed b now es store room tick-none
 
 -- ---- the next due time and the list
 
-module _ (b : Browser) (now : ℕ) (es : List Entry) (store : List ℕ) where
-  abbrev number : ℕ
-  number = look_refusal_with (entries_refusal now es) (length es) (length store) b now
+module _ (b : Browser) (now : ℕ) (es : List Entry) (store : List ℕ) {u : Result (Unit {0}) Refusal}
+    (is : u ≡ refused_by (look_tests_with (entries_refusal now es) (length es) (length store) b now)) where
+  -- with no buffer: as with one that is large enough
+  look-result : u ≡ refused_by (look_tests b now es store)
+  unfolding look_tests_with
+  look-result = is ∙ tick-result b now es store 1452
 
-  none_left : number ≡ 0 → look_refusal b now es store ≡ 0
-  none_left ok = sym (look-number b now es store) ∙ ok
+  pub look-taken : {x : Unit {0}} → u ≡ Ok x → Passed b now es store 1452
+  unfolding look_tests_with
+  look-taken ok = tick-taken b now es store 1452 is ok
 
-  some_left : (number ≡ 0 → ⊥) → eqb (look_refusal b now es store) 0 ≡ false
-  some_left differs = ne_eqb (look_refusal b now es store) 0 (λ e. differs (look-number b now es store ∙ e))
-
-  pub due-refused : (number ≡ 0 → ⊥) → refused_due number ≡ due_of b now es store
+  pub due-refused : {refusal : Refusal} → u ≡ Err refusal → ◌≡◌ {A = Result ℕ Refusal} (Err refusal) (due_of b now es store)
   unfolding due_of
-  due-refused differs =
-      λ i. record { refusal = look-number b now es store i; at = sym (ap (λ (c : Bool). cond c (next_due now store b es) 0) (some_left differs)) i }
+  due-refused e = ap (λ (r : Result (Unit {0}) Refusal). or_refused r (next_due now store b es)) (sym e ∙ look-result)
 
-  pub due-given : number ≡ 0 → due_with b now (next_query now store b es) ≡ due_of b now es store
+  pub due-given : {x : Unit {0}} → u ≡ Ok x → ◌≡◌ {A = Result ℕ Refusal} (Ok (due_with b now (next_query now store b es))) (due_of b now es store)
   unfolding due_of next_due
-  due-given ok =
-      λ i. record {
-        refusal = sym (none_left ok) i;
-        at = sym (ap (λ (k : ℕ). cond (eqb k 0) (cond (is_owed b.owed) now (next_query now store b es)) 0) (none_left ok)) i;
-      }
+  due-given e = ap (λ (r : Result (Unit {0}) Refusal). or_refused r (due_with b now (next_query now store b es))) (sym e ∙ look-result)
 
-  pub list_refused : (from : ℕ) → (number ≡ 0 → ⊥) → refused_list number ≡ list_of b now es store from
+  pub list_refused : (from : ℕ) {refusal : Refusal} → u ≡ Err refusal → ◌≡◌ {A = Result (Option ℕ) Refusal} (Err refusal) (list_of b now es store from)
   unfolding list_of
-  list_refused from differs =
-      λ i. record {
-        refusal = look-number b now es store i;
-        slot = sym (ap (λ (c : Bool). cond c (listed_from now store b es from) None)
-            (some_left differs)) i;
-      }
+  list_refused from e = ap (λ (r : Result (Unit {0}) Refusal). or_refused r (listed_from now store b es from)) (sym e ∙ look-result)
 
   -- the answer from what was found
-  list_given : (from : ℕ) → number ≡ 0 → (s : Option ℕ) → listed_from now store b es from ≡ s → ◌≡◌ {A = Listed} (record { refusal = 0; slot = s })
-      (list_of b now es store from)
+  pub list_given : (from : ℕ) {x : Unit {0}} → u ≡ Ok x → (s : Option ℕ) → listed_from now store b es from ≡ s
+      → ◌≡◌ {A = Result (Option ℕ) Refusal} (Ok s) (list_of b now es store from)
   unfolding list_of
-  list_given from ok s found =
-      λ i. record {
-        refusal = sym (none_left ok) i;
-        slot = (sym found ∙ sym (ap (λ (k : ℕ). cond (eqb k 0) (listed_from now store b es from) None) (none_left ok))) i;
-      }
-
-  pub list_found : (from : ℕ) → number ≡ 0 → (i : ℕ) → listed_from now store b es from ≡ Some i → found_list i ≡ list_of b now es store from
-  list_found from ok i found = list_given from ok (Some i) found
-
-  pub list_nothing : (from : ℕ) → number ≡ 0 → listed_from now store b es from ≡ None → refused_list 0 ≡ list_of b now es store from
-  list_nothing from ok found = list_given from ok None found
+  list_given from e s found = ap Ok (sym found) ∙ ap (λ (r : Result (Unit {0}) Refusal). or_refused r (listed_from now store b es from)) (sym e ∙ look-result)

@@ -1,6 +1,7 @@
 -- What a tick comes to: from the passes over the table and what was written to the answer, the state and the bytes. Assumes nothing.
 use Rattle.std.proofs.Common.{None, Option, Some}
-use mathlib.Core.Path.{◌≡◌, refl, sym, ap, subst, ◌∙◌}
+use Rattle.std.specs.Prelude.{Result, Ok, Err}
+use mathlib.Core.Path.{◌≡◌, refl, sym, ap, ap₂, subst, ◌∙◌}
 use mathlib.Core.Bool.{Bool, true, false, cond, ◌||◌}
 use mathlib.Core.List.{List, [], ◌∷◌}
 use Prim.Native.Nat.{ℕ, ◌≤◌, ◌<◌}
@@ -8,21 +9,24 @@ use native.Mathlib.Omega.{arith}
 use lib.ListN.{length, take, drop, drop_of_length-le}
 use lib.Dec.{ltb, leb, eqb}
 use borrow.Author.Tests.{lt-ltb, le-ltb, ltb-true, ltb-false, le-leb, lt-leb, ne_eqb}
+use Rattle.wire.specs.refusals.Numbers.{number_of, number_in, refused_by}
+use Rattle.wire.specs.declared.refusals.Refusal.{Refusal}
+use Rattle.wire.proofs.refusals.Tests.{numbers_from-1, number_by, none_by}
 use Rattle.cache.specs.declared.entries.Entry.{Entry}
 use Rattle.cache.specs.entries.Cache.{entries_refusal}
 use Rattle.writer.specs.own_packets.Own.{laid_over}
 use Rattle.browser.specs.declared.Browser.{Browser}
 use Rattle.browser.specs.declared.Ticked.{Ticked}
-use Rattle.browser.specs.declared.Answer.TheVariants.{Refused, Quiet, Sent}
+use Rattle.browser.specs.declared.Answer.TheVariants.{Quiet, Sent}
 use Rattle.browser.specs.declared.known_answers.Plan.{Plan}
 use Rattle.browser.specs.known_answers.Known.{known_in, known_from, known_owed}
 use Rattle.browser.specs.known_answers.Plans.{empty_plan, plan_from}
 use Rattle.browser.specs.refresh.Refresh.{query_due, next_query}
 use Rattle.browser.specs.query.Query.{asking, packet_for, stop_for}
 use Rattle.browser.specs.query.Drafts.{draft_packet, draft_stop}
-use Rattle.browser.specs.Calls.{answer_with, is_owed, is_due, resumed, asked, Turn, turn_with, turn_of, tick_refusal, ticked_packet, tick_of, Ticks}
-use Rattle.browser.specs.Steps.{tick_refusal_with, no_slot, or_no_slot, refused_tick, sent_tick, owed_start, asked_start, ended_tick, ended_packet}
-use Rattle.browser.proofs.Refusing.{Passed, tick-number, tick-passed}
+use Rattle.browser.specs.Calls.{answer_with, answer_for, is_owed, is_due, resumed, asked, Turn, turn_with, turn_of, tick_tests, tick_refusal, ticked_packet, tick_of, Ticks}
+use Rattle.browser.specs.Steps.{tick_tests_with, tick_refusal_with, no_slot, or_no_slot, refused_tick, sent_tick, owed_start, asked_start, ended_tick, ended_packet}
+use Rattle.browser.proofs.Refusing.{Passed, tick-result, tick-number, tick-passed}
 use Rattle.browser.proofs.refresh.Due.{due-is, resumed-due, asked-due}
 use Rattle.browser.proofs.query.Drafting.{draft_packet_lem, draft_stop_lem, plan_some, packet_some}
 
@@ -44,21 +48,22 @@ module _ (b : Browser) (now : ℕ) (es : List Entry) (store out : List ℕ) wher
 
   -- ---- refused
 
-  pub tick-refused : (number ≡ 0 → ⊥) → Ticks b now es store out (refused_tick number b) out
-  unfolding tick_of ticked_packet
-  tick-refused differs =
-      let n = tick-number b now es store (length out) in
-      let no_zero : eqb (tick_refusal b now es store (length out)) 0 ≡ false = ne_eqb (tick_refusal b now es store (length out)) 0 (λ e. differs (n ∙ e)) in
+  pub tick-refused : {u : Result (Unit {0}) Refusal} → u ≡ refused_by (tick_tests_with (entries_refusal now es) (length es) (length store) b now (length out))
+      → {refusal : Refusal} → u ≡ Err refusal → Ticks b now es store out (refused_tick refusal b) out
+  unfolding tick_of ticked_packet tick_refusal
+  tick-refused is {refusal = refusal} e =
+      let tested : refused_by (tick_tests b now es store (length out)) ≡ Err refusal = sym (tick-result b now es store (length out)) ∙ sym is ∙ e in
+      let n : tick_refusal b now es store (length out) ≡ number_of refusal = sym (number_by (tick_tests b now es store (length out))) ∙ ap number_in tested in
+      let no_zero : eqb (tick_refusal b now es store (length out)) 0 ≡ false =
+      ap (λ (k : ℕ). eqb k 0) n ∙ ne_eqb (number_of refusal) 0 (λ z. let h = numbers_from-1 refusal in absurd (omega arith)) in
       let turn : Turn = turn_of now store b es in record {
-        answers =
-            (λ i. record { answer = Refused (n i); more = false; browser = b })
-            ∙ sym (ap (λ (c : Bool). shape c turn) no_zero);
+        answers = sym (ap₂ (λ (r : Result (Unit {0}) Refusal) (c : Bool). shape r c turn) tested no_zero);
         writes = sym (ap (λ (c : Bool). laid_over (cond c turn.packet []) out) no_zero);
       }
     where
-      shape : Bool → Turn → Ticked
-      shape c t = record {
-        answer = cond c (answer_with (length (cond c t.packet []))) (Refused (tick_refusal b now es store (length out)));
+      shape : Result (Unit {0}) Refusal → Bool → Turn → Ticked
+      shape r c t = record {
+        answer = answer_for r (cond c t.packet []);
         more = cond c (is_due now store t.browser es) false;
         browser = cond c t.browser b;
       }
@@ -71,6 +76,10 @@ module _ (b : Browser) (now : ℕ) (es : List Entry) (store out : List ℕ) wher
 
     none : tick_refusal b now es store (length out) ≡ 0
     none = sym (tick-number b now es store (length out)) ∙ ok
+
+    taken : refused_by (tick_tests b now es store (length out)) ≡ Ok tt
+    unfolding tick_refusal
+    taken = none_by (tick_tests b now es store (length out)) none
 
     -- no slot is behind every table
     owed_slots : known_from now store b es (owed_start b) ≡ known_owed now store b es b.owed
@@ -95,8 +104,8 @@ module _ (b : Browser) (now : ℕ) (es : List Entry) (store out : List ℕ) wher
     answered r packet p a m s = record {
       answers =
           (λ i. record {
-            answer = (a ∙ ap (λ (x : List ℕ). answer_with (length x)) p ∙ sym (ap (λ (k : ℕ). cond (eqb k 0)
-                (answer_with (length (cond (eqb k 0) turn.packet []))) (Refused k)) none)) i;
+            answer = (a ∙ ap (λ (x : List ℕ). answer_with (length x)) p ∙ sym (ap₂ (λ (r : Result (Unit {0}) Refusal) (k : ℕ).
+                answer_for r (cond (eqb k 0) turn.packet [])) taken none)) i;
             more = (m ∙ sym (ap (λ (k : ℕ). cond (eqb k 0) (is_due now store turn.browser es) false) none)) i;
             browser = (s ∙ sym (ap (λ (k : ℕ). cond (eqb k 0) turn.browser b) none)) i;
           });

@@ -1,7 +1,8 @@
 -- The calls of a browser: a start, a tick on a lent cache, the next due time, and the list: the answer, the state after the call and the packet that it sends.
 -- Assumes nothing: these are definitions.
-use Rattle.std.specs.Prelude.{ℕ, ◌≡◌, Bool, true, false, cond, not, ◌||◌, List, [], ◌∷◌, ltb, eqb, length, replicate, Option, Some, None}
-use Rattle.wire.specs.refusals.Numbers.{first_refusal}
+use Rattle.std.specs.Prelude.{ℕ, ◌≡◌, Bool, true, false, cond, not, ◌||◌, List, [], ◌∷◌, ltb, eqb, length, replicate, Option, Some, None, Result, Ok, Err}
+use Rattle.wire.specs.refusals.Numbers.{number_of, first_refusal, refused_by}
+use Rattle.wire.specs.declared.refusals.Refusal.{Refusal}
 use Rattle.wire.specs.declared.refusals.Refusal.TheVariants.{Buffer, Draw, Setup, Table, Time}
 use Rattle.claims.specs.Time.{last_time, last_kept}
 use Rattle.own.specs.declared.records.Service.{Service}
@@ -13,8 +14,6 @@ use Rattle.browser.specs.declared.Answer.{Answer}
 use Rattle.browser.specs.declared.Answer.TheVariants.{Refused, Quiet, Sent}
 use Rattle.browser.specs.declared.Started.{Started}
 use Rattle.browser.specs.declared.Ticked.{Ticked}
-use Rattle.browser.specs.declared.NextDue.{NextDue}
-use Rattle.browser.specs.declared.list.Listed.{Listed}
 use Rattle.browser.specs.service.Service.{right_labels}
 use Rattle.browser.specs.series.Series.{series_due, counted}
 use Rattle.browser.specs.refresh.Refresh.{query_due, next_query}
@@ -24,12 +23,12 @@ use Rattle.browser.specs.list.Listing.{listed_from}
 
 -- The specification's values for each answer: the number of the refusal, 0 for none, and the length of the packet
 abbrev pub refusal_of : Answer → ℕ
-refusal_of (Refused n) = n
+refusal_of (Refused refusal) = number_of refusal
 refusal_of Quiet = 0
 refusal_of (Sent n) = 0
 
 abbrev pub length_of : Answer → ℕ
-length_of (Refused n) = 0
+length_of (Refused refusal) = 0
 length_of Quiet = 0
 length_of (Sent n) = n
 
@@ -37,8 +36,14 @@ abbrev pub answer_with : ℕ → Answer
 answer_with n = cond (eqb n 0) Quiet (Sent n)
 
 -- "A refusal returns the number alone"
-abbrev pub answer_for : ℕ → List ℕ → Answer
-answer_for refusal packet = cond (eqb refusal 0) (answer_with (length packet)) (Refused refusal)
+abbrev pub answer_for : Result (Unit {0}) Refusal → List ℕ → Answer
+answer_for (Ok u) packet = answer_with (length packet)
+answer_for (Err refusal) packet = Refused refusal
+
+-- a refusal, or what a call that sends nothing is asked for
+abbrev pub or_refused : {A : Type 0} → Result (Unit {0}) Refusal → A → Result A Refusal
+or_refused (Ok u) asked_for = Ok asked_for
+or_refused (Err refusal) asked_for = Err refusal
 
 -- ---- refusals
 
@@ -55,24 +60,31 @@ unfoldable pub wrong_time : Browser → ℕ → Bool
 wrong_time b now =
     ltb last_time now || (ltb now b.last || (ltb last_kept b.last || (ltb last_kept b.series || ltb last_kept b.query)))
 
+abbrev pub start_tests : Service → List ℕ → List ℕ → ℕ → ℕ → ℕ → List (Refusal × Bool)
+start_tests service protocol domain time draw refresh =
+    (Time, ltb last_time time) ∷ ((Draw, wrong_draws draw refresh) ∷ ((Setup, not (right_labels service protocol domain)) ∷ []))
+
 unfoldable pub start_refusal : Service → List ℕ → List ℕ → ℕ → ℕ → ℕ → ℕ
-start_refusal service protocol domain time draw refresh =
-    first_refusal ((Time, ltb last_time time) ∷ ((Draw, wrong_draws draw refresh) ∷ ((Setup, not (right_labels service protocol domain)) ∷ [])))
+start_refusal service protocol domain time draw refresh = first_refusal (start_tests service protocol domain time draw refresh)
 
 -- 8: the table's size, an entry's lengths, or the store's size
 abbrev pub wrong_table : List Entry → List ℕ → Bool
 wrong_table es store = bad_table es || bad_store es store
 
 -- "1 (.. before .. an entry's received time ..), 3, 8, 7"
+abbrev pub tick_tests : Browser → ℕ → List Entry → List ℕ → ℕ → List (Refusal × Bool)
+tick_tests b now es store room =
+    (Time, wrong_time b now || bad_time now es) ∷ ((Buffer, small_buffer room) ∷ ((Table, wrong_table es store) ∷ ((Setup, wrong_browser b) ∷ [])))
+
 unfoldable pub tick_refusal : Browser → ℕ → List Entry → List ℕ → ℕ → ℕ
-tick_refusal b now es store room =
-    first_refusal
-    ((Time, wrong_time b now || bad_time now es) ∷ ((Buffer, small_buffer room) ∷ ((Table, wrong_table es store) ∷ ((Setup, wrong_browser b) ∷ []))))
+tick_refusal b now es store room = first_refusal (tick_tests b now es store room)
 
 -- of a list and of the next due time, which have no buffer: 1, 8, 7
+abbrev pub look_tests : Browser → ℕ → List Entry → List ℕ → List (Refusal × Bool)
+look_tests b now es store = (Time, wrong_time b now || bad_time now es) ∷ ((Table, wrong_table es store) ∷ ((Setup, wrong_browser b) ∷ []))
+
 unfoldable pub look_refusal : Browser → ℕ → List Entry → List ℕ → ℕ
-look_refusal b now es store =
-    first_refusal ((Time, wrong_time b now || bad_time now es) ∷ ((Table, wrong_table es store) ∷ ((Setup, wrong_browser b) ∷ [])))
+look_refusal b now es store = first_refusal (look_tests b now es store)
 
 -- ---- a start
 
@@ -109,7 +121,7 @@ begun service protocol domain time draw refresh = record {
 unfoldable pub start_of : Service → List ℕ → List ℕ → ℕ → ℕ → ℕ → Started
 start_of service protocol domain time draw refresh =
     let number : ℕ = start_refusal service protocol domain time draw refresh in record {
-      answer = answer_for number [];
+      answer = answer_for (refused_by (start_tests service protocol domain time draw refresh)) [];
       browser = cond (eqb number 0) (begun service protocol domain time draw refresh) blank;
     }
 
@@ -183,7 +195,7 @@ unfoldable pub tick_of : Browser → ℕ → List Entry → List ℕ → ℕ →
 tick_of b now es store room =
     let number : ℕ = tick_refusal b now es store room in
     let turn : Turn = turn_of now store b es in record {
-      answer = answer_for number (ticked_packet b now es store room);
+      answer = answer_for (refused_by (tick_tests b now es store room)) (ticked_packet b now es store room);
       more = cond (eqb number 0) (is_due now store turn.browser es) false;
       browser = cond (eqb number 0) turn.browser b;
     }
@@ -198,19 +210,10 @@ pub record Ticks (b : Browser) (now : ℕ) (es : List Entry) (store out : List �
 unfoldable pub next_due : ℕ → List ℕ → Browser → List Entry → ℕ
 next_due now store b es = cond (is_owed b.owed) now (next_query now store b es)
 
-unfoldable pub due_of : Browser → ℕ → List Entry → List ℕ → NextDue
-due_of b now es store =
-    let number : ℕ = look_refusal b now es store in record { refusal = number; at = cond (eqb number 0) (next_due now store b es) 0 }
+unfoldable pub due_of : Browser → ℕ → List Entry → List ℕ → Result ℕ Refusal
+due_of b now es store = or_refused (refused_by (look_tests b now es store)) (next_due now store b es)
 
 -- ---- the list
 
-unfoldable pub list_of : Browser → ℕ → List Entry → List ℕ → ℕ → Listed
-list_of b now es store from =
-    let number : ℕ = look_refusal b now es store in record { refusal = number; slot = cond (eqb number 0) (listed_from now store b es from) None }
-
--- the answers of a list
-abbrev pub refused_list : ℕ → Listed
-refused_list number = record { refusal = number; slot = None }
-
-abbrev pub found_list : ℕ → Listed
-found_list i = record { refusal = 0; slot = Some i }
+unfoldable pub list_of : Browser → ℕ → List Entry → List ℕ → ℕ → Result (Option ℕ) Refusal
+list_of b now es store from = or_refused (refused_by (look_tests b now es store)) (listed_from now store b es from)

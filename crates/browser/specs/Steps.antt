@@ -2,23 +2,28 @@
 -- proofs/Refusing.antt). Assumes nothing: these are definitions.
 use Rattle.std.specs.Prelude.{ℕ, ◌≡◌, Bool, true, false, cond, not, ◌||◌, List, [], ◌∷◌, ltb, leb, eqb, length, Option, Some, None}
 use Rattle.wire.specs.refusals.Numbers.{first_refusal}
+use Rattle.wire.specs.declared.refusals.Refusal.{Refusal}
 use Rattle.wire.specs.declared.refusals.Refusal.TheVariants.{Buffer, Setup, Table, Time}
 use Rattle.writer.specs.own_packets.Own.{small_buffer, laid_over}
 use Rattle.cache.specs.entries.Cache.{is_store_of}
 use Rattle.browser.specs.declared.Browser.{Browser}
 use Rattle.browser.specs.declared.Answer.TheVariants.{Refused, Quiet, Sent}
 use Rattle.browser.specs.declared.Ticked.{Ticked}
-use Rattle.browser.specs.declared.NextDue.{NextDue}
 use Rattle.browser.specs.declared.known_answers.Plan.{Plan}
 use Rattle.browser.specs.query.Drafts.{draft_packet, draft_stop}
 use Rattle.browser.specs.Calls.{wrong_time, wrong_browser, is_owed, resumed, asked}
 
--- the refusals, from that of the entries of a table of n, and from the bytes of its store
+-- the tests, from the refusal of the entries of a table of n, and from the bytes of its store; and the numbers of their refusals
+unfoldable pub tick_tests_with : ℕ → ℕ → ℕ → Browser → ℕ → ℕ → List (Refusal × Bool)
+tick_tests_with entries n bytes b now room =
+    (Time, wrong_time b now || eqb entries 1) ∷ ((Buffer, small_buffer room) ∷
+    ((Table, not (eqb entries 0) || not (is_store_of n bytes)) ∷ ((Setup, wrong_browser b) ∷ [])))
+
+unfoldable pub look_tests_with : ℕ → ℕ → ℕ → Browser → ℕ → List (Refusal × Bool)
+look_tests_with entries n bytes b now = tick_tests_with entries n bytes b now 1452
+
 unfoldable pub tick_refusal_with : ℕ → ℕ → ℕ → Browser → ℕ → ℕ → ℕ
-tick_refusal_with entries n bytes b now room =
-    first_refusal
-    ((Time, wrong_time b now || eqb entries 1) ∷ ((Buffer, small_buffer room) ∷
-    ((Table, not (eqb entries 0) || not (is_store_of n bytes)) ∷ ((Setup, wrong_browser b) ∷ []))))
+tick_refusal_with entries n bytes b now room = first_refusal (tick_tests_with entries n bytes b now room)
 
 unfoldable pub look_refusal_with : ℕ → ℕ → ℕ → Browser → ℕ → ℕ
 look_refusal_with entries n bytes b now = tick_refusal_with entries n bytes b now 1452
@@ -38,8 +43,8 @@ owed_start b = or_no_slot b.owed
 unfoldable pub asked_start : ℕ → ℕ → ℕ → ℕ
 asked_start owed next now = cond (ltb 0 owed) no_slot (cond (ltb now next) no_slot 0)
 
-abbrev pub refused_tick : ℕ → Browser → Ticked
-refused_tick number b = record { answer = Refused number; more = false; browser = b }
+abbrev pub refused_tick : Refusal → Browser → Ticked
+refused_tick refusal b = record { answer = Refused refusal; more = false; browser = b }
 
 -- a tick that sends a packet of known answers, with no question or with one
 abbrev pub sent_tick : List ℕ → Bool → Browser → Ticked
@@ -62,8 +67,5 @@ pub record Ends (b : Browser) (now : ℕ) (store : List ℕ) (next : ℕ) (owed 
   pub answers : r ≡ ended_tick b store now next owed known
   pub writes : out' ≡ laid_over (ended_packet b store now next owed known) out
 
-abbrev pub refused_due : ℕ → NextDue
-refused_due number = record { refusal = number; at = 0 }
-
-abbrev pub due_with : Browser → ℕ → ℕ → NextDue
-due_with b now next = record { refusal = 0; at = cond (is_owed b.owed) now next }
+abbrev pub due_with : Browser → ℕ → ℕ → ℕ
+due_with b now next = cond (is_owed b.owed) now next

@@ -10,17 +10,22 @@ pub mod series;
 pub mod service;
 
 ghost use Rattle.std.specs.Prelude.{◌≡◌, ◌||◌, ◌≤◌, length};
+ghost use Rattle.wire.specs.refusals.Numbers.{refused_by};
 ghost use Rattle.browser.specs.service.Sound.{Sound};
-ghost use Rattle.browser.specs.Calls.{refusal_of, is_owed, blank, wrong_draws, wrong_browser, wrong_time, start_refusal, start_of};
-ghost use Rattle.browser.specs.Calls.{Ticks, resumed, asked, due_of};
-ghost use Rattle.browser.specs.Steps.{tick_refusal_with, look_refusal_with, owed_start, asked_start, Ends, refused_tick, refused_due, due_with};
+ghost use Rattle.browser.specs.Calls.{refusal_of, is_owed, blank, wrong_draws, wrong_browser, wrong_time, start_tests, start_refusal};
+ghost use Rattle.browser.specs.Calls.{start_of, Ticks, resumed, asked, due_of};
+ghost use Rattle.browser.specs.Steps.{tick_tests_with, look_tests_with, owed_start, asked_start, Ends, refused_tick, due_with};
 
 use crate::known_answers::Plan;
 use crate::series::{count_one, series_at};
 use crate::service::labels_right;
 use cache::entries::Entry;
+use cache::lookup::is_store_of;
+use capi_cache::table_refusal;
 use claims::refusal_tests::{LAST_KEPT, LAST_TIME, start_time_refused};
 use own::records::Service;
+use wire::refusals::Refusal;
+use writer::own_packets::LEAST_OUT;
 
 // A browser: the service label, the protocol and the domain as in a set-up; the two start draws; when the last query of the series was sent, or, before the
 // first, the start, and how many of the series were sent, counted up to 13; when the last query of either kind was sent; the slot from which on a truncated
@@ -39,10 +44,10 @@ pub struct Browser {
     pub last: u64,
 }
 
-// What a call answers: the number of its refusal, that it sends nothing, or the length of the packet that it wrote.
+// What a call answers: its refusal, that it sends nothing, or the length of the packet that it wrote.
 #[derive(Clone, Copy)]
 pub enum Answer {
-    Refused(u8),
+    Refused(Refusal),
     Quiet,
     Sent(usize),
 }
@@ -59,13 +64,6 @@ pub struct Ticked {
     pub answer: Answer,
     pub more: bool,
     pub browser: Browser,
-}
-
-// When the next step is due; or the number of a refusal, and 0.
-#[derive(Clone, Copy)]
-pub struct NextDue {
-    pub refusal: u8,
-    pub at: u64,
 }
 
 // The draws: that of the first query, 20..120 ms, and that of the refresh queries, 0..20 thousandths.
@@ -106,7 +104,7 @@ fn draws_refused(draw: u64, refresh: u64) -> bool
     draw < LEAST_DRAW || MOST_DRAW < draw || MOST_REFRESH < refresh
 }
 
-// The refusal of a start, 0 for none.
+// The refusal of a start, if it is refused.
 fn start_refusal(
     service: Service,
     protocol: [u8; 4],
@@ -114,19 +112,19 @@ fn start_refusal(
     time: u64,
     draw: u64,
     refresh: u64,
-) -> u8
-    ensures { result ≡ start_refusal service protocol domain time draw refresh }
+) -> Result<(), Refusal>
+    ensures { result ≡ refused_by (start_tests service protocol domain time draw refresh) }
 {
     if start_time_refused(time) {
-        return wire::refusals::TIME;
+        return Err(Refusal::Time);
     }
     if draws_refused(draw, refresh) {
-        return wire::refusals::DRAW;
+        return Err(Refusal::Draw);
     }
     if !labels_right(service, protocol, domain) {
-        return wire::refusals::SETUP;
+        return Err(Refusal::Setup);
     }
-    0
+    Ok(())
 }
 
 // Begins a browser, whose first query waits for the draw.
@@ -141,8 +139,7 @@ pub fn start(
     ensures answer { result ≡ start_of service protocol domain time draw refresh }
     ensures number { refusal_of result.answer ≡ start_refusal service protocol domain time draw refresh }
 {
-    let refusal = start_refusal(service, protocol, domain, time, draw, refresh);
-    if refusal != 0 {
+    if let Err(refusal) = start_refusal(service, protocol, domain, time, draw, refresh) {
         return Started {
             answer: Answer::Refused(refusal),
             browser: blank_browser(),
@@ -183,30 +180,43 @@ fn time_refused(b: Browser, time: u64) -> bool
         || LAST_KEPT < b.query
 }
 
-// The refusal of a tick, 0 for none, where `entries` is that of its table of n entries, and `room` the bytes of its buffer.
-fn tick_refusal(entries: u8, n: usize, store: &[u8], b: Browser, time: u64, room: usize) -> u8
-    ensures { result ≡ tick_refusal_with entries n (length store.now) b time room }
+// The refusal of a tick, if it is refused, where `entries` is the number of that of its table of n entries, and `room` the bytes of its buffer.
+fn tick_refusal(
+    entries: u8,
+    n: usize,
+    store: &[u8],
+    b: Browser,
+    time: u64,
+    room: usize,
+) -> Result<(), Refusal>
+    ensures { result ≡ refused_by (tick_tests_with entries n (length store.now) b time room) }
 {
-    if time_refused(b, time) || entries == wire::refusals::TIME {
-        return wire::refusals::TIME;
+    if time_refused(b, time) || entries == Refusal::Time.number() {
+        return Err(Refusal::Time);
     }
-    if room < writer::own_packets::LEAST_OUT {
-        return wire::refusals::BUFFER;
+    if room < LEAST_OUT {
+        return Err(Refusal::Buffer);
     }
-    if entries != 0 || !cache::lookup::is_store_of(n, store.len()) {
-        return wire::refusals::TABLE;
+    if entries != 0 || !is_store_of(n, store.len()) {
+        return Err(Refusal::Table);
     }
     if browser_refused(b) {
-        return wire::refusals::SETUP;
+        return Err(Refusal::Setup);
     }
-    0
+    Ok(())
 }
 
-// The refusal of a list and of the next due time, 0 for none.
-pub(crate) fn look_refusal(entries: u8, n: usize, store: &[u8], b: Browser, time: u64) -> u8
-    ensures { result ≡ look_refusal_with entries n (length store.now) b time }
+// The refusal of a list and of the next due time, if they are refused.
+pub(crate) fn look_refusal(
+    entries: u8,
+    n: usize,
+    store: &[u8],
+    b: Browser,
+    time: u64,
+) -> Result<(), Refusal>
+    ensures { result ≡ refused_by (look_tests_with entries n (length store.now) b time) }
 {
-    tick_refusal(entries, n, store, b, time, writer::own_packets::LEAST_OUT)
+    tick_refusal(entries, n, store, b, time, LEAST_OUT)
 }
 
 // The slot from which on known answers are gathered: that from which on some are owed, or one behind every table.
@@ -261,7 +271,7 @@ fn ask(b: Browser, time: u64, owed: Option<usize>) -> Browser
     }
 }
 
-fn refused_tick(refusal: u8, b: Browser) -> Ticked
+fn refused_tick(refusal: Refusal, b: Browser) -> Ticked
     ensures { result ≡ refused_tick refusal b }
 {
     Ticked {
@@ -271,20 +281,11 @@ fn refused_tick(refusal: u8, b: Browser) -> Ticked
     }
 }
 
-fn refused_due(refusal: u8) -> NextDue
-    ensures { result ≡ refused_due refusal }
-{
-    NextDue { refusal, at: 0 }
-}
-
 // The next due time, where that of the next query is `next`: what is owed is due now.
-fn due_at(b: Browser, time: u64, next: u64) -> NextDue
+fn due_at(b: Browser, time: u64, next: u64) -> u64
     ensures { result ≡ due_with b time next }
 {
-    NextDue {
-        refusal: 0,
-        at: if b.owed.is_some() { time } else { next },
-    }
+    if b.owed.is_some() { time } else { next }
 }
 
 // Whether more is due: something is owed, or a query is due.
@@ -336,10 +337,8 @@ fn finish(
 pub fn tick(table: &[Entry], store: &[u8], b: Browser, time: u64, out: &mut [u8]) -> Ticked
     ensures { Ticks b time table.now store.now out.old result out.new }
 {
-    let n = table.len();
-    let entries = capi_cache::table_refusal(table, time);
-    let refusal = tick_refusal(entries, n, store, b, time, out.len());
-    if refusal != 0 {
+    let entries = table_refusal(table, time);
+    if let Err(refusal) = tick_refusal(entries, table.len(), store, b, time, out.len()) {
         return refused_tick(refusal, b);
     }
     let owed = crate::known_answers::gather(table, store, b, time, owed_start(b));
@@ -349,14 +348,10 @@ pub fn tick(table: &[Entry], store: &[u8], b: Browser, time: u64, out: &mut [u8]
 }
 
 // When the next step is due, with the table as it is: a caller that ticks then, and whenever the table has changed, misses none.
-pub fn due(table: &[Entry], store: &[u8], b: Browser, time: u64) -> NextDue
+pub fn due(table: &[Entry], store: &[u8], b: Browser, time: u64) -> Result<u64, Refusal>
     ensures { result ≡ due_of b time table.now store.now }
 {
-    let n = table.len();
-    let entries = capi_cache::table_refusal(table, time);
-    let refusal = look_refusal(entries, n, store, b, time);
-    if refusal != 0 {
-        return refused_due(refusal);
-    }
-    due_at(b, time, crate::refresh::next_query(table, store, b, time))
+    let entries = table_refusal(table, time);
+    look_refusal(entries, table.len(), store, b, time)?;
+    Ok(due_at(b, time, crate::refresh::next_query(table, store, b, time)))
 }

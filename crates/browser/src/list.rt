@@ -1,22 +1,16 @@
 // The list: the targets of live, well-formed PTR entries of the name, each once with letters folded, lowest entry first.
 ghost use Rattle.std.specs.Prelude.{◌≡◌, ◌&&◌, not};
 ghost use Rattle.browser.specs.list.Listing.{is_shown, shows_too, is_listed};
-ghost use Rattle.browser.specs.Calls.{list_of, refused_list, found_list};
+ghost use Rattle.browser.specs.Calls.{list_of};
 
-use crate::Browser;
 use crate::service::service_name;
+use crate::{Browser, look_refusal};
 use cache::entries::{Entry, is_live, is_of, slot_of};
 use capi_cache::{entry_or_blank, table_refusal};
 use wire::case_folding::same_name;
 use wire::names::is_name;
 use wire::rdata::{PTR, part};
-
-// The number of a refusal, or 0; and the lowest listed slot, if there is one.
-#[derive(Clone, Copy)]
-pub struct Listed {
-    pub refusal: u8,
-    pub slot: Option<usize>,
-}
+use wire::refusals::Refusal;
 
 // Whether the entry in slot i is a live, well-formed PTR entry of the name.
 pub(crate) fn is_shown(e: Entry, i: usize, store: &[u8], b: Browser, time: u64) -> bool
@@ -70,48 +64,24 @@ pub(crate) fn is_listed(table: &[Entry], store: &[u8], b: Browser, time: u64, i:
     listed
 }
 
-pub(crate) fn refused_list(refusal: u8) -> Listed
-    ensures { result ≡ refused_list refusal }
-{
-    Listed {
-        refusal,
-        slot: None,
-    }
-}
-
-pub(crate) fn found_list(slot: usize) -> Listed
-    ensures { result ≡ found_list slot }
-{
-    Listed {
-        refusal: 0,
-        slot: Some(slot),
-    }
-}
-
-pub(crate) fn nothing_listed() -> Listed
-    ensures { result ≡ refused_list 0 }
-{
-    Listed {
-        refusal: 0,
-        slot: None,
-    }
-}
-
-// The lowest listed slot from a slot on. Who asks from 0 on, and then each time from the slot behind the last, gets the list; the target is the rdata in the
-// slot. Nothing is written.
-pub fn list(table: &[Entry], store: &[u8], b: Browser, time: u64, from: usize) -> Listed
+// The lowest listed slot from a slot on, if there is one. Who asks from 0 on, and then each time from the slot behind the last, gets the list; the target is
+// the rdata in the slot. Nothing is written.
+pub fn list(
+    table: &[Entry],
+    store: &[u8],
+    b: Browser,
+    time: u64,
+    from: usize,
+) -> Result<Option<usize>, Refusal>
     ensures { result ≡ list_of b time table.now store.now from }
 {
     let n = table.len();
     let entries = table_refusal(table, time);
-    let refusal = crate::look_refusal(entries, n, store, b, time);
-    if refusal != 0 {
-        return refused_list(refusal);
-    }
+    look_refusal(entries, n, store, b, time)?;
     for i in from..n {
         if is_listed(table, store, b, time, i) {
-            return found_list(i);
+            return Ok(Some(i));
         }
     }
-    nothing_listed()
+    Ok(None)
 }

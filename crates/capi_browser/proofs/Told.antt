@@ -1,9 +1,7 @@
 -- What the covered functions give, from what they have called and tested. Assumes nothing.
 use Rattle.std.proofs.Common.{None, Option, Some}
 use Prim.Native.Nat.{ℕ, ◌-◌}
-use mathlib.Core.Path.{◌≡◌, refl, sym, ap, ap₂, ◌∙◌}
-use mathlib.Core.Bool.{Bool}
-use Rattle.std.specs.Option.{is_some, unwrap_or}
+use mathlib.Core.Path.{◌≡◌, sym, ap, ap₂, ◌∙◌}
 use mathlib.Core.List.{List}
 use lib.ListN.{length, replicate}
 use lib.Seq.{sets}
@@ -12,13 +10,11 @@ use Rattle.own.specs.declared.records.Service.{Service}
 use Rattle.browser.specs.declared.Browser.{Browser}
 use Rattle.browser.specs.declared.Started.{Started}
 use Rattle.browser.specs.declared.Ticked.{Ticked}
-use Rattle.browser.specs.declared.list.Listed.{Listed}
 use Rattle.browser.specs.Calls.{refusal_of, length_of, start_of}
 use Rattle.capi_browser.specs.declared.BrowserNumbers.{BrowserNumbers}
 use Rattle.capi_browser.specs.declared.StartedNumbers.{StartedNumbers}
 use Rattle.capi_browser.specs.declared.TickedNumbers.{TickedNumbers}
-use Rattle.capi_browser.specs.declared.ListedNumbers.{ListedNumbers}
-use Rattle.capi_browser.specs.Numbers.{owed_of, owed_number, browser_of, numbers_of, started_numbers, ticked_numbers, listed_with, listed_numbers}
+use Rattle.capi_browser.specs.Numbers.{owed_of, owed_number, browser_of, numbers_of, started_numbers, ticked_numbers}
 use Rattle.capi_browser.specs.Labels.{service_of, exactly}
 
 -- ---- what is owed
@@ -53,15 +49,6 @@ unfolding ticked_numbers
 ticked-are r n l b x y z =
     ap₂ (λ (k m : ℕ). record { refusal = k; more = r.more; length = m; browser = b }) x y
     ∙ ap (λ (s : BrowserNumbers). record { refusal = refusal_of r.answer; more = r.more; length = length_of r.answer; browser = s }) z
-
-pub listed-are : (r : Listed) (found : Bool) (slot : ℕ) → found ≡ is_some r.slot → slot ≡ unwrap_or r.slot 0
-    → ◌≡◌ {A = ListedNumbers} (record { refusal = r.refusal; found = found; slot = slot }) (listed_numbers r)
-unfolding listed_numbers
-listed-are r found slot f s = ap₂ (λ (b : Bool) (i : ℕ). record { refusal = r.refusal; found = b; slot = i }) f s ∙ at r.slot
-  where
-    at : (o : Option ℕ) → ◌≡◌ {A = ListedNumbers} (record { refusal = r.refusal; found = is_some o; slot = unwrap_or o 0 }) (listed_with r.refusal o)
-    at (Some i) = refl
-    at None = refl
 
 -- ---- labels
 pub service-laid : (label bytes : List ℕ) → bytes ≡ sets (replicate 16 0) 0 label → ◌≡◌ {A = Service} (record { bytes = bytes; len = length label }) (service_of label)

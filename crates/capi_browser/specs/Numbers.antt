@@ -1,10 +1,10 @@
 -- A browser's state and the answers of its calls in numbers, for callers in other languages. Assumes nothing: these are definitions.
-use Rattle.std.specs.Prelude.{ℕ, ◌+◌, ◌-◌, true, false, cond, eqb, Option, Some, None}
+use Rattle.std.specs.Prelude.{ℕ, ◌+◌, ◌-◌, true, false, cond, eqb, Option, Some, None, Result, Ok, Err}
+use Rattle.wire.specs.refusals.Numbers.{number_of}
+use Rattle.wire.specs.declared.refusals.Refusal.{Refusal}
 use Rattle.browser.specs.declared.Browser.{Browser}
 use Rattle.browser.specs.declared.Started.{Started}
 use Rattle.browser.specs.declared.Ticked.{Ticked}
-use Rattle.browser.specs.declared.NextDue.{NextDue}
-use Rattle.browser.specs.declared.list.Listed.{Listed}
 use Rattle.browser.specs.Calls.{refusal_of, length_of}
 use Rattle.capi_browser.specs.declared.BrowserNumbers.{BrowserNumbers}
 use Rattle.capi_browser.specs.declared.StartedNumbers.{StartedNumbers}
@@ -61,8 +61,10 @@ abbrev pub listed_with : ℕ → Option ℕ → ListedNumbers
 listed_with refusal (Some i) = record { refusal = refusal; found = true; slot = i }
 listed_with refusal None = record { refusal = refusal; found = false; slot = 0 }
 
-unfoldable pub listed_numbers : Listed → ListedNumbers
-listed_numbers r = listed_with r.refusal r.slot
+abbrev pub listed_numbers : Result (Option ℕ) Refusal → ListedNumbers
+listed_numbers (Ok s) = listed_with 0 s
+listed_numbers (Err refusal) = listed_with (number_of refusal) None
 
-unfoldable pub due_numbers : NextDue → DueNumbers
-due_numbers r = record { refusal = r.refusal; time = r.at }
+abbrev pub due_numbers : Result ℕ Refusal → DueNumbers
+due_numbers (Ok time) = record { refusal = 0; time = time }
+due_numbers (Err refusal) = record { refusal = number_of refusal; time = 0 }

@@ -9,10 +9,10 @@ ghost use Rattle.browser.specs.Calls.{refusal_of, length_of, start_of, tick_of, 
 ghost use Rattle.capi_browser.specs.Numbers.{owed_of, owed_number, browser_of, numbers_of, started_numbers, ticked_numbers, listed_numbers, due_numbers};
 ghost use Rattle.capi_browser.specs.Labels.{service_of, exactly};
 
-use browser::list::Listed;
-use browser::{Answer, Browser, NextDue, Started, Ticked};
+use browser::{Answer, Browser, Started, Ticked};
 use cache::entries::Entry;
 use own::records::Service;
+use wire::refusals::Refusal;
 
 // A browser's state in numbers: its labels, the length of the service label, and what `browser::Browser` keeps; `owed` is 0 for nothing, and else the slot
 // from which on known answers are owed, plus 1.
@@ -134,7 +134,7 @@ fn refusal_of(answer: Answer) -> u8
     ensures { result ≡ refusal_of answer }
 {
     match answer {
-        Answer::Refused(number) => number,
+        Answer::Refused(refusal) => refusal.number(),
         Answer::Quiet => 0,
         Answer::Sent(_) => 0,
     }
@@ -175,23 +175,36 @@ fn ticked_numbers(ticked: Ticked) -> TickedNumbers
     }
 }
 
-fn listed_numbers(listed: Listed) -> ListedNumbers
+fn listed_numbers(listed: Result<Option<usize>, Refusal>) -> ListedNumbers
     ensures { result ≡ listed_numbers listed }
 {
-    ListedNumbers {
-        refusal: listed.refusal,
-        found: listed.slot.is_some(),
-        slot: listed.slot.unwrap_or(0),
+    match listed {
+        Ok(Some(slot)) => ListedNumbers {
+            refusal: 0,
+            found: true,
+            slot,
+        },
+        Ok(None) => ListedNumbers {
+            refusal: 0,
+            found: false,
+            slot: 0,
+        },
+        Err(refusal) => ListedNumbers {
+            refusal: refusal.number(),
+            found: false,
+            slot: 0,
+        },
     }
 }
 
-fn due_numbers(due: NextDue) -> DueNumbers
+fn due_numbers(due: Result<u64, Refusal>) -> DueNumbers
     ensures { result ≡ due_numbers due }
 {
-    DueNumbers {
-        refusal: due.refusal,
-        time: due.at,
-    }
+    let (refusal, time) = match due {
+        Ok(time) => (0, time),
+        Err(refusal) => (refusal.number(), 0),
+    };
+    DueNumbers { refusal, time }
 }
 
 // A service label of some bytes. More than there is room for keep their length, by which no browser has them.

@@ -1,26 +1,28 @@
-use Rattle.std.proofs.Common.{◌≡◌, length, sym, ap, ◌∙◌}
+use Rattle.std.proofs.Common.{◌≡◌, length, ap, ◌∙◌}
+use Rattle.std.specs.Prelude.{Ok}
+use Rattle.std.proofs.lemmas.Result.{err_from_is_err_and}
+use Rattle.wire.specs.refusals.Numbers.{refused_by}
 use Rattle.cache.specs.entries.Cache.{entries_refusal}
-use Rattle.browser.specs.Steps.{look_refusal_with, refused_due, due_with}
-use Rattle.browser.proofs.Refusing.{tick-passed, due-refused, due-given}
+use Rattle.browser.specs.Steps.{look_tests_with, due_with}
+use Rattle.browser.proofs.Refusing.{look-taken, due-refused, due-given}
 use Rattle.browser.proofs.due.Goals as goal
 
-pub returns-then-refusal-ne0 : goal.returns-then-refusal-ne0
-returns-then-refusal-ne0 c =
-    let number : c.look_refusal-refusal.result ≡ look_refusal_with (entries_refusal c.args.time c.args.table.now) (length c.args.table.now) (length c.args.store.now) c.args.b c.args.time =
-    cc (c.look_refusal-refusal.ensures, c.table_refusal-entries.ensures) in
-    c.refused_due.ensures ∙ ap refused_due number
-    ∙ due-refused c.args.b c.args.time c.args.table.now c.args.store.now (λ z. c.if-refusal-ne0.true (number ∙ z))
+pub returns-in_err-look_refusal : goal.returns-in_err-look_refusal
+returns-in_err-look_refusal c =
+    let tested : c.look_refusal.result ≡ refused_by (look_tests_with (entries_refusal c.args.time c.args.table.now) (length c.args.table.now) (length c.args.store.now) c.args.b c.args.time) =
+    cc (c.look_refusal.ensures, c.table_refusal-entries.ensures) in
+    let p = err_from_is_err_and c.from_residual.result c.from_residual.ensures.1 in
+    rw (p.1, p.2) (due-refused c.args.b c.args.time c.args.table.now c.args.store.now tested c.in_err-look_refusal.was)
 
 pub next_query-requires : goal.next_query-requires
-unfolding look_refusal_with
 next_query-requires c =
-    let number : c.look_refusal-refusal.result ≡ look_refusal_with (entries_refusal c.args.time c.args.table.now) (length c.args.table.now) (length c.args.store.now) c.args.b c.args.time =
-    cc (c.look_refusal-refusal.ensures, c.table_refusal-entries.ensures) in
-    (tick-passed c.args.b c.args.time c.args.table.now c.args.store.now 1452 (sym number ∙ c.if-refusal-ne0.false)).sound
+    let tested : c.look_refusal.result ≡ refused_by (look_tests_with (entries_refusal c.args.time c.args.table.now) (length c.args.table.now) (length c.args.store.now) c.args.b c.args.time) =
+    cc (c.look_refusal.ensures, c.table_refusal-entries.ensures) in
+    (look-taken c.args.b c.args.time c.args.table.now c.args.store.now tested c.in_ok-look_refusal.was).sound
 
 pub returns : goal.returns
 returns c =
-    let number : c.look_refusal-refusal.result ≡ look_refusal_with (entries_refusal c.args.time c.args.table.now) (length c.args.table.now) (length c.args.store.now) c.args.b c.args.time =
-    cc (c.look_refusal-refusal.ensures, c.table_refusal-entries.ensures) in
-    c.due_at.ensures ∙ ap (due_with c.args.b c.args.time) c.next_query.ensures
-    ∙ due-given c.args.b c.args.time c.args.table.now c.args.store.now (sym number ∙ c.if-refusal-ne0.false)
+    let tested : c.look_refusal.result ≡ refused_by (look_tests_with (entries_refusal c.args.time c.args.table.now) (length c.args.table.now) (length c.args.store.now) c.args.b c.args.time) =
+    cc (c.look_refusal.ensures, c.table_refusal-entries.ensures) in
+    ap Ok (c.due_at.ensures ∙ ap (due_with c.args.b c.args.time) c.next_query.ensures)
+    ∙ due-given c.args.b c.args.time c.args.table.now c.args.store.now tested c.in_ok-look_refusal.was

@@ -1,8 +1,8 @@
 use Rattle.browser.proofs.Asking.{start-refused, starts}
 use Rattle.browser.proofs.start.Goals as goal
 
-pub returns-then-refusal-ne0 : goal.returns-then-refusal-ne0
-returns-then-refusal-ne0 c = let all = start-refused _ _ _ _ _ _ _ c.start_refusal-refusal.ensures c.if-refusal-ne0.true _ c.blank_browser.ensures in record { answer = all.0; number = all.1 }
+pub returns-in-Err : goal.returns-in-Err
+returns-in-Err c = let all = start-refused _ _ _ _ _ _ c.start_refusal.ensures c.in-Err.is _ c.blank_browser.ensures in record { answer = all.0; number = all.1 }
 
 pub returns : goal.returns
-returns c = let all = starts _ _ _ _ _ _ _ c.start_refusal-refusal.ensures c.if-refusal-ne0.false in record { answer = all.0; number = all.1 }
+returns c = let all = starts _ _ _ _ _ _ c.start_refusal.ensures c.in_default.is in record { answer = all.0; number = all.1 }
