@@ -8,7 +8,7 @@ use Prim.Native.Nat.{ℕ, zero, suc, ◌+◌, ◌≤◌}
 use native.Mathlib.Omega.{arith}
 use lib.Dec.{eqb, ltb}
 use lib.ListN.{length}
-use borrow.Author.Tests.{eqb-true, eqb-false, ne_eqb, ltb-false}
+use borrow.Author.Tests.{eqb-true, eqb-false, ltb-false}
 use mathlib.Mathlib.Data.Bool.Basic.{or-eq-false-eq-eq-false-and-eq-false as neither}
 use Rattle.std.specs.Prelude.{Result, Ok, Err}
 use Rattle.wire.specs.refusals.Numbers.{number_in, refused_by}
@@ -49,9 +49,6 @@ use Rattle.uniqueness.specs.Responder.{sends, back_to, sent_for, own_claim, begu
 use Rattle.uniqueness.specs.Rules.{response_for, messages_for, replies_for, to_asker, with, told, served, renewed, stage_of, Of, Ready, rules}
 use Rattle.uniqueness.proofs.Lists.{clash}
 use Rattle.uniqueness.proofs.Messages.{both_read, response_reads, output_reads, reply-reads}
-
-pub positive : (n : ℕ) → eqb (suc n) 0 ≡ false
-positive n = ne_eqb (suc n) 0 (λ e. absurd (omega arith))
 
 not-false : (b : Bool) → not b ≡ false → b ≡ true
 not-false true h = refl
