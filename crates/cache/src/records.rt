@@ -13,8 +13,8 @@ use wire::expansion::same_bytes;
 use wire::message::RecordAt;
 use wire::rdata::{A, AAAA, NSEC, PTR, SRV, TXT, part};
 
-// A record of a message as it lies; whether it is whole, as each is that hearing gives; how many bytes its rdata has, names expanded, and whether it holds a name,
-// which of an NSEC says that it is of the restricted kind. `whole` stays beside the Option of hearing: not-whole speaks of a record that is not.
+// A record of a message as it lies; whether it is whole, as each is that hearing gives; how many bytes its rdata has, names expanded, and whether it holds a
+// name, which of an NSEC says that it is of the restricted kind. `whole` stays beside the Option of hearing: not-whole speaks of a record that is not.
 #[derive(Clone, Copy)]
 pub struct Heard {
     pub whole: bool,

@@ -8,7 +8,8 @@ ghost use Rattle.trace.specs.reading.Events.{data_at, occurrence};
 ghost use Rattle.trace.specs.writing.Sizes.{can_be_written};
 ghost use Rattle.claims.specs.Claims.{state_number};
 ghost use Rattle.responder.specs.Runs.{received, ticked, stopped, updated};
-ghost use Rattle.playing.specs.Playing.{arrival_of, tick_of, update_of, refusal_in, number_for, made_with, made_by, made_behind, number_in, agrees_with, turn_of, played_at, port_fits};
+ghost use Rattle.playing.specs.Playing.{arrival_of, tick_of, update_of, refusal_in, number_for, made_with};
+ghost use Rattle.playing.specs.Playing.{made_by, made_behind, number_in, agrees_with, turn_of, played_at, port_fits};
 
 use claims::ClaimState;
 use claims::holds::Address;
