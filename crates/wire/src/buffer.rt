@@ -9,7 +9,9 @@ pub fn put(out: &mut [u8], at: usize, s: &[u8])
     if out.len() <= at {
         return;
     }
+    // byte by byte: `copy_from_slice` calls memmove, which the archives for C would need from outside, and for a few bytes the call takes longer
     let n = s.len().min(out.len() - at);
-    let end = at + n;
-    out[at..end].copy_from_slice(&s[..n]);
+    for i in 0..n {
+        out[at + i] = s[i];
+    }
 }

@@ -1,15 +1,13 @@
 -- Stores past the end of a list change nothing. Assumes nothing.
 use mathlib.Core.Path.{◌≡◌, refl, sym, ap, ◌∙◌}
-use mathlib.Core.List.{List, [], ◌∷◌, ◌++◌}
+use mathlib.Core.List.{List, [], ◌∷◌}
 use mathlib.Core.Bool.{Bool, true, false}
 use Prim.Native.Nat.{ℕ, zero, suc, ◌+◌, ◌-◌, ◌≤◌, ◌<◌, min}
 use native.Mathlib.Omega.{arith}
 use lib.ListN.{length, take, drop, set, take-append-drop}
-use lib.Seq.{sets, sets-eq, length-sets, take_all, length-take-le}
+use lib.Seq.{sets, length-sets, take_all, length-take-le}
 use lib.Dec.{leb}
 use borrow.Author.Tests.{leb-true, leb-false}
-use borrow.Rule.Slice.PartMut.{put_mid}
-use Rattle.std.proofs.lemmas.List.{append_assoc, drop-drop}
 use Rattle.wire.proofs.octets.Sets.{sets-append}
 
 set_past : (l : List ℕ) (i v : ℕ) → length l ≤ i → set l i v ≡ l
@@ -36,16 +34,3 @@ sets-room_for l at s n h e = go (leb (length s) (length l - at)) refl
     go : (x : Bool) → leb (length s) (length l - at) ≡ x → sets l at (take n s) ≡ sets l at s
     go true t = let k : length s ≤ length l - at = leb-true _ _ t in ap (sets l at) (take_all n s (omega (arith, e)))
     go false t = let k : length l - at < length s = leb-false _ _ t in sets-room l at n s (omega (arith, e)) (omega (arith, e))
-
--- bytes copied over a part of a buffer are stored there
-pub put-copied : (l s : List ℕ) (at n d : ℕ) (mid : List ℕ) → at < length l → n ≡ min (length s) (length l - at) → d ≡ n → mid ≡ take n s
-    → put_mid at d l mid ≡ sets l at s
-put-copied l s at n d mid h e z f =
-    let few : n ≤ length s = omega (arith, e) in
-    let room : at + n ≤ length l = omega (arith, e) in
-    let long : length (take n s) ≡ n = length-take-le n s few in
-    ap (λ (m : List ℕ). put_mid at d l m) f
-    ∙ ap (λ (r : List ℕ). take at l ++ (take n s ++ r)) (drop-drop d at l ∙ ap (λ (k : ℕ). drop (at + k) l) (z ∙ sym long))
-    ∙ sym (append_assoc (take at l) (take n s) (drop (at + length (take n s)) l))
-    ∙ sym (sets-eq (take n s) l at (omega (arith, long, room)))
-    ∙ sets-room_for l at s n (omega arith) e
