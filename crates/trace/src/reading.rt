@@ -1,9 +1,9 @@
 // Reading a trace event by event: each event with its numbers and the place of the bytes that it brings, or the offset of the first record that is malformed
 // or cannot stand where it does, or the end where one is owed there (refusal 12).
-ghost use Rattle.std.specs.Prelude.{◌≡◌, ◌+◌, ◌-◌, ◌*◌, ◌≤◌, length};
+ghost use Rattle.std.specs.Prelude.{◌≡◌, ◌+◌, ◌-◌, ◌*◌, ◌≤◌, ◌<◌, length};
 ghost use Rattle.std.proofs.lemmas.List.Edits.{sets};
 ghost use Rattle.trace.specs.records.Records.{record_at};
-ghost use Rattle.trace.specs.reading.Reading.{all_zero, pieces_of, is_usual, is_piece, pieces_at, alone_step, with_data, behind_source, step_at};
+ghost use Rattle.trace.specs.reading.Reading.{all_zero, pieces_of, is_usual, is_piece, pieces_at, alone_step, with_data, behind_source, step_at, found_in};
 ghost use Rattle.trace.specs.reading.Events.{in_piece, data_from, data_at, check_of};
 
 use crate::records::{
@@ -104,28 +104,23 @@ fn pieces_end(trace: &[u8], first: usize, len: usize) -> Result<usize, Refused>
 }
 
 // An event with the pieces that it owes.
-fn with_data(trace: &[u8], event: Event, first: usize, len: usize) -> Result<Option<Entry>, Refused>
+fn with_data(trace: &[u8], event: Event, first: usize, len: usize) -> Result<Entry, Refused>
     requires { first ≤ length trace.now }
-    ensures { result ≡ with_data trace.now event first len }
+    ensures { found_in result ≡ with_data trace.now event first len }
 {
     let next = pieces_end(trace, first, len)?;
-    Ok(Some(Entry {
+    Ok(Entry {
         event,
         first,
         len,
         next,
-    }))
+    })
 }
 
 // The packet behind the record of its source.
-fn behind_source(
-    trace: &[u8],
-    at: usize,
-    from: Address,
-    hold: u64,
-) -> Result<Option<Entry>, Refused>
+fn behind_source(trace: &[u8], at: usize, from: Address, hold: u64) -> Result<Entry, Refused>
     requires { at ≤ length trace.now }
-    ensures { result ≡ behind_source trace.now at from hold (record_at trace.now at) }
+    ensures { found_in result ≡ behind_source trace.now at from hold (record_at trace.now at) }
 {
     let Some(record) = record_at(trace, at) else {
         return Err(Refused { at });
@@ -153,24 +148,22 @@ fn behind_source(
 }
 
 // An event without bytes.
-fn alone(event: Event, next: usize) -> Result<Option<Entry>, Refused>
-    ensures { result ≡ alone_step event next }
+fn alone(event: Event, next: usize) -> Result<Entry, Refused>
+    ensures { found_in result ≡ alone_step event next }
 {
-    Ok(Some(Entry {
+    Ok(Entry {
         event,
         first: next,
         len: 0,
         next,
-    }))
+    })
 }
 
-// The event at an offset, which is the trace's start or behind another event. At the trace's end and past it there is none.
-pub fn next(trace: &[u8], at: usize) -> Result<Option<Entry>, Refused>
-    ensures { result ≡ step_at trace.now at }
+// The event at an offset before the trace's end. Without the Option of `next`, in which each entry is copied once more.
+fn entry_at(trace: &[u8], at: usize) -> Result<Entry, Refused>
+    requires { at < length trace.now }
+    ensures { found_in result ≡ step_at trace.now at }
 {
-    if trace.len() <= at {
-        return Ok(None);
-    }
     let Some(record) = record_at(trace, at) else {
         return Err(Refused { at });
     };
@@ -207,6 +200,17 @@ pub fn next(trace: &[u8], at: usize) -> Result<Option<Entry>, Refused>
         Record::Port { time, port } => alone(Event::Port { time, port }, at + PORT_SIZE),
         Record::Txt { time, len } => { with_data(trace, Event::Txt(time), at + TXT_SIZE, len) }
     }
+}
+
+// The event at an offset, which is the trace's start or behind another event. At the trace's end and past it there is none.
+pub fn next(trace: &[u8], at: usize) -> Result<Option<Entry>, Refused>
+    ensures { result ≡ step_at trace.now at }
+{
+    if trace.len() <= at {
+        return Ok(None);
+    }
+    let entry = entry_at(trace, at)?;
+    Ok(Some(entry))
 }
 
 // The lesser of the bytes that are left and those that a piece carries.
@@ -252,7 +256,8 @@ pub fn check(trace: &[u8]) -> Result<(), Refused>
     ensures { result ≡ check_of trace.now }
 {
     let mut at = 0;
-    while let Some(entry) = next(trace, at)? {
+    while at < trace.len() {
+        let entry = entry_at(trace, at)?;
         at = entry.next;
     }
     Ok(())

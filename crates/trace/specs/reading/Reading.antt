@@ -98,3 +98,8 @@ step_with p at None = refused at
 -- what stands at an offset: nothing at the end, an event, or the offset of the first record that is malformed or cannot stand where it does
 unfoldable pub step_at : List ℕ → ℕ → Step
 step_at p at = cond (leb (length p) at) (Ok None) (step_with p at (record_at p at))
+
+-- an event that there has to be, as a step
+abbrev pub found_in : Result Entry Refused → Step
+found_in (Ok entry) = Ok (Some entry)
+found_in (Err r) = Err r
