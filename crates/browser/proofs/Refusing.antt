@@ -23,7 +23,7 @@ use Rattle.browser.specs.service.Service.{right_labels}
 use Rattle.browser.specs.service.Sound.{Sound}
 use Rattle.browser.specs.list.Listing.{listed_from}
 use Rattle.browser.specs.refresh.Refresh.{next_query}
-use Rattle.browser.specs.Calls.{wrong_time, wrong_draws, wrong_browser, tick_tests, tick_refusal, look_tests, or_refused, next_due, due_of, list_of}
+use Rattle.browser.specs.Calls.{wrong_time, wrong_draws, wrong_browser, tick_tests, tick_refusal, look_tests, look_refusal, or_refused, next_due, due_of, list_of}
 use Rattle.browser.specs.Steps.{tick_tests_with, look_tests_with, tick_refusal_with, due_with}
 
 -- four tests in order
@@ -136,6 +136,20 @@ module _ (b : Browser) (now : ℕ) (es : List Entry) (store : List ℕ) (room : 
   tick-taken = tick-passed b now es store room tick-none
 
 -- ---- the next due time and the list
+
+-- what is asked for where nothing refuses has the number of what refuses
+given : {A : Type 0} (u : Result (Unit {0}) Refusal) (x : A) → number_in (or_refused u x) ≡ number_in u
+given (Ok v) x = refl
+given (Err refusal) x = refl
+
+module _ (b : Browser) (now : ℕ) (es : List Entry) (store : List ℕ) where
+  pub due-number : number_in (due_of b now es store) ≡ look_refusal b now es store
+  unfolding due_of look_refusal
+  due-number = given _ _ ∙ number_by (look_tests b now es store)
+
+  pub list-number : (from : ℕ) → number_in (list_of b now es store from) ≡ look_refusal b now es store
+  unfolding list_of look_refusal
+  list-number from = given _ _ ∙ number_by (look_tests b now es store)
 
 module _ (b : Browser) (now : ℕ) (es : List Entry) (store : List ℕ) {u : Result (Unit {0}) Refusal}
     (is : u ≡ refused_by (look_tests_with (entries_refusal now es) (length es) (length store) b now)) where

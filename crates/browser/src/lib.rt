@@ -10,11 +10,11 @@ pub mod series;
 pub mod service;
 
 ghost use Rattle.std.specs.Prelude.{◌≡◌, ◌||◌, ◌≤◌, length};
-ghost use Rattle.wire.specs.refusals.Numbers.{refused_by};
+ghost use Rattle.wire.specs.refusals.Numbers.{number_in, refused_by};
 ghost use Rattle.browser.specs.service.Sound.{Sound};
 ghost use Rattle.browser.specs.Calls.{refusal_of, is_owed, blank, wrong_draws, wrong_browser, wrong_time, start_tests, start_refusal};
-ghost use Rattle.browser.specs.Calls.{start_of, Ticks, resumed, asked, due_of};
-ghost use Rattle.browser.specs.Steps.{tick_tests_with, look_tests_with, owed_start, asked_start, Ends, refused_tick, due_with};
+ghost use Rattle.browser.specs.Calls.{start_of, Ticks, resumed, asked, due_of, look_refusal};
+ghost use Rattle.browser.specs.Steps.{tick_tests_with, look_tests_with, look_refusal_with, owed_start, asked_start, Ends, refused_tick, due_with};
 
 use crate::known_answers::Plan;
 use crate::series::{count_one, series_at};
@@ -214,7 +214,8 @@ pub(crate) fn look_refusal(
     b: Browser,
     time: u64,
 ) -> Result<(), Refusal>
-    ensures { result ≡ refused_by (look_tests_with entries n (length store.now) b time) }
+    ensures answer { result ≡ refused_by (look_tests_with entries n (length store.now) b time) }
+    ensures number { number_in result ≡ look_refusal_with entries n (length store.now) b time }
 {
     tick_refusal(entries, n, store, b, time, LEAST_OUT)
 }
@@ -349,7 +350,8 @@ pub fn tick(table: &[Entry], store: &[u8], b: Browser, time: u64, out: &mut [u8]
 
 // When the next step is due, with the table as it is: a caller that ticks then, and whenever the table has changed, misses none.
 pub fn due(table: &[Entry], store: &[u8], b: Browser, time: u64) -> Result<u64, Refusal>
-    ensures { result ≡ due_of b time table.now store.now }
+    ensures answer { result ≡ due_of b time table.now store.now }
+    ensures number { number_in result ≡ look_refusal b time table.now store.now }
 {
     let entries = table_refusal(table, time);
     look_refusal(entries, table.len(), store, b, time)?;

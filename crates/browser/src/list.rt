@@ -1,7 +1,8 @@
 // The list: the targets of live, well-formed PTR entries of the name, each once with letters folded, lowest entry first.
 ghost use Rattle.std.specs.Prelude.{◌≡◌, ◌&&◌, not};
+ghost use Rattle.wire.specs.refusals.Numbers.{number_in};
 ghost use Rattle.browser.specs.list.Listing.{is_shown, shows_too, is_listed};
-ghost use Rattle.browser.specs.Calls.{list_of};
+ghost use Rattle.browser.specs.Calls.{list_of, look_refusal};
 
 use crate::service::service_name;
 use crate::{Browser, look_refusal};
@@ -73,7 +74,8 @@ pub fn list(
     time: u64,
     from: usize,
 ) -> Result<Option<usize>, Refusal>
-    ensures { result ≡ list_of b time table.now store.now from }
+    ensures answer { result ≡ list_of b time table.now store.now from }
+    ensures number { number_in result ≡ look_refusal b time table.now store.now }
 {
     let n = table.len();
     let entries = table_refusal(table, time);

@@ -2,3 +2,4 @@
 pub mod Forms
 pub mod Contents
 pub mod Lying
+pub mod Numbers

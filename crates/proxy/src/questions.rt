@@ -1,8 +1,9 @@
 // A unicast question at the proxy (specification, 'The proxy'; RFC 8766, 5.5.1 and 5.4): its name mapped to "local", a negative answer at once, or a refusal.
 ghost use Rattle.std.specs.Prelude.{◌≡◌};
+ghost use Rattle.wire.specs.refusals.Numbers.{number_in};
 ghost use Rattle.proxy.specs.domains.Domains.{domains};
 ghost use Rattle.proxy.specs.domains.Under.{moved_of};
-ghost use Rattle.proxy.specs.questions.Questions.{is_below, is_apex_type, is_negative, inward, question_of};
+ghost use Rattle.proxy.specs.questions.Questions.{is_below, is_apex_type, is_negative, inward, question_of, question_refusal};
 
 use crate::domains::{Moved, is_under, move_name, setup_refusal};
 use wire::names::is_name;
@@ -50,9 +51,10 @@ pub fn is_negative(rich: &[u8], ldh: &[u8], name: &[u8], rtype: u16) -> bool
 }
 
 // A question for a name, which is handed in uncompressed, and a type: the name by which it is asked on the link, none where it is answered negatively at once.
-#[tactic(auto, unfolding(crate::specs::questions::Questions::question_of))]
+#[tactic(auto, unfolding(crate::specs::questions::Questions::question_of, crate::specs::questions::Questions::question_refusal))]
 pub fn ask(rich: &[u8], ldh: &[u8], name: &[u8], rtype: u16) -> Result<Option<Moved>, Refusal>
-    ensures { result ≡ question_of (domains rich.now ldh.now) name.now rtype }
+    ensures answer { result ≡ question_of (domains rich.now ldh.now) name.now rtype }
+    ensures number { number_in result ≡ question_refusal (domains rich.now ldh.now) name.now rtype }
 {
     if !is_name(name) {
         return Err(Refusal::Malformed);

@@ -1,14 +1,14 @@
 // A record of the link at the proxy (specification, 'The proxy'; RFC 8766, 5.5.2 to 5.5.4): as it is written out, as it lies in a message, and as it lies in
 // the cache. Only well-formed records of the five types are passed on; text is never encoded anew.
 ghost use Rattle.std.specs.Prelude.{◌≡◌, true};
-ghost use Rattle.wire.specs.refusals.Numbers.{refused_by};
+ghost use Rattle.wire.specs.refusals.Numbers.{refused_by, number_in};
 ghost use Rattle.wire.specs.message.Message.{record_of};
 ghost use Rattle.wire.specs.message.Layout.{record_at};
-ghost use Rattle.proxy.specs.domains.Domains.{domains};
+ghost use Rattle.proxy.specs.domains.Domains.{domains, setup_refusal};
 ghost use Rattle.proxy.specs.domains.Under.{moved_of};
 ghost use Rattle.proxy.specs.records.Records.{is_address, fits_type, is_whole, outward, content_of, capped, passed_with};
-ghost use Rattle.proxy.specs.records.Records.{record_out, none_out, item_out};
-ghost use Rattle.proxy.specs.records.Held.{left_of, held_tests, held_out};
+ghost use Rattle.proxy.specs.records.Records.{record_out, record_refusal, none_out, item_out, item_refusal};
+ghost use Rattle.proxy.specs.records.Held.{left_of, held_tests, held_refusal, held_out, cached_refusal};
 
 use crate::domains::{Moved, move_name, setup_refusal};
 use cache::entries::{Entry, is_ahead, is_live, is_too_long};
@@ -139,7 +139,7 @@ fn pass(owner: Moved, rtype: u16, class: u16, ttl: u32, rdata: Content) -> Passe
 }
 
 // A record whose names are uncompressed, its TTL as it counts: as it is passed on, none where it is left out.
-#[tactic(auto, unfolding(crate::specs::records::Records::record_out, crate::specs::records::Records::mapped, crate::specs::records::Records::rdata_out))]
+#[tactic(auto, unfolding(crate::specs::records::Records::record_out, crate::specs::records::Records::record_refusal, crate::specs::records::Records::mapped, crate::specs::records::Records::rdata_out))]
 pub fn record(
     rich: &[u8],
     ldh: &[u8],
@@ -149,7 +149,9 @@ pub fn record(
     ttl: u32,
     rdata: &[u8],
 ) -> Result<Option<Passed>, Refusal>
-    ensures { result ≡ record_out (domains rich.now ldh.now)
+    ensures answer { result ≡ record_out (domains rich.now ldh.now)
+        (record_of owner.now rtype class ttl rdata.now) }
+    ensures number { number_in result ≡ record_refusal (domains rich.now ldh.now)
         (record_of owner.now rtype class ttl rdata.now) }
 {
     setup_refusal(rich, ldh)?;
@@ -164,7 +166,8 @@ pub fn record(
 // No record: it is left out, if the domains are as they have to be.
 #[tactic(auto, unfolding(crate::specs::records::Records::none_out))]
 fn none(rich: &[u8], ldh: &[u8]) -> Result<Option<Passed>, Refusal>
-    ensures { result ≡ none_out (domains rich.now ldh.now) }
+    ensures answer { result ≡ none_out (domains rich.now ldh.now) }
+    ensures number { number_in result ≡ setup_refusal (domains rich.now ldh.now) }
 {
     setup_refusal(rich, ldh)?;
     Ok(None)
@@ -177,7 +180,8 @@ pub fn record_at(
     message: &[u8],
     at: usize,
 ) -> Result<Option<Passed>, Refusal>
-    ensures { result ≡ item_out (domains rich.now ldh.now) (record_at message.now at) }
+    ensures answer { result ≡ item_out (domains rich.now ldh.now) (record_at message.now at) }
+    ensures number { number_in result ≡ item_refusal (domains rich.now ldh.now) (record_at message.now at) }
 {
     let Some(f) = wire::message::whole_record(message, at) else {
         return none(rich, ldh);
@@ -198,8 +202,10 @@ fn seconds_left(time: u64, expiry: u64) -> u32
 }
 
 // Whether an entry and its slot are refused, as 1 or 8.
+#[tactic(auto, unfolding(crate::specs::records::Held::held_refusal))]
 fn check_held(time: u64, e: Entry, slot: &[u8]) -> Result<(), Refusal>
-    ensures { result ≡ refused_by (held_tests time e slot.now) }
+    ensures answer { result ≡ refused_by (held_tests time e slot.now) }
+    ensures number { number_in result ≡ held_refusal time e slot.now }
 {
     if cache::lookup::LATEST < time || is_ahead(e, time) {
         return Err(Refusal::Time);
@@ -211,7 +217,7 @@ fn check_held(time: u64, e: Entry, slot: &[u8]) -> Result<(), Refusal>
 }
 
 // The record of an entry of the cache and its slot, where it is live.
-#[tactic(auto, unfolding(crate::specs::records::Held::held_out))]
+#[tactic(auto, unfolding(crate::specs::records::Held::held_out, crate::specs::records::Held::held_refusal, crate::specs::records::Held::cached_refusal))]
 pub fn cached(
     rich: &[u8],
     ldh: &[u8],
@@ -219,7 +225,8 @@ pub fn cached(
     e: Entry,
     slot: &[u8],
 ) -> Result<Option<Passed>, Refusal>
-    ensures { result ≡ held_out (domains rich.now ldh.now) time e slot.now }
+    ensures answer { result ≡ held_out (domains rich.now ldh.now) time e slot.now }
+    ensures number { number_in result ≡ cached_refusal (domains rich.now ldh.now) time e slot.now }
 {
     check_held(time, e, slot)?;
     if !is_live(e, time) {

@@ -7,6 +7,7 @@ use Prim.Native.Nat.{ℕ}
 use lib.ListN.{length, replicate}
 use Rattle.wire.specs.declared.refusals.Refusal.{Refusal}
 use Rattle.wire.specs.declared.refusals.Refusal.TheVariants.{Time, TooLong}
+use Rattle.wire.specs.refusals.Numbers.{number_in}
 use Rattle.wire.specs.case_folding.Fold.{same_name}
 use Rattle.wire.specs.name_pieces.Pieces.{piece_at}
 use Rattle.wire.specs.names.Names.{name_at, from_run, read_from, labels_fill, is_name}
@@ -111,10 +112,10 @@ slot : List ℕ
 slot = slot_for heard
 
 held-passes : (fields_of (held_out d 117001 entry slot) ≡ Ok (Some (record { owner = 18; rtype = 1; class = 1; ttl = 3; rdata = 4 })))
-    × (held_out d 121000 entry slot ≡ Ok None) × (held_out d 999 entry slot ≡ Err Time)
+    × (held_out d 121000 entry slot ≡ Ok None) × (held_out d 999 entry slot ≡ Err Time) × (number_in (held_out d 999 entry slot) ≡ 1)
 unfolding held_out none_out record_out mapped fits_type target_out rdata_out outward moved
     is_address are_domains is_under starts_at same_name labels_fill heard entry slot
-held-passes = (refl, refl, refl)
+held-passes = (refl, refl, refl, refl)
 
 -- `negative-exactly`: an SOA below an apex is answered at once; at the apex it is asked for, and so is an A below it
 answers : (question_of d (dock ++ rich) 6 ≡ Ok None) × (length_of (question_of d rich 6) ≡ Ok (Some 14)) × (length_of (question_of d (dock ++ rich) 1) ≡ Ok (Some 12))
@@ -126,10 +127,10 @@ long : List ℕ
 long = (60 ∷ replicate 60 97) ++ ((60 ∷ replicate 60 97) ++ ((60 ∷ replicate 60 97) ++ (60 ∷ replicate 60 97)))
 
 too_long_lem : (is_name (long ++ local) ≡ true) × (is_overlong (outward d false (long ++ local)) ≡ true)
-    × (record_out d (record_of (long ++ local) 16 1 120 []) ≡ Err TooLong)
+    × (record_out d (record_of (long ++ local) 16 1 120 []) ≡ Err TooLong) × (number_in (record_out d (record_of (long ++ local) 16 1 120 [])) ≡ 13)
 unfolding record_out mapped fits_type target_out rdata_out outward moved is_address are_domains is_under starts_at same_name
     labels_fill strings_fill long
-too_long_lem = (refl, refl, refl)
+too_long_lem = (refl, refl, refl, refl)
 
 -- `read_whole`: an A as it lies in an announcement, 38 bytes
 announced : List ℕ

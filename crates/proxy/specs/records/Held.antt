@@ -7,8 +7,8 @@ use Rattle.wire.specs.declared.refusals.Refusal.{Refusal}
 use Rattle.wire.specs.declared.refusals.Refusal.TheVariants.{Table, Time}
 use Rattle.cache.specs.entries.Entries.{is_live, heard_ahead, too_long}
 use Rattle.cache.specs.declared.entries.Entry.{Entry}
-use Rattle.proxy.specs.domains.Domains.{Domains, unless_refused}
-use Rattle.proxy.specs.records.Records.{record_out, none_out}
+use Rattle.proxy.specs.domains.Domains.{Domains, setup_refusal, unless_refused}
+use Rattle.proxy.specs.records.Records.{record_out, record_refusal, none_out}
 use Rattle.proxy.specs.declared.records.Passed.{Passed}
 
 -- "of a cached record what is left, in whole seconds rounded down"
@@ -31,3 +31,8 @@ held_refusal now e slot = first_refusal (held_tests now e slot)
 unfoldable pub held_out : Domains → ℕ → Entry → List ℕ → Result (Option Passed) Refusal
 held_out d now e slot =
     unless_refused (refused_by (held_tests now e slot)) (cond (is_live now e) (record_out d (held_record now e slot)) (none_out d))
+
+-- its refusal: "1 and 8" of the entry, then those of its record, where it is live, or of none
+unfoldable pub cached_refusal : Domains → ℕ → Entry → List ℕ → ℕ
+cached_refusal d now e slot =
+    cond (eqb (held_refusal now e slot) 0) (cond (is_live now e) (record_refusal d (held_record now e slot)) (setup_refusal d)) (held_refusal now e slot)

@@ -9,7 +9,7 @@ use Rattle.wire.specs.refusals.Numbers.{first_refusal, refused_by}
 use Rattle.wire.specs.declared.refusals.Refusal.{Refusal}
 use Rattle.wire.specs.declared.refusals.Refusal.TheVariants.{Setup, TooLong}
 use Rattle.proxy.specs.domains.Under.{moved, is_overlong, laid}
-use Rattle.proxy.specs.domains.Domains.{Domains, are_domains, setup_tests, local, unless_refused}
+use Rattle.proxy.specs.domains.Domains.{Domains, are_domains, setup_tests, setup_refusal, local, unless_refused}
 use Rattle.proxy.specs.declared.domains.Moved.{Moved}
 use Rattle.proxy.specs.declared.records.Content.{Content}
 use Rattle.proxy.specs.declared.records.Passed.{Passed}
@@ -87,6 +87,11 @@ none_out d = unless_refused (refused_by (setup_tests d)) (Ok None)
 abbrev pub item_out : Domains → Item Record → Result (Option Passed) Refusal
 item_out d (item r next) = record_out d r
 item_out d broken = none_out d
+
+-- its refusal
+abbrev pub item_refusal : Domains → Item Record → ℕ
+item_refusal d (item r next) = record_refusal d r
+item_refusal d broken = setup_refusal d
 
 -- the answer of `content`
 abbrev pub content_of : Domains → ℕ → List ℕ → Option Content
