@@ -8,6 +8,7 @@ ghost use Rattle.std.specs.Prelude.{◌≡◌, ◌+◌, ◌≤◌, length};
 ghost use Rattle.console.specs.Lines.{Console, after_line};
 
 use calls::Held;
+use console_text::scan::find;
 use std::io::Read;
 
 // The most bytes that a line has, its LF not counted.
@@ -82,8 +83,8 @@ fn serve(
     let mut seen = 0;
     let mut filled = 0;
     for _ in 0..u64::MAX {
-        if let Some(n) = input[seen..filled].iter().position(|b| *b == b'\n') {
-            let end = seen + n;
+        let end = seen + find(&input[seen..filled], b'\n');
+        if end < filled {
             held = answer_line(&input[start..end], held, store, out, unicast, rt, text);
             start = end + 1;
             seen = start;

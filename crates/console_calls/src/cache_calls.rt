@@ -163,10 +163,11 @@ fn whole(k: usize, e: Entry, slot: &[u8], rt: &impl Print, text: &mut [u8; 4096]
 
 // Whether a line is of the form `slot K`, of an entry that the table has and a slot that its store has.
 fn is_slot(line: &[u8], table: Table) -> bool {
-    has_arguments(line, 1)
-        && is_number(line, 1)
-        && number(line, 1) < table.count as u64
-        && number(line, 1) < (table.room / SLOT) as u64
+    if !has_arguments(line, 1) || !is_number(line, 1) {
+        return false;
+    }
+    let k = number(line, 1);
+    k < table.count as u64 && k < (table.room / SLOT) as u64
 }
 
 // `slot K`

@@ -28,8 +28,12 @@ pub fn stop(
     ensures state { result ≡ (after_stop line.now (having held out.old [])).state }
     ensures out { out.new ≡ (after_stop line.now (having held out.old [])).out }
 {
+    if !is_tick(line) {
+        bad_line(rt, text);
+        return held;
+    }
     let n = lent(line, 2);
-    if !is_tick(line) || out.len() < n {
+    if out.len() < n {
         bad_line(rt, text);
         return held;
     }
@@ -98,8 +102,12 @@ pub fn update(
     ensures state { result ≡ (after_update line.now (having held out.old [])).state }
     ensures out { out.new ≡ (after_update line.now (having held out.old [])).out }
 {
+    if !is_update(line) {
+        bad_line(rt, text);
+        return held;
+    }
     let n = lent(line, 4);
-    if !is_update(line) || out.len() < n {
+    if out.len() < n {
         bad_line(rt, text);
         return held;
     }

@@ -91,9 +91,13 @@ pub fn recv(
     ensures out { out.new ≡ (after_recv line.now (having held out.old unicast.old)).out }
     ensures unicast { unicast.new ≡ (after_recv line.now (having held out.old unicast.old)).unicast }
 {
+    if !is_recv(line) {
+        bad_line(rt, text);
+        return held;
+    }
     let n = lent(line, 7);
     let m = lent(line, 8);
-    if !is_recv(line) || out.len() < n || unicast.len() < m {
+    if out.len() < n || unicast.len() < m {
         bad_line(rt, text);
         return held;
     }
@@ -142,8 +146,12 @@ pub fn tick(
     ensures state { result ≡ (after_tick line.now (having held out.old [])).state }
     ensures out { out.new ≡ (after_tick line.now (having held out.old [])).out }
 {
+    if !is_tick(line) {
+        bad_line(rt, text);
+        return held;
+    }
     let n = lent(line, 2);
-    if !is_tick(line) || out.len() < n {
+    if out.len() < n {
         bad_line(rt, text);
         return held;
     }

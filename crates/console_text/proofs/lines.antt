@@ -1,3 +1,4 @@
--- Laws that belong to no one function.
+-- Laws that belong to no one function; Ranges is for callers too.
+pub mod Ranges
 mod Split
 mod Digits

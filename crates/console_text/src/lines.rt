@@ -30,8 +30,27 @@ pub fn front(s: &[u8], n: usize) -> &[u8]
 pub fn number(s: &[u8]) -> Option<u64>
     ensures { result ≡ number_of s.now }
 {
-    if !s.iter().all(|b| b.is_ascii_digit()) {
+    if s.len() == 0 {
         return None;
     }
-    str::from_utf8(s).ok()?.parse().ok()
+    // digit by digit, so that it ends at the first byte that is none, or where the value is too great: `all`, `from_utf8` and `parse` each go over the field
+    let mut value: u64 = 0;
+    for i in 0..s.len() {
+        let b = s[i];
+        if b < b'0' {
+            return None;
+        }
+        if b'9' < b {
+            return None;
+        }
+        let digit = (b - b'0') as u64;
+        if u64::MAX / 10 < value {
+            return None;
+        }
+        if u64::MAX - value * 10 < digit {
+            return None;
+        }
+        value = value * 10 + digit;
+    }
+    Some(value)
 }

@@ -15,6 +15,9 @@ pub struct Told {
     pub bytes: Option<usize>,
 }
 
+// No line has so many fields: from there on no event is looked for.
+const MOST_FIELDS: usize = 65536;
+
 // A field of a line as a number.
 fn number_at(line: &[u8], index: usize) -> Option<u64> {
     number(field(line, index))
@@ -44,68 +47,81 @@ fn alone(event: Event, next: usize) -> Option<Told> {
 
 // `recv NOW FROM PORT DRAW HOLD PACKET`, its word at an index.
 fn packet(line: &[u8], at: usize) -> Option<Told> {
-    let next = at.checked_add(7)?;
+    if MOST_FIELDS - 3 < at {
+        return None;
+    }
+    let event = Event::Packet {
+        time: number_at(line, at + 1)?,
+        from: address(field(line, at + 2))?,
+        port: number_at(line, at + 3)?,
+        draw: number_at(line, at + 4)?,
+        hold: number_at(line, at + 5)?,
+    };
     if !are_bytes(line, at + 6) {
         return None;
     }
     Some(Told {
-        event: Event::Packet {
-            time: number_at(line, at + 1)?,
-            from: address(field(line, at + 2))?,
-            port: number_at(line, at + 3)?,
-            draw: number_at(line, at + 4)?,
-            hold: number_at(line, at + 5)?,
-        },
-        next,
+        event,
+        next: at + 7,
         bytes: Some(at + 6),
     })
 }
 
 // `claim LAST K STATE`
 fn claim(line: &[u8], at: usize) -> Option<Told> {
-    let next = at.checked_add(4)?;
+    if MOST_FIELDS - 1 < at {
+        return None;
+    }
     let event = Event::Claim {
         last: number_at(line, at + 1)?,
         claim: number_at(line, at + 2)?,
         state: number_at(line, at + 3)?,
     };
-    alone(event, next)
+    alone(event, at + 4)
 }
 
 // `port NOW PORT`
 fn port(line: &[u8], at: usize) -> Option<Told> {
-    let next = at.checked_add(3)?;
+    if MOST_FIELDS < at {
+        return None;
+    }
     let event = Event::Port {
         time: number_at(line, at + 1)?,
         port: number_at(line, at + 2)?,
     };
-    alone(event, next)
+    alone(event, at + 3)
 }
 
 // `txt NOW TXT`
 fn txt(line: &[u8], at: usize) -> Option<Told> {
-    let next = at.checked_add(3)?;
+    if MOST_FIELDS < at {
+        return None;
+    }
     let event = Event::Txt(number_at(line, at + 1)?);
     if !are_bytes(line, at + 2) {
         return None;
     }
     Some(Told {
         event,
-        next,
+        next: at + 3,
         bytes: Some(at + 2),
     })
 }
 
 // `tick NOW`
 fn tick(line: &[u8], at: usize) -> Option<Told> {
-    let next = at.checked_add(2)?;
-    alone(Event::Tick(number_at(line, at + 1)?), next)
+    if MOST_FIELDS < at {
+        return None;
+    }
+    alone(Event::Tick(number_at(line, at + 1)?), at + 2)
 }
 
 // `stop NOW`
 fn stop(line: &[u8], at: usize) -> Option<Told> {
-    let next = at.checked_add(2)?;
-    alone(Event::Stop(number_at(line, at + 1)?), next)
+    if MOST_FIELDS < at {
+        return None;
+    }
+    alone(Event::Stop(number_at(line, at + 1)?), at + 2)
 }
 
 // The event whose word is the field with an index.

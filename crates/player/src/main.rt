@@ -8,6 +8,7 @@ ghost use Rattle.std.specs.Prelude.{◌≤◌, length};
 use console_calls::output::{finish, first, word};
 use console_responder::setup::{is_start, told};
 use console_text::fields::number;
+use console_text::scan::find;
 use itoa::Buffer;
 use playing::{Line, Turn};
 use responder::{Answer, State};
@@ -152,9 +153,10 @@ fn run(line: &[u8], trace: &[u8], rt: &(impl Print + Eprint), text: &mut [u8; 40
 
 // The line and the trace of an input.
 fn split(input: &[u8], rt: &(impl Print + Eprint), text: &mut [u8; 4096]) {
-    let Some(end) = input.iter().position(|b| *b == b'\n') else {
+    let end = find(input, b'\n');
+    if input.len() <= end {
         return bad_line(rt);
-    };
+    }
     run(&input[..end], &input[end + 1..], rt, text)
 }
 

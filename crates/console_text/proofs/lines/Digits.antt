@@ -1,55 +1,56 @@
--- A number is what the library reads of digits. Assumes nothing.
-use Rattle.std.proofs.Common.{◌≡◌, ℕ, ◌<◌, ◌^◌, List, [], ◌∷◌, Bool, true, false, ◌&&◌, Some, None, Result, Ok, Err, length, ltb, refl, ap, rules, arith, cond, zero, suc, lt-ltb, ltb-true}
-use Rattle.std.specs.List.{list_all}
-use Rattle.std.specs.Result.{result_ok}
-use Rattle.std.specs.Str.{IsAscii}
-use Rattle.std.specs.Str.Parse.{ParsesUnsigned}
-use Rattle.std.proofs.lemmas.Bool.Decides.{nat_tests}
-use Rattle.std.proofs.lemmas.List.Recursion.{same_from_clauses}
-use Rattle.std.proofs.lemmas.Str.Parse.{IsNumeralModel, IsDigitsTest, FoldsDigits, numerals_by_fold, parse_digits}
+-- A number, digit by digit. Assumes nothing.
+use Rattle.std.specs.Prelude.{Some, None}
+use mathlib.Core.Path.{◌≡◌, sym, ◌∙◌}
+use mathlib.Core.List.{List, [], ◌∷◌}
+use mathlib.Core.Bool.{false, and-false}
+use Prim.Native.Nat.{ℕ, ◌+◌, ◌-◌, ◌*◌, ◌≤◌, ◌<◌}
+use native.Mathlib.Omega.{arith}
+use native.Mathlib.Numerals.{add-one}
+use lib.ListN.{length, get_or, drop, drop_of_length-le}
+use lib.Seq.{drop-cons}
+use borrow.Author.Tests.{lt-ltb, le-ltb}
 use Rattle.console_text.specs.lines.Numbers.{is_digit, all_digits, value_from, number_from, number_of}
+use Rattle.console_text.proofs.lines.Ranges.{inside, below, above}
 
-pub all_told : (l : List ℕ) → list_all is_digit l ≡ all_digits l
-unfolding all_digits
-all_told = same_from_clauses (list_all is_digit) all_digits (λ b t. is_digit b && t) refl (λ _ _. refl) (λ _ _. refl)
+pub number-none : (l : List ℕ) → length l ≡ 0 → None ≡ number_of l
+unfolding number_of
+number-none l e = simp (e)
 
-digits_test : IsDigitsTest (λ ds. all_digits ds ≡ true)
-unfolding all_digits
-digits_test = search rules
+pub number-some : (l : List ℕ) → (length l ≡ 0 → ⊥) → number_of l ≡ number_from 0 l
+unfolding number_of
+number-some l ne = let h : 0 < length l = omega arith in simp (lt-ltb 0 (length l) h)
 
-digits_folded : FoldsDigits value_from
+-- more digits never make a number smaller
+value_grows : (v : ℕ) (l : List ℕ) → v ≤ value_from v l
 unfolding value_from
-digits_folded = search rules
+value_grows v [] = omega arith
+value_grows v (b ∷ bs) = omega (arith, value_grows (v * 10 + (b - 48)) bs)
 
-own : IsNumeralModel (λ ds. all_digits ds ≡ true) (value_from 0)
-own = numerals_by_fold _ digits_test value_from digits_folded
+over : (v : ℕ) (l : List ℕ) → 18446744073709551616 ≤ v → number_from v l ≡ None
+unfolding number_from
+over v l h =
+    let k : 18446744073709551616 ≤ value_from v l = omega (arith, value_grows v l) in
+    simp (le-ltb (value_from v l) 18446744073709551616 k, and-false)
 
-pub digits_ascii : (l : List ℕ) → all_digits l ≡ true → IsAscii l
-unfolding all_digits
-digits_ascii [] h i = omega arith
-digits_ascii (b ∷ bs) h zero = grind (arith, nat_tests)
-digits_ascii (b ∷ bs) h (suc i) = digits_ascii bs (grind (arith, nat_tests)) i
+module _ (l : List ℕ) (v i : ℕ) (inv : number_of l ≡ number_from v (drop i l)) where
+  pub number-end : length l ≤ i → v < 18446744073709551616 → Some v ≡ number_of l
+  unfolding number_from all_digits value_from
+  number-end h k = sym (inv ∙ rw (drop_of_length-le l h) (simp (lt-ltb v 18446744073709551616 k)))
 
-pub number-other : (l : List ℕ) → all_digits l ≡ false → None ≡ number_of l
-unfolding number_of number_from
-number-other l h = go (ltb 0 (length l))
-  where
-    go : (t : Bool) → None ≡ cond t (number_from 0 l) None
-    go true = simp h
-    go false = refl
+  module _ (h : i < length l) where
+    other : is_digit (get_or l i 0) ≡ false → None ≡ number_of l
+    unfolding number_from all_digits
+    other e = sym (inv ∙ rw (drop-cons l i 0 h) (simp e))
 
-pub number-read : {E : Type 0} (l : List ℕ) (r : Result ℕ E) → all_digits l ≡ true → ParsesUnsigned 64 10 l r → result_ok r ≡ number_of l
-unfolding number_of number_from
-number-read {E} l (Ok x) h p =
-    let k = parse_digits own {E = E} 64 l (Ok x) p h in
-    let m : value_from 0 l < 18446744073709551616 = omega (arith, k.0.1) in
-    simp (h, lt-ltb 0 (length l) k.0.0, lt-ltb (value_from 0 l) 18446744073709551616 m) (ap Some k.1)
-number-read {E} l (Err e) h p = go (ltb 0 (length l)) refl (ltb (value_from 0 l) 18446744073709551616) refl
-  where
-    k : (0 < length l) × (value_from 0 l < 2 ^ 64) → ⊥
-    k = parse_digits own {E = E} 64 l (Err e) p h
+    pub number-low : get_or l i 0 < 48 → None ≡ number_of l
+    number-low k = other (below 48 57 (get_or l i 0) k)
 
-    go : (t : Bool) → ltb 0 (length l) ≡ t → (u : Bool) → ltb (value_from 0 l) 18446744073709551616 ≡ u → None ≡ cond t (cond (all_digits l && u) (Some (value_from 0 l)) None) None
-    go true a true b = absurd (k (ltb-true 0 (length l) a, ltb-true (value_from 0 l) 18446744073709551616 b))
-    go true a false b = simp h
-    go false a u b = refl
+    pub number-high : 57 < get_or l i 0 → None ≡ number_of l
+    number-high k = other (above 48 57 (get_or l i 0) (omega arith) k)
+
+    pub number-digit : 48 ≤ get_or l i 0 → get_or l i 0 ≤ 57 → number_of l ≡ number_from (v * 10 + (get_or l i 0 - 48)) (drop (i + 1) l)
+    unfolding number_from all_digits value_from
+    number-digit j k = inv ∙ rw (add-one, drop-cons l i 0 h) (simp (inside 48 57 (get_or l i 0) j k))
+
+    pub number-over : 48 ≤ get_or l i 0 → get_or l i 0 ≤ 57 → 18446744073709551616 ≤ v * 10 + (get_or l i 0 - 48) → None ≡ number_of l
+    number-over j k o = sym (number-digit j k ∙ over (v * 10 + (get_or l i 0 - 48)) (drop (i + 1) l) o)
