@@ -112,7 +112,7 @@ pub fn has_bytes(e: Entry, i: usize, store: &[u8], slot: &[u8], h: Heard) -> boo
 pub fn flush_heard(e: Entry, i: usize, store: &[u8], time: u64, slot: &[u8], h: Heard) -> Entry
     ensures { result ≡ flushed_heard time store.now slot.now h i e }
 {
-    if time <= e.received || time - e.received <= 1000 {
+    if time.saturating_sub(e.received) <= 1000 {
         return e;
     }
     if !is_live_heard(e, i, store, time, slot, h) || !is_flushing(h) {

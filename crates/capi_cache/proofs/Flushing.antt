@@ -1,17 +1,19 @@
 -- Rule 1 on a table in place, of which the first i entries are done; and where the loops begin and end. Assumes nothing.
 use mathlib.Core.Path.{◌≡◌, refl, sym, ap, ◌∙◌}
-use mathlib.Core.Bool.{Bool, true, false, not}
+use mathlib.Core.Bool.{Bool, true, false, not, and-false}
 use mathlib.Core.List.{List, [], ◌∷◌}
 use Prim.Native.Nat.{ℕ, zero, suc, ◌+◌, ◌<◌, ◌≤◌}
 use native.Mathlib.Nat.{le_of_suc-le-suc, not-suc-le-zero, zero-add, suc-add, add-suc, add-zero}
 use native.Mathlib.Numerals.{add-one}
 use native.Mathlib.Omega.{arith}
 use lib.ListN.{length, get_or, set, drop}
+use lib.Seq.{set-get_or}
+use borrow.Author.Tests.{ne_eqb}
 use Rattle.cache.specs.entries.Entries.{blank, is_live, is_free}
 use Rattle.cache.specs.entries.Tables.{slot_from, each}
 use Rattle.cache.specs.declared.entries.Entry.{Entry}
 use Rattle.cache.specs.declared.records.Heard.{Heard}
-use Rattle.cache.specs.records.Heard.{is_flushing, is_sought, may_hold, has_bytes, holds_heard, flushed_heard, first_slot, is_filling, chosen_of}
+use Rattle.cache.specs.records.Heard.{is_flushing, is_sought, may_hold, has_bytes, is_of_heard, live_heard, holds_heard, flushed_heard, first_slot, is_filling, chosen_of}
 use Rattle.cache.specs.records.Taking.{flushed_in, likely_from, equal_in, free_from, chosen_in}
 use Rattle.cache.proofs.records.Rules.{flushed-length, flushes_none, may_wider, may_bytes}
 use Rattle.capi_cache.specs.Types.{Passed}
@@ -49,6 +51,17 @@ module _ (now : ℕ) (store slot : List ℕ) (h : Heard) (es : List Entry) where
       ∙ ap (set (mixed i (flushed_in now store slot h es) es) i) (next_is i l)
       ∙ set-mixed i (flushed_in now store slot h es) es (omega (arith, l, k)) k
       ∙ ap (λ (j : ℕ). mixed j (flushed_in now store slot h es) es) (sym (add-one i))
+
+  -- an entry of another type than the record's stays
+  other-stays : (i : ℕ) (e : Entry) → (e.rtype ≡ h.at.rtype → ⊥) → flushed_heard now store slot h i e ≡ e
+  unfolding flushed_heard live_heard is_of_heard
+  other-stays i e n = simp (ne_eqb _ _ n, and-false (is_live now e), and-false (is_flushing h)) refl
+
+  pub flush_past : (i : ℕ) → i < length es → ((get_or (mixed i (flushed_in now store slot h es) es) i blank).rtype ≡ h.at.rtype → ⊥)
+      → mixed i (flushed_in now store slot h es) es ≡ mixed (i + 1) (flushed_in now store slot h es) es
+  flush_past i l n =
+      let zs = mixed i (flushed_in now store slot h es) es in
+      sym (set-get_or zs i blank) ∙ ap (set zs i) (sym (other-stays i (get_or zs i blank) n)) ∙ flush_on i l
 
   pub flush_end : (i : ℕ) → i ≤ length es → length es ≤ i → mixed i (flushed_in now store slot h es) es ≡ flushed_in now store slot h es
   flush_end i a b =

@@ -212,7 +212,7 @@ pub fn kurgashel_cache_look_up(
     refused_look(0)
 }
 
-// Rule 1 on every entry, in place.
+// Rule 1 on every entry, in place. One of another type than the record's stays, and is passed over unstored.
 fn flush(table: &mut [Entry], store: &[u8], time: u64, slot: &[u8], h: Heard)
     ensures { table.new ≡ flushed_in time store.now slot.now h table.old }
 {
@@ -220,7 +220,9 @@ fn flush(table: &mut [Entry], store: &[u8], time: u64, slot: &[u8], h: Heard)
     let first = flush_from(h, n);
     for i in first..n {
         let e = entry_at(table, i);
-        put_entry(table, i, flush_heard(e, i, store, time, slot, h));
+        if e.rtype == h.at.rtype {
+            put_entry(table, i, flush_heard(e, i, store, time, slot, h));
+        }
     }
 }
 

@@ -15,7 +15,7 @@ pub struct Told {
     pub bytes: Option<usize>,
 }
 
-// No line has so many fields: from there on no event is looked for.
+// No line has so many fields: past there no event is looked for.
 const MOST_FIELDS: usize = 65536;
 
 // A field of a line as a number.
